@@ -1,0 +1,9 @@
+pub mod Choice
+pub mod ListLaws
+pub mod Packed
+pub mod TableLaws
+pub mod Chains
+pub mod Parts
+pub mod Bounds
+pub mod Bits
+pub mod Products
