@@ -1,0 +1,53 @@
+-- The record rules of document 01 by example, computed: the line end, the order of the refusals, the loose `EOF`. Assumes nothing.
+use Prim.Native.Nat.{ℕ}
+use mathlib.Core.Path.{_≡_, refl}
+use mathlib.Core.List.{List, [], _∷_, _++_}
+use mathlib.Core.Bool.{true, false}
+use lib.ListN.{replicate}
+use Rattle.laws.specs.Lists.{run, all, same}
+use Rattle.record.specs.Refusals.{cut, lineEnd, recordLength, badByte}
+use Rattle.record.specs.declared.Mode.the-variants.{Loose, Exact}
+use Rattle.record.specs.declared.Line.{Line}
+use Rattle.record.specs.declared.Line.the-variants.{Got, Bad}
+use Rattle.record.specs.declared.Found.the-variants.{Refused}
+use Rattle.record.specs.Record.{wordEOF, endsCR, content, contentIs, lineIs, lineOf, recordAt}
+
+abbrev CRLF : List ℕ
+CRLF = 13 ∷ 10 ∷ []
+
+abbrev LF : List ℕ
+LF = 10 ∷ []
+
+abbrev exact : List ℕ → Line
+exact = lineOf Exact false
+
+abbrev loose : List ℕ → Line
+loose = lineOf Loose false
+
+-- each is faulty in all that the next ones are: no LF, no CR before it, 256 bytes, a byte below 32
+pub order : (exact (replicate 300 1) ≡ Bad cut) × (exact (replicate 256 1 ++ LF) ≡ Bad lineEnd) × (exact (replicate 256 1 ++ CRLF) ≡ Bad recordLength)
+    × (exact (1 ∷ CRLF) ≡ Bad badByte) × (loose (replicate 256 1 ++ LF) ≡ Bad recordLength) × (loose (1 ∷ LF) ≡ Bad badByte)
+unfolding lineOf lineIs content contentIs endsCR run all same
+order = (refl, refl, refl, refl, refl, refl)
+
+-- one CR before the LF belongs to the line end, another is a byte of the content; CR LF alone is an empty record
+pub line-ends : (exact CRLF ≡ Got 0 2) × (loose LF ≡ Got 0 1) × (loose (65 ∷ CRLF) ≡ Got 1 3) × (loose (65 ∷ LF) ≡ Got 1 2)
+    × (exact (65 ∷ LF) ≡ Bad lineEnd) × (exact (65 ∷ 13 ∷ CRLF) ≡ Bad badByte) × (loose (13 ∷ 65 ∷ LF) ≡ Bad badByte)
+unfolding lineOf lineIs content contentIs endsCR run all same
+line-ends = (refl, refl, refl, refl, refl, refl, refl)
+
+-- neither CR nor LF counts for the length, a blank does
+pub lengths : (exact (replicate 255 65 ++ CRLF) ≡ Got 255 257) × (loose (replicate 255 65 ++ 32 ∷ LF) ≡ Bad recordLength)
+unfolding lineOf lineIs content contentIs endsCR run all same
+lengths = (refl, refl)
+
+-- `EOF` without a line end: only in loose mode, only where a keyword is due, and nothing else beside it
+pub bare-EOF : (lineOf Loose true wordEOF ≡ Got 3 3) × (lineOf Loose false wordEOF ≡ Bad cut) × (lineOf Exact true wordEOF ≡ Bad cut)
+    × (lineOf Loose true (32 ∷ wordEOF) ≡ Bad cut) × (lineOf Loose true (wordEOF ++ 32 ∷ []) ≡ Bad cut) × (lineOf Loose true (wordEOF ++ 13 ∷ []) ≡ Bad cut)
+unfolding lineOf lineIs content contentIs endsCR run all same
+bare-EOF = (refl, refl, refl, refl, refl, refl)
+
+-- the empty file, and the place past a file's last record
+pub ends : (recordAt [] 0 Loose true ≡ Refused cut) × (recordAt (65 ∷ CRLF) 3 Exact true ≡ Refused cut)
+unfolding recordAt lineOf lineIs content contentIs endsCR run all same
+ends = (refl, refl)

@@ -1,0 +1,4 @@
+-- The definitions of records.
+pub mod Refusals
+pub mod Record
+pub mod RecordView

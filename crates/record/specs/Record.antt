@@ -1,0 +1,74 @@
+-- The record at a place of a file: document 01, "Records", the checks in its order. Assumes nothing: these are definitions.
+use Prim.Native.Nat.{ℕ, _+_, _-_, _<_}
+use mathlib.Core.Path.{_≡_}
+use mathlib.Core.List.{List, [], _∷_}
+use mathlib.Core.Bool.{Bool, true, false, cond, not, _&&_, _||_}
+use lib.ListN.{length, getD, take, drop}
+use lib.Dec.{ltb, leb, eqb}
+use Rattle.laws.specs.Lists.{run, all, same}
+use Rattle.laws.specs.Text.{text}
+use Rattle.record.specs.Refusals.{tooLong, cut, lineEnd, recordLength, badByte, fileMost, recordMost}
+use Rattle.record.specs.declared.Mode.{Mode}
+use Rattle.record.specs.declared.Mode.the-variants.{Loose, Exact}
+use Rattle.record.specs.declared.Line.{Line}
+use Rattle.record.specs.declared.Line.the-variants.{Got, Bad}
+use Rattle.record.specs.declared.Found.{Found}
+use Rattle.record.specs.declared.Found.the-variants.{Record, Refused}
+
+abbrev pub isLoose : Mode → Bool
+isLoose Loose = true
+isLoose Exact = false
+
+-- a byte that a record's content may hold: 32 to 126
+abbrev pub plain : ℕ → Bool
+plain b = leb 32 b && leb b 126
+
+abbrev pub notLF : ℕ → Bool
+notLF b = not (eqb b 10)
+
+abbrev pub wordEOF : List ℕ
+wordEOF = text "EOF"
+
+-- the bytes before an LF end in a CR
+unfoldable pub endsCR : List ℕ → Bool
+endsCR line = eqb (getD line (length line - 1) 0) 13
+
+-- a CR directly before the LF belongs to the line end
+unfoldable pub content : List ℕ → List ℕ
+content line = cond (endsCR line) (take (length line - 1) line) line
+
+-- length (4), then byte (5)
+unfoldable pub contentIs : List ℕ → ℕ → Line
+contentIs body width =
+    cond (leb (length body) recordMost) (cond (all plain body) (Got (length body) width) (Bad badByte)) (Bad recordLength)
+
+-- missing CR in exact mode (3)
+unfoldable pub lineIs : Mode → List ℕ → Line
+lineIs mode line = cond (endsCR line || isLoose mode) (contentIs (content line) (length line + 1)) (Bad lineEnd)
+
+-- the record at the front of `bs`. It runs to the next LF; no LF found is 2, but in loose mode,
+-- where a keyword is due and the bytes left are exactly `EOF`, that is the EOF record
+unfoldable pub lineOf : Mode → Bool → List ℕ → Line
+lineOf mode due bs =
+    cond (ltb (run notLF bs) (length bs))
+    (lineIs mode (take (run notLF bs) bs))
+    (cond (isLoose mode && due && same bs wordEOF) (Got 3 3) (Bad cut))
+
+-- a CR and an LF stand at `n`
+unfoldable pub crlfAt : List ℕ → ℕ → Bool
+crlfAt bs n = eqb (getD bs n 0) 13 && eqb (getD bs (n + 1) 0) 10
+
+-- the first byte that a content may not hold stands at `n`, and is no line end
+pub record Spoilt (bs : List ℕ) (n : ℕ) : Type 0 where
+  pub front : n ≡ run plain bs
+  pub inside : n < length bs
+  pub noLF : getD bs n 0 ≡ 10 → ⊥
+  pub noEnd : crlfAt bs n ≡ false
+
+abbrev pub placed : ℕ → Line → Found
+placed at (Got len width) = Record at len (at + width)
+placed at (Bad number) = Refused number
+
+-- the record at a place of a file: 1 before all
+unfoldable pub recordAt : List ℕ → ℕ → Mode → Bool → Found
+recordAt s at mode due = cond (leb (length s) fileMost) (placed at (lineOf mode due (drop at s))) (Refused tooLong)

@@ -1,0 +1,26 @@
+// The refusals of document 01 by name.
+pub const TOO_LONG: usize = 1;
+
+pub const CUT: usize = 2;
+
+pub const LINE_END: usize = 3;
+
+pub const LENGTH: usize = 4;
+
+pub const BYTE: usize = 5;
+
+pub const HEADER: usize = 6;
+
+pub const KEYWORD: usize = 7;
+
+pub const NUMBER: usize = 8;
+
+pub const LETTERS: usize = 9;
+
+pub const CODE: usize = 10;
+
+pub const COUNT: usize = 11;
+
+pub const OPEN_RING: usize = 12;
+
+pub const AFTER_EOF: usize = 13;
