@@ -1,0 +1,46 @@
+-- The ways through the functions of a word, each with what the code has in hand there. Assumes nothing.
+use Prim.Native.Nat.{ℕ}
+use mathlib.Core.Path.{_≡_, sym, _∙_, ap}
+use mathlib.Core.List.{List}
+use mathlib.Core.Bool.{true, false}
+use lib.ListN.{length}
+use lib.Seq.{length-take-le}
+use borrow.Author.Tests.{eq-eqb, ne-eqb}
+use Rattle.laws.specs.Lists.{run, kept, tail}
+use Rattle.laws.proofs.ListLaws.{rest-is, kept-le}
+use Rattle.record.specs.declared.Mode.{Mode}
+use Rattle.record.specs.declared.Mode.the-variants.{Loose, Exact}
+use Rattle.number.specs.Words.{blank, unled, trimmed, wordOf}
+use Rattle.number.specs.declared.Word.the-variants as Word
+
+module _ (b : ℕ) where
+  pub blank-is : b ≡ 32 → blank b ≡ true
+  blank-is e = eq-eqb b 32 e
+
+  pub blank-not : (b ≡ 32 → ⊥) → blank b ≡ false
+  blank-not e = ne-eqb b 32 e
+
+pub ruleset blank-tests = (blank-is, blank-not)
+
+pub trimmed-kept : (c : List ℕ) → length (trimmed c) ≡ kept blank (unled c)
+unfolding trimmed
+trimmed-kept c = length-take-le (kept blank (unled c)) (unled c) (kept-le blank (unled c))
+
+module _ (mode : Mode) (c : List ℕ) (start len : ℕ) (q : start ≡ run blank c) (k : len ≡ kept blank (tail c start)) where
+  len-is : len ≡ length (trimmed c)
+  unfolding unled
+  len-is = k ∙ ap (kept blank) (rest-is c start) ∙ rw q (sym (trimmed-kept c))
+
+  pub word-loose : mode ≡ Loose → Word.Is start len ≡ wordOf mode c
+  unfolding wordOf
+  word-loose m = rw (m, q, len-is)
+
+  pub word-full : mode ≡ Exact → len ≡ length c → Word.Is start len ≡ wordOf mode c
+  unfolding wordOf
+  word-full m e = rw (m, q, ← len-is, eq-eqb len (length c) e)
+
+  pub word-padded : mode ≡ Exact → (len ≡ length c → ⊥) → Word.Padded ≡ wordOf mode c
+  unfolding wordOf
+  word-padded m e = rw (m, ← len-is, ne-eqb len (length c) e)
+
+pub ruleset word-ways = (word-loose, word-full, word-padded)

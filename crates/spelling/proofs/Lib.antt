@@ -1,0 +1,4 @@
+-- The laws of digits, that spelling and reading are inverse, and the ways through the code.
+pub mod DigitLaws
+pub mod SpellingLaws
+mod Ways

@@ -1,0 +1,273 @@
+-- The ways through the code: the loop that places digits, and a lemma for each answer. Assumes nothing.
+use Prim.Native.Nat.{ℕ, suc, _+_, _-_, _/_, _%_, _^_, _≤_, _<_, zero-le}
+use mathlib.Core.Path.{_≡_, refl, sym, _∙_, ap}
+use mathlib.Core.List.{List, [], _∷_, _++_, append-assoc, append-nil}
+use mathlib.Core.Bool.{Bool, true, false, _&&_}
+use native.Mathlib.Omega.{arith}
+use lib.ListN.{length, getD, take, drop, set, replicate, length-append, length-set, length-replicate, replicate-append-replicate, drop-of-length-le}
+use lib.Seq.{take-at, sets-eq, length-take-le}
+use lib.Dec.{T, leb}
+use lib.IntN.{ℤ, pos, negsuc, negℤ, natAbs, _-ℤ_, +ℤ-idl}
+use lib.Signed.{ltZ, leZ, nonNeg}
+use mir.Syntax.{w64}
+use mir.Val.{SFits, Fits, toZ, ofZ}
+use mir.ValLaws.{toZ-ofZ}
+use borrow.Author.Tests.{lt-leb, le-leb, ltb-true, ltb-false, leb-false}
+use Rattle.laws.specs.Lists.{over, pasted}
+use Rattle.laws.proofs.Choice.{false≢true}
+use Rattle.laws.proofs.TableLaws.{pasted-none, pasted-front, pasted-before, pasted-one, length-pasted, length-over, over-next, over-whole}
+use Rattle.number.specs.Number.{isReal}
+use Rattle.spelling.specs.Spelling.{digits, places, aligned, integerText, minus, decimal, realText}
+use Rattle.spelling.proofs.DigitLaws.{digits-few, digits-more, shorter}
+use Rattle.spelling.proofs.SpellingLaws.{body-length, decimal-length, in-plus, in-minus}
+
+-- ---- the digits, last one first: `done` stands from `at` on, and `rest` has those that are missing
+
+pub record Placing (l : List ℕ) (end n : ℕ) (text : List ℕ) (at rest : ℕ) : Type 0 where
+  pub done : List ℕ
+  pub room : 1 ≤ at
+  pub inside : end ≤ length l
+  pub left : rest < 10 ^ at
+  pub ends : at + length done ≡ end
+  pub split : digits end n ≡ digits at rest ++ done
+  pub is : text ≡ pasted l at done
+
+pub placing-start : (l : List ℕ) (end n : ℕ) → 1 ≤ end → end ≤ length l → n < 10 ^ end → Placing l end n l end n
+placing-start l end n h k e =
+    record { done = []; room = h; inside = k; left = e; ends = omega arith; split = sym (append-nil (digits end n)); is = pasted-none l end }
+
+module _ (l : List ℕ) (end n : ℕ) (text : List ℕ) (at rest : ℕ) (p : Placing l end n text at rest) where
+  placing-length : length text ≡ length l
+  placing-length = ap length (p .is) ∙ length-pasted l at (p .done) (omega (arith, p .ends, p .inside))
+
+  pub placing-kept : (v : ℕ) → length (set text (at - 1) v) ≡ length l
+  placing-kept v = length-set text (at - 1) v ∙ placing-length
+
+  stored : (v : ℕ) → set text (at - 1) v ≡ pasted l (at - 1) (v ∷ p .done)
+  stored v = rw (p .is) (pasted-before l (at - 1) at v (p .done) (omega (arith, p .room)) (omega (arith, p .ends, p .inside)))
+
+  at-suc : at ≡ suc (at - 1)
+  at-suc = omega (arith, p .room)
+
+  pub placing-step : (v : ℕ) → v ≡ 48 + rest % 10 → 10 ≤ rest → Placing l end n (set text (at - 1) v) (at - 1) (rest / 10)
+  placing-step v e h =
+      let s = shorter (at - 1) rest h (rw at-suc at (p .left)) in
+      let q : digits at rest ≡ digits (at - 1) (rest / 10) ++ v ∷ []
+      = ap (λ (k : ℕ). digits k rest) at-suc ∙ rw e (digits-more (at - 1) rest h) in
+      record {
+        done = v ∷ p .done;
+        room = s .0;
+        inside = p .inside;
+        left = s .1;
+        ends = omega (arith, p .ends, p .room);
+        split = p .split ∙ rw (q, append-assoc);
+        is = stored v;
+      }
+
+  pub placing-end : (v : ℕ) → v ≡ 48 + rest % 10 → rest < 10
+      → (at - 1 + length (digits end n) ≡ end) × (set text (at - 1) v ≡ pasted l (at - 1) (digits end n))
+  placing-end v e h =
+      let w : 48 + rest ≡ v = omega arith in
+      let q : digits end n ≡ v ∷ p .done
+      = p .split ∙ ap (λ (k : ℕ). digits k rest ++ p .done) at-suc ∙ rw (digits-few (at - 1) rest h, w) in
+      rw q (omega (arith, p .ends, p .room), stored v)
+
+  -- the places that the code stores at
+  pub placing-at : at - 1 < length text
+  placing-at = omega (arith, placing-length, p .room, p .inside, p .ends)
+
+-- ---- point and places
+
+pub places-put : (l : List ℕ) (m a b c : ℕ) → 12 ≤ length l → a ≡ 48 + m / 10 / 10 % 10 → b ≡ 48 + m / 10 % 10 → c ≡ 48 + m % 10
+    → set (set (set (set l 8 46) 9 a) 10 b) 11 c ≡ pasted l 8 (46 ∷ places 3 m)
+unfolding places
+places-put l m a b c h p q r = sets-eq (46 ∷ a ∷ b ∷ c ∷ []) l 8 (omega arith) ∙ rw (p, q, r)
+
+-- ---- the sign; a signed number is read back from its bits
+
+module _ (z : ℤ) (f : SFits w64 z) where
+  pub back : toZ w64 (ofZ w64 z) ≡ z
+  back = toZ-ofZ w64 z f
+
+  below : (k : ℤ) (x : Bool) → ltZ (toZ w64 (ofZ w64 z)) k ≡ x → ltZ z k ≡ x
+  below k x e = rw back at e
+
+  sign-long : ltZ (toZ w64 (ofZ w64 z)) (pos 0) ≡ true → minus z ≡ 45 ∷ []
+  unfolding minus
+  sign-long e = rw (below (pos 0) true e)
+
+  sign-short : ltZ (toZ w64 (ofZ w64 z)) (pos 0) ≡ false → minus z ≡ []
+  unfolding minus
+  sign-short e = rw (below (pos 0) false e)
+
+  module _ (text : List ℕ) (at : ℕ) where
+    pub sign-put : ltZ (toZ w64 (ofZ w64 z)) (pos 0) ≡ true → length (minus z) ≤ at → at ≤ length text
+        → set text (at - 1) 45 ≡ pasted text (at - length (minus z)) (minus z)
+    sign-put e h k =
+        let m : 1 ≤ at = rw (sign-long e) at h in
+        rw (sign-long e) (pasted-one text (at - 1) 45 (omega arith))
+
+    pub sign-at : ltZ (toZ w64 (ofZ w64 z)) (pos 0) ≡ true → length (minus z) ≤ at → at ≤ length text → (1 ≤ at) × (at - 1 < length text)
+    sign-at e h k = let m : 1 ≤ at = rw (sign-long e) at h in (m, omega arith)
+
+    pub sign-left : ltZ (toZ w64 (ofZ w64 z)) (pos 0) ≡ false → text ≡ pasted text (at - length (minus z)) (minus z)
+    sign-left e = rw (sign-short e) (pasted-none text (at - 0))
+
+-- ---- the range
+
+range-low : (z : ℤ) → ltZ z (negsuc 9999999998) ≡ true → isReal z ≡ false
+unfolding isReal
+range-low (pos a) e = absurd (false≢true e)
+range-low (negsuc a) e = rw (lt-leb a 9999999998 (ltb-true 9999999998 a e))
+
+range-high : (z : ℤ) → ltZ (pos 99999999999) z ≡ true → isReal z ≡ false
+unfolding isReal
+range-high (pos a) e = rw (lt-leb a 99999999999 (ltb-true 99999999999 a e))
+range-high (negsuc a) e = absurd (false≢true e)
+
+range-in : (z : ℤ) → ltZ z (negsuc 9999999998) ≡ false → ltZ (pos 99999999999) z ≡ false → isReal z ≡ true
+unfolding isReal
+range-in (pos a) e f = le-leb a 99999999999 (ltb-false 99999999999 a f)
+range-in (negsuc a) e f = rw (le-leb a 9999999998 (ltb-false 9999999998 a e))
+
+module _ (z : ℤ) (f : SFits w64 z) where
+  pub real-low : ltZ (toZ w64 (ofZ w64 z)) (negsuc 9999999998) ≡ true → false ≡ isReal z
+  real-low e = sym (range-low z (rw (back z f) at e))
+
+  pub real-high : ltZ (pos 99999999999) (toZ w64 (ofZ w64 z)) ≡ true → false ≡ isReal z
+  real-high e = sym (range-high z (rw (back z f) at e))
+
+  pub real-in : ltZ (toZ w64 (ofZ w64 z)) (negsuc 9999999998) ≡ false → ltZ (pos 99999999999) (toZ w64 (ofZ w64 z)) ≡ false → true ≡ isReal z
+  real-in e g = sym (range-in z (rw (back z f) at e) (rw (back z f) at g))
+
+-- ---- a number without its sign
+
+abs-most : (z : ℤ) → isReal z ≡ true → natAbs z ≤ 99999999999
+abs-most (pos a) h = in-plus a h
+abs-most (negsuc a) h = omega (arith, in-minus a h)
+
+-- below zero, and in range: its opposite
+module _ (z : ℤ) (f : SFits w64 z) (h : isReal z ≡ true) (e : leZ (pos 0) (toZ w64 (ofZ w64 z)) ≡ false) where
+  opposite : pos 0 -ℤ toZ w64 (ofZ w64 z) ≡ pos (natAbs z)
+  opposite = rw (back z f) (+ℤ-idl (negℤ z) ∙ go z (rw (back z f) at e))
+    where
+      go : (z : ℤ) → leZ (pos 0) z ≡ false → negℤ z ≡ pos (natAbs z)
+      go (pos a) e = absurd (let k : a < 0 = leb-false 0 a e in omega arith)
+      go (negsuc a) e = refl
+
+  pub opposite-fits : SFits w64 (pos 0 -ℤ toZ w64 (ofZ w64 z))
+  opposite-fits = rw opposite (record { sfits = omega (arith, abs-most z h) })
+
+  opposite-back : toZ w64 (ofZ w64 (pos 0 -ℤ toZ w64 (ofZ w64 z))) ≡ pos (natAbs z)
+  opposite-back = toZ-ofZ w64 (pos 0 -ℤ toZ w64 (ofZ w64 z)) opposite-fits ∙ opposite
+
+  pub opposite-asks : T (nonNeg (toZ w64 (ofZ w64 (pos 0 -ℤ toZ w64 (ofZ w64 z))))) × Fits w64 (natAbs (toZ w64 (ofZ w64 (pos 0 -ℤ toZ w64 (ofZ w64 z)))))
+  opposite-asks = rw opposite-back (tt, omega (arith, abs-most z h))
+
+  pub opposite-is : natAbs (toZ w64 (ofZ w64 (pos 0 -ℤ toZ w64 (ofZ w64 z)))) ≡ natAbs z
+  opposite-is = ap natAbs opposite-back
+
+-- not below zero: itself
+pub itself-asks : (z : ℤ) → SFits w64 z → isReal z ≡ true → leZ (pos 0) (toZ w64 (ofZ w64 z)) ≡ true
+    → T (nonNeg (toZ w64 (ofZ w64 z))) × Fits w64 (natAbs (toZ w64 (ofZ w64 z)))
+itself-asks z f h e = rw (back z f) (go z (rw (back z f) at e), omega (arith, abs-most z h))
+  where
+    go : (z : ℤ) → leZ (pos 0) z ≡ true → T (nonNeg z)
+    go (pos a) e = tt
+    go (negsuc a) e = absurd (false≢true e)
+
+-- ---- the whole text
+
+abbrev blanks : ℕ → List ℕ
+blanks w = replicate w 32
+
+-- stored at the end of blanks, a text is aligned
+aligned-put : (w i : ℕ) (s : List ℕ) → i + length s ≡ w → pasted (blanks w) i s ≡ aligned w s
+unfolding aligned
+aligned-put w i s e =
+    let n : w - length s ≡ i = omega arith in
+    let a : take i (blanks w) ≡ blanks i
+    = rw (← e, ← replicate-append-replicate {A = ℕ} i (length s) 32) (take-at (blanks i) (blanks (length s)) i (length-replicate {A = ℕ} i 32)) in
+    let b : drop (i + length s) (blanks w) ≡ []
+    = drop-of-length-le (blanks w) {i = i + length s} (omega (arith, length-replicate {A = ℕ} w 32)) in
+    rw (n, a, b) (append-nil (blanks i ++ s))
+
+pub integer-made : (v r : ℕ) (text : List ℕ) → (r + length (digits 4 v) ≡ 4) × (text ≡ pasted (blanks 4) r (digits 4 v)) → text ≡ integerText v
+unfolding integerText
+integer-made v r text e = e .1 ∙ aligned-put 4 r (digits 4 v) (e .0)
+
+-- a sign finds room before the digits
+sign-room : (z : ℤ) → isReal z ≡ true → length (minus z) + length (digits 8 (natAbs z / 1000)) ≤ 8
+sign-room z h = omega (arith, body-length z h, length-append (minus z) (decimal (natAbs z)), decimal-length (natAbs z))
+
+-- what the functions that place them ask
+module _ (z y : ℤ) (m : ℕ) (i : y ≡ z) (h : isReal z ≡ true) (e : m ≡ natAbs y) where
+  pub whole-below : m / 1000 < 100000000
+  whole-below = omega (arith, abs-most z h, ap natAbs i)
+
+  pub sign-fits : (r : ℕ) → r + length (digits 8 (m / 1000)) ≡ 8 → length (minus y) ≤ r
+  sign-fits r q =
+      let w : r + length (digits 8 (natAbs z / 1000)) ≡ 8 = rw (e, i) at q in
+      rw i (omega (arith, sign-room z h))
+
+-- places, digits and sign, each before the last
+pub real-made : (z y : ℤ) (m r : ℕ) (a b text : List ℕ) → y ≡ z → isReal z ≡ true → m ≡ natAbs y
+    → a ≡ pasted (blanks 12) 8 (46 ∷ places 3 (m % 1000))
+    → (r + length (digits 8 (m / 1000)) ≡ 8) × (b ≡ pasted a r (digits 8 (m / 1000)))
+    → text ≡ pasted b (r - length (minus y)) (minus y) → text ≡ realText z
+unfolding realText decimal
+real-made z y m r a b text i h n p q e =
+    let k : m ≡ natAbs z = n ∙ ap natAbs i in
+    let s = minus z ++ decimal (natAbs z) in
+    let g : length (minus z) + length (digits 8 (natAbs z / 1000)) ≤ 8 = sign-room z h in
+    let w : r + length (digits 8 (natAbs z / 1000)) ≡ 8 = rw k at (q .0) in
+    let x : b ≡ pasted (blanks 12) r (decimal (natAbs z))
+    = q .1 ∙ rw (p, k) (pasted-front (blanks 12) r 8 (digits 8 (natAbs z / 1000)) (46 ∷ places 3 (natAbs z % 1000)) w (omega arith)) in
+    let o : r - length (minus z) + length (minus z) ≡ r = omega arith in
+    e ∙ rw (i, x) (pasted-front (blanks 12) (r - length (minus z)) r (minus z) (decimal (natAbs z)) o (omega arith))
+    ∙ aligned-put 12 (r - length (minus z)) s (omega (arith, length-append (minus z) (decimal (natAbs z)), decimal-length (natAbs z)))
+
+-- ---- the copy: the first `i` characters stand over what was there
+
+pub record Copying (text l out : List ℕ) (i : ℕ) : Type 0 where
+  pub within : i ≤ length text
+  pub room : length text ≤ length l
+  pub is : out ≡ over (take i text) l
+
+pub copying-start : (text l : List ℕ) → length text ≤ length l → Copying text l l 0
+copying-start text l h = record { within = zero-le; room = h; is = refl }
+
+module _ (text l out : List ℕ) (i : ℕ) (p : Copying text l out i) where
+  pub copying-length : length out ≡ length l
+  copying-length = ap length (p .is) ∙ length-over (take i text) l (omega (arith, length-take-le i text (p .within), p .within, p .room))
+
+  pub copying-step : i < length text → Copying text l (set out i (getD text i 0)) (i + 1)
+  copying-step h = record { within = omega arith; room = p .room; is = rw (p .is) (over-next text l i 0 h (p .room)) }
+
+  pub copying-end : length text ≤ i → out ≡ over text l
+  copying-end h = p .is ∙ over-whole text l i h
+
+-- ---- the answers
+
+module _ (v n : ℕ) where
+  pub integer-high : 9999 < v → false ≡ (leb v 9999 && leb 4 n)
+  integer-high h = rw (lt-leb v 9999 h)
+
+  pub integer-tight : v ≤ 9999 → n < 4 → false ≡ (leb v 9999 && leb 4 n)
+  integer-tight h k = rw (le-leb v 9999 h, lt-leb 4 n k)
+
+  pub integer-done : v ≤ 9999 → 4 ≤ n → true ≡ (leb v 9999 && leb 4 n)
+  integer-done h k = rw (le-leb v 9999 h, le-leb 4 n k)
+
+module _ (z : ℤ) (n : ℕ) (f : SFits w64 z) (r : Bool) (e : r ≡ isReal (toZ w64 (ofZ w64 z))) where
+  real-is : r ≡ isReal z
+  real-is = e ∙ ap isReal (back z f)
+
+  pub real-out : r ≡ false → false ≡ (isReal z && leb 12 n)
+  real-out x = rw (← real-is, x)
+
+  pub real-tight : r ≡ true → n < 12 → false ≡ (isReal z && leb 12 n)
+  real-tight x k = rw (← real-is, x, lt-leb 12 n k)
+
+  pub real-done : r ≡ true → 12 ≤ n → true ≡ (isReal z && leb 12 n)
+  real-done x k = rw (← real-is, x, le-leb 12 n k)

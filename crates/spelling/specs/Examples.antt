@@ -1,0 +1,40 @@
+-- Numbers of document 01 as exact mode has them, computed.
+use mathlib.Core.Path.{_≡_, refl}
+use mathlib.Core.List.{[], _∷_}
+use lib.IntN.{pos, negℤ}
+use Rattle.spelling.specs.Spelling.{digits, places, aligned, integerText, minus, decimal, realText}
+
+-- `   0`
+nought : integerText 0 ≡ 32 ∷ 32 ∷ 32 ∷ 48 ∷ []
+unfolding integerText aligned digits
+nought = refl
+
+-- `  18`
+eighteen : integerText 18 ≡ 32 ∷ 32 ∷ 49 ∷ 56 ∷ []
+unfolding integerText aligned digits
+eighteen = refl
+
+-- `9999`
+integer-most : integerText 9999 ≡ 57 ∷ 57 ∷ 57 ∷ 57 ∷ []
+unfolding integerText aligned digits
+integer-most = refl
+
+-- `      -0.005`: the sign is the number's, not its whole part's
+minus-five : realText (negℤ (pos 5)) ≡ 32 ∷ 32 ∷ 32 ∷ 32 ∷ 32 ∷ 32 ∷ 45 ∷ 48 ∷ 46 ∷ 48 ∷ 48 ∷ 53 ∷ []
+unfolding realText aligned minus decimal digits places
+minus-five = refl
+
+-- `       0.000`
+real-nought : realText (pos 0) ≡ 32 ∷ 32 ∷ 32 ∷ 32 ∷ 32 ∷ 32 ∷ 32 ∷ 48 ∷ 46 ∷ 48 ∷ 48 ∷ 48 ∷ []
+unfolding realText aligned minus decimal digits places
+real-nought = refl
+
+-- `-9999999.999`
+real-least : realText (negℤ (pos 9999999999)) ≡ 45 ∷ 57 ∷ 57 ∷ 57 ∷ 57 ∷ 57 ∷ 57 ∷ 57 ∷ 46 ∷ 57 ∷ 57 ∷ 57 ∷ []
+unfolding realText aligned minus decimal digits places
+real-least = refl
+
+-- `99999999.999`
+real-most : realText (pos 99999999999) ≡ 57 ∷ 57 ∷ 57 ∷ 57 ∷ 57 ∷ 57 ∷ 57 ∷ 57 ∷ 46 ∷ 57 ∷ 57 ∷ 57 ∷ []
+unfolding realText aligned minus decimal digits places
+real-most = refl

@@ -1,0 +1,3 @@
+-- The characters of a number, and examples.
+pub mod Spelling
+pub mod Examples
