@@ -1,0 +1,3 @@
+-- The theorems on headers, and the ways of the code.
+pub mod HeadLaws
+pub mod HeadWays

@@ -1,0 +1,3 @@
+-- The definitions of headers, and their examples.
+pub mod Header
+pub mod Examples
