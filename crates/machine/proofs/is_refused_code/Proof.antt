@@ -1,0 +1,27 @@
+-- `machine::is_refused_code` meets its contract. Assumes nothing.
+use Rattle.machine.proofs.MachineWays.{code-ways}
+use borrow.Author.Needs.{needs}
+use Rattle.machine.proofs.is_refused_code.Statement.{statement}
+use Rattle.machine.proofs.is_refused_code.Tie as tie
+
+returns : tie.Need-returns
+returns c = search (code-ways, needs)
+
+enum-told : tie.Need-enum-told
+enum-told c = search needs
+
+enum-told-2 : tie.Need-enum-told-2
+enum-told-2 c = search needs
+
+is-listed-requires : tie.Need-is-listed-requires
+is-listed-requires c κs = search needs
+
+returns-2 : tie.Need-returns-2
+returns-2 c = search (code-ways, needs)
+
+returns-3 : tie.Need-returns-3
+returns-3 c = search (code-ways, needs)
+
+pub is-refused-code-spec : {M : Type 1} → statement M
+is-refused-code-spec =
+    tie.close (tie.spec returns enum-told enum-told-2 is-listed-requires returns-2 returns-3)

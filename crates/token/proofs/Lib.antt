@@ -1,0 +1,2 @@
+pub mod TokenWays
+pub mod TokenLaws
