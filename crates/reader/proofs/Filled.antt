@@ -1,0 +1,137 @@
+-- The second pass: the loop's steps. Its invariant is that of the first, and that each table holds what was read so far. Assumes nothing.
+use mathlib.Core.Path.{_≡_, refl, sym, _∙_, ap, subst}
+use mathlib.Core.List.{List, []}
+use Prim.Native.Nat.{ℕ, _+_, _-_, _*_, _≤_, _<_}
+use native.Mathlib.Omega.{arith}
+use native.Mathlib.Nat.{add-sub-cancel-left}
+use lib.ListN.{length, take, drop}
+use lib.IntN.{ℤ}
+use Rattle.laws.specs.Lists.{over}
+use Rattle.laws.proofs.TableLaws.{length-over}
+use Rattle.record.specs.declared.Mode.{Mode}
+use Rattle.record.specs.Refusals.{fileMost}
+use Rattle.number.specs.declared.Whole.{Whole}
+use Rattle.number.specs.declared.Whole.the-variants as Whole
+use Rattle.number.specs.Number.{integerOf}
+use Rattle.number.proofs.NumberLaws.{integer-most}
+use Rattle.token.specs.Lex.{ofWhole, lexOf}
+use Rattle.token.specs.declared.Token.{Token}
+use Rattle.token.specs.declared.Want.the-variants.{Int}
+use Rattle.token.proofs.TokenLaws.{says-most}
+use Rattle.machine.specs.Machine.{wantOf}
+use Rattle.machine.specs.declared.State.{State}
+use Rattle.machine.specs.declared.State.the-variants.{Due, Field, Island, X, Y}
+use Rattle.sheet.specs.Tables.{Tables, empty, put}
+use Rattle.sheet.specs.Reading.{Sections, read, stop, walkFrom}
+use Rattle.reader.specs.Turn.{standAt, turnOf}
+use Rattle.reader.specs.Store.{tokenMost, IslandToken, rowsPut, lettersPut, islandsPut, pointsPut, PutRoom, tablesOf, Room}
+use Rattle.reader.specs.declared.Stand.{Stand}
+use Rattle.reader.specs.declared.Turn.{Turn}
+use Rattle.reader.proofs.Standing.{At, Moved, TurnOk, turn-ok}
+use Rattle.reader.proofs.Judging.{at-start, at-on}
+use Rattle.reader.proofs.Filling.{Holding, Fits, at-fits, store-room, store-holds}
+
+-- ---- an island's count is an integer
+
+int-most : (mode : Mode) (c : List ℕ) (t : ℕ) → lexOf mode Int c ≡ Token.Say t → t ≤ 9999
+unfolding lexOf
+int-most mode c t = go (integerOf mode c) refl
+  where
+    go : (w : Whole) → integerOf mode c ≡ w → ofWhole w ≡ Token.Say t → t ≤ 9999
+    go (Whole.Is n) e q = let z : n ≡ t = cc in omega (arith, integer-most mode c n e)
+    go Whole.Malformed e q = absurd (let z : _≡_ {A = ℕ} 0 1 = cc in omega arith)
+
+island-token : (mode : Mode) (st : State) (c : List ℕ) (t : ℕ) → lexOf mode (wantOf st) c ≡ Token.Say t → IslandToken st t
+unfolding wantOf
+island-token mode Due c t q = tt
+island-token mode (Field k p i) c t q = tt
+island-token mode (Island l s r) c t q = int-most mode c t q
+island-token mode (X r) c t q = tt
+island-token mode (Y r x) c t q = tt
+
+-- ---- the loop
+
+pub record Filled (mode : Mode) (s : List ℕ) (target : Sections) (rows₀ : List ℤ) (letters₀ islands₀ : List ℕ) (points₀ : List ℤ) (rows : List ℤ) (letters islands : List ℕ) (points : List ℤ) (d : Stand) : Type 0 where
+  pub tables : Tables
+  pub stands : At mode s target tables d
+  pub holds : Holding tables rows₀ rows letters₀ letters islands₀ islands points₀ points
+
+-- the tables keep their lengths
+pub record Kept (rows₀ : List ℤ) (letters₀ islands₀ : List ℕ) (points₀ : List ℤ) (rows : List ℤ) (letters islands : List ℕ) (points : List ℤ) : Type 0 where
+  pub rows-kept : length rows ≡ length rows₀
+  pub letters-kept : length letters ≡ length letters₀
+  pub islands-kept : length islands ≡ length islands₀
+  pub points-kept : length points ≡ length points₀
+
+pub filled-start : (mode : Mode) (s : List ℕ) (start : ℕ) (rows : List ℤ) (letters islands : List ℕ) (points : List ℤ) → start ≤ length s → length s ≤ fileMost
+    → Filled mode s (walkFrom mode s start) rows letters islands points rows letters islands points (standAt start)
+filled-start mode s start rows letters islands points h k =
+    record { tables = empty; stands = at-start mode s start h k; holds = record { rows-are = refl; letters-are = refl; islands-are = refl; points-are = refl } }
+
+module _ {mode : Mode} {s : List ℕ} {target : Sections} {rows₀ : List ℤ} {letters₀ islands₀ : List ℕ} {points₀ : List ℤ} {rows : List ℤ} {letters islands : List ℕ} {points : List ℤ} {d : Stand}
+    (room : Room target (length rows₀) (length letters₀) (length islands₀) (length points₀))
+    (h : Filled mode s target rows₀ letters₀ islands₀ points₀ rows letters islands points d) where
+  pub filled-kept : Kept rows₀ letters₀ islands₀ points₀ rows letters islands points
+  filled-kept =
+      let o = h .tables in
+      let f = at-fits mode s target o d (length rows₀) (length letters₀) (length islands₀) (length points₀) (h .stands) room in
+      let g = h .holds in
+      record {
+        rows-kept = ap length (g .rows-are) ∙ length-over (o .rows) rows₀ (f .rows-fit);
+        letters-kept = ap length (g .letters-are) ∙ length-over (o .letters) letters₀ (f .letters-fit);
+        islands-kept = ap length (g .islands-are) ∙ length-over (o .islands) islands₀ (f .islands-fit);
+        points-kept = ap length (g .points-are) ∙ length-over (o .points) points₀ (f .points-fit);
+      }
+
+  module _ (r : Turn) (q : r ≡ turnOf mode s d) where
+    module _ (d′ : Stand) (t len : ℕ) (e : r ≡ Turn.On d′ t len) where
+      went : Moved mode s target (h .tables) d d′ t len
+      went = at-on mode s target (h .tables) d (h .stands) r q d′ t len e
+
+      pub fill-inside : d .at + len ≤ length s
+      fill-inside = went .inside
+
+      abbrev part : List ℕ
+      part = take (d .at + len - d .at) (drop (d .at) s)
+
+      part-is : part ≡ take len (drop (d .at) s)
+      part-is = ap (λ (n : ℕ). take n (drop (d .at) s)) (add-sub-cancel-left (d .at) len)
+
+      pub fill-token : (t ≤ tokenMost) × IslandToken (d .state) t
+      fill-token =
+          let c = take len (drop (d .at) s) in
+          (says-most mode (wantOf (d .state)) c t (went .short) (went .says), island-token mode (d .state) c t (went .says))
+
+      pub fill-room : PutRoom (d .state) part (d .needs) (length rows) (length letters) (length islands) (length points)
+      fill-room =
+          let k = filled-kept in
+          rw (part-is, k .rows-kept, k .letters-kept, k .islands-kept, k .points-kept)
+          (store-room mode s target (h .tables) d d′ t len (h .stands) went rows₀ letters₀ islands₀ points₀ room)
+
+      pub fill-on : (rows′ : List ℤ) (letters′ islands′ : List ℕ) (points′ : List ℤ) → rows′ ≡ rowsPut (d .state) t (d .needs) rows → letters′ ≡ lettersPut (d .state) part (d .needs) letters
+          → islands′ ≡ islandsPut (d .state) t (d .needs) islands → points′ ≡ pointsPut (d .state) t (d .needs) points
+          → Filled mode s target rows₀ letters₀ islands₀ points₀ rows′ letters′ islands′ points′ d′
+      fill-on rows′ letters′ islands′ points′ a b c e =
+          let g = store-holds mode s target (h .tables) d d′ t len (h .stands) went rows₀ letters₀ islands₀ points₀ room rows letters islands points (h .holds) in
+          record {
+            tables = put (d .state) t (take len (drop (d .at) s)) (h .tables);
+            stands = went .then;
+            holds = record {
+              rows-are = a ∙ g .rows-are;
+              letters-are = b ∙ ap (λ (x : List ℕ). lettersPut (d .state) x (d .needs) letters) part-is ∙ g .letters-are;
+              islands-are = c ∙ g .islands-are;
+              points-are = e ∙ g .points-are;
+            };
+          }
+
+    -- sections that are read are not refused
+    pub fill-refused : {X : Type 0} (m k a : ℕ) → r ≡ Turn.Refused m k a → X
+    fill-refused m k a e =
+        let z : target ≡ stop m k a = subst (TurnOk mode s target (h .tables) d) (sym q ∙ e) (turn-ok mode s target (h .tables) d (h .stands)) in
+        absurd (subst (λ (x : Sections). Room x (length rows₀) (length letters₀) (length islands₀) (length points₀)) z room)
+
+    -- at the end the tables hold all
+    pub fill-done : r ≡ Turn.Done → Holding (tablesOf target) rows₀ rows letters₀ letters islands₀ islands points₀ points
+    fill-done e =
+        let z : target ≡ read (h .tables) (d .at) = subst (TurnOk mode s target (h .tables) d) (sym q ∙ e) (turn-ok mode s target (h .tables) d (h .stands)) .0 in
+        subst (λ (x : Sections). Holding (tablesOf x) rows₀ rows letters₀ letters islands₀ islands points₀ points) (sym z) (h .holds)

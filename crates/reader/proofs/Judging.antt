@@ -1,0 +1,54 @@
+-- The first pass: the loop's steps. Its invariant is that some tables were read so far, and that the walk stands where they end. Assumes nothing.
+use mathlib.Core.Path.{_≡_, refl, sym, _∙_, ap, subst}
+use mathlib.Core.List.{List, []}
+use Prim.Native.Nat.{ℕ, _+_, _-_, _*_, _≤_, _<_}
+use native.Mathlib.Omega.{arith}
+use lib.ListN.{length, take, drop, length-drop}
+use Rattle.record.specs.declared.Mode.{Mode}
+use Rattle.record.specs.Refusals.{fileMost}
+use Rattle.machine.specs.declared.State.the-variants.{Due}
+use Rattle.sheet.specs.Tables.{Tables, empty, put}
+use Rattle.sheet.specs.Reading.{Sections, read, stop, walkFrom}
+use Rattle.reader.specs.Turn.{standAt, turnOf, Within}
+use Rattle.reader.specs.Read.{needsOf, judgedOf}
+use Rattle.reader.specs.declared.Needs.{Needs}
+use Rattle.reader.specs.declared.Stand.{Stand}
+use Rattle.reader.specs.declared.Turn.{Turn}
+use Rattle.reader.specs.declared.Judged.{Judged}
+use Rattle.reader.specs.declared.Judged.the-variants as Judged
+use Rattle.reader.proofs.Standing.{At, Moved, TurnOk, turn-ok}
+
+-- where the sections begin nothing is read
+pub at-start : (mode : Mode) (s : List ℕ) (start : ℕ) → start ≤ length s → length s ≤ fileMost → At mode s (walkFrom mode s start) empty (standAt start)
+unfolding walkFrom
+at-start mode s start h k =
+    record {
+      fuel = length s;
+      same = refl;
+      enough = omega (arith, length-drop start s);
+      okay = tt;
+      pend = tt;
+      sized = record { rows = omega arith; letters = refl; islands = refl; points = omega arith };
+      within = record { small = k; here = h; rings = h; counted = omega arith; rows = omega arith; letters = omega arith; islands = omega arith; points = omega arith };
+    }
+
+module _ (mode : Mode) (s : List ℕ) (target : Sections) (o : Tables) (d : Stand) (h : At mode s target o d) (r : Turn) (q : r ≡ turnOf mode s d) where
+  turn-is : TurnOk mode s target o d r
+  turn-is = subst (TurnOk mode s target o d) (sym q) (turn-ok mode s target o d h)
+
+  pub at-on : (d′ : Stand) (t len : ℕ) → r ≡ Turn.On d′ t len → Moved mode s target o d d′ t len
+  at-on d′ t len e = subst (TurnOk mode s target o d) e turn-is
+
+  -- the places behind a record are fewer
+  pub at-less : (d′ : Stand) (t len : ℕ) → r ≡ Turn.On d′ t len → length s - d′ .at < length s - d .at
+  at-less d′ t len e = let m = at-on d′ t len e in omega (arith, m .on, m .then .within .here)
+
+  pub judge-refused : (m k a : ℕ) → r ≡ Turn.Refused m k a → Judged.Refused m k a ≡ judgedOf target
+  judge-refused m k a e =
+      let z : target ≡ stop m k a = subst (TurnOk mode s target o d) e turn-is in
+      rw z
+
+  pub judge-done : r ≡ Turn.Done → Judged.Fine (d .needs) ≡ judgedOf target
+  judge-done e =
+      let z : (target ≡ read o (d .at)) × (needsOf o ≡ d .needs) = subst (TurnOk mode s target o d) e turn-is in
+      rw (z .0, z .1)

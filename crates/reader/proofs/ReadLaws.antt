@@ -1,0 +1,178 @@
+-- Demand 3, as theorems on readings into lent tables. Assumes nothing.
+use mathlib.Core.Path.{_≡_, refl, sym, _∙_, ap, subst}
+use mathlib.Core.Bool.{Bool, true, false, cond, _&&_}
+use mathlib.Core.List.{List}
+use Prim.Native.Nat.{ℕ, _+_, _/_, _≤_, _<_}
+use native.Mathlib.Omega.{arith}
+use lib.ListN.{length}
+use lib.Dec.{leb}
+use borrow.Author.Tests.{leb-true, le-leb}
+use Rattle.laws.specs.Lists.{over}
+use Rattle.laws.proofs.Choice.{and-left, and-right, and-both}
+use Rattle.record.specs.declared.Mode.{Mode}
+use Rattle.record.specs.declared.Mode.the-variants.{Loose, Exact}
+use Rattle.record.specs.Refusals.{noRoom, fileMost}
+use Rattle.header.specs.declared.Header.{Header}
+use Rattle.header.specs.Header.{noHeader}
+use Rattle.sheet.specs.Tables.{Tables, empty, _then_}
+use Rattle.sheet.specs.Reading.{Reading, sheet, refused, reading, joined}
+use Rattle.sheet.proofs.Exact.{exact-loose}
+use Rattle.sheet.proofs.Join.{joining}
+use Rattle.sheet.proofs.Numbered.{reading-numbers}
+use Rattle.reader.specs.Read.{needsOf, Rooms, holdsAll, refusedWith, answered, readOf, tablesIn, written, numberOf, countsOf}
+use Rattle.reader.specs.declared.Needs.{Needs}
+use Rattle.reader.specs.declared.Answer.{Answer}
+use Rattle.reader.specs.declared.Answer.the-variants as Answer
+use Rattle.reader.specs.declared.Outcome.{Outcome}
+
+-- ---- what an answer says of the file
+
+-- a file is read exactly where it is sound and the tables hold it
+pub record IsRead (mode : Mode) (bs : List ℕ) (r : Rooms) (a : Needs) (h : Header) : Type 0 where
+  pub tables : Tables
+  pub sound : reading mode bs ≡ sheet h tables
+  pub room : holdsAll (needsOf tables) r ≡ true
+  pub counts : a ≡ needsOf tables
+
+-- 14 is given exactly where the file is sound and some table is too small for it, and the needs are the reading's
+pub record IsShort (mode : Mode) (bs : List ℕ) (r : Rooms) (a : Needs) : Type 0 where
+  pub header : Header
+  pub tables : Tables
+  pub sound : reading mode bs ≡ sheet header tables
+  pub short : holdsAll (needsOf tables) r ≡ false
+  pub counts : a ≡ needsOf tables
+
+abbrev View : Mode → List ℕ → Rooms → Outcome → Answer → Type 0
+View mode bs r x (Answer.Read a) = IsRead mode bs r a (x .header)
+View mode bs r x (Answer.NoRoom a) = IsShort mode bs r a
+View mode bs r x (Answer.Refused m k at) = reading mode bs ≡ refused m k at
+
+abbrev ViewOf : Mode → List ℕ → Rooms → Outcome → Type 0
+ViewOf mode bs r x = View mode bs r x (x .answer)
+
+view : (mode : Mode) (bs : List ℕ) (r : Rooms) → ViewOf mode bs r (readOf mode bs r)
+unfolding readOf
+view mode bs r = by (reading mode bs) refl
+  where
+    room : (h : Header) (o : Tables) → reading mode bs ≡ sheet h o → (b : Bool) → holdsAll (needsOf o) r ≡ b
+        → ViewOf mode bs r (cond b (record { answer = Answer.Read (needsOf o); header = h }) (refusedWith (Answer.NoRoom (needsOf o))))
+    room h o e true f = record { tables = o; sound = e; room = f; counts = refl }
+    room h o e false f = record { header = h; tables = o; sound = e; short = f; counts = refl }
+
+    by : (x : Reading) → reading mode bs ≡ x → ViewOf mode bs r (answered x r)
+    by (sheet h o) e = room h o e (holdsAll (needsOf o) r) refl
+    by (refused m k at) e = e
+
+module _ (mode : Mode) (bs : List ℕ) (r : Rooms) where
+  pub read-is : (a : Needs) (h : Header) → readOf mode bs r ≡ record { answer = Answer.Read a; header = h } → IsRead mode bs r a h
+  read-is a h e = subst (ViewOf mode bs r) e (view mode bs r)
+
+  -- **room**: 14 only where the file is sound and some table is too small; the needs are the reading's
+  pub no-room-is : (a : Needs) → readOf mode bs r ≡ refusedWith (Answer.NoRoom a) → IsShort mode bs r a
+  no-room-is a e = subst (ViewOf mode bs r) e (view mode bs r)
+
+  pub is-read : (h : Header) (o : Tables) → reading mode bs ≡ sheet h o → holdsAll (needsOf o) r ≡ true → readOf mode bs r ≡ record { answer = Answer.Read (needsOf o); header = h }
+  unfolding readOf
+  is-read h o e f = rw (e, f)
+
+  -- **room**: and there it is given
+  pub is-no-room : (h : Header) (o : Tables) → reading mode bs ≡ sheet h o → holdsAll (needsOf o) r ≡ false → readOf mode bs r ≡ refusedWith (Answer.NoRoom (needsOf o))
+  unfolding readOf
+  is-no-room h o e f = rw (e, f)
+
+-- **room**: "no room" by its number. The answer's number is 14 exactly where the file is sound and some table is too small
+pub fourteen-is : (mode : Mode) (bs : List ℕ) (r : Rooms) → numberOf (readOf mode bs r .answer) ≡ noRoom → IsShort mode bs r (countsOf (readOf mode bs r .answer))
+fourteen-is mode bs r = by (readOf mode bs r) (view mode bs r)
+  where
+    go : (x : Outcome) (a : Answer) → View mode bs r x a → numberOf a ≡ noRoom → IsShort mode bs r (countsOf a)
+    go x (Answer.Read a) v e = absurd (omega arith)
+    go x (Answer.NoRoom a) v e = v
+    go x (Answer.Refused m k at) v e = absurd (omega (arith, reading-numbers mode bs m k at v .1))
+
+    by : (x : Outcome) → ViewOf mode bs r x → numberOf (x .answer) ≡ noRoom → IsShort mode bs r (countsOf (x .answer))
+    by x v e = go x (x .answer) v e
+
+pub is-fourteen : (mode : Mode) (bs : List ℕ) (r : Rooms) (a : Needs) → IsShort mode bs r a → numberOf (readOf mode bs r .answer) ≡ noRoom
+is-fourteen mode bs r a s = rw (is-no-room mode bs r (s .header) (s .tables) (s .sound) (s .short))
+
+-- 0 exactly where the file is read
+pub zero-is : (mode : Mode) (bs : List ℕ) (r : Rooms) → numberOf (readOf mode bs r .answer) ≡ 0 → IsRead mode bs r (countsOf (readOf mode bs r .answer)) (readOf mode bs r .header)
+zero-is mode bs r = by (readOf mode bs r) (view mode bs r)
+  where
+    go : (x : Outcome) (a : Answer) → View mode bs r x a → numberOf a ≡ 0 → IsRead mode bs r (countsOf a) (x .header)
+    go x (Answer.Read a) v e = v
+    go x (Answer.NoRoom a) v e = absurd (omega arith)
+    go x (Answer.Refused m k at) v e = absurd (omega (arith, reading-numbers mode bs m k at v .0))
+
+    by : (x : Outcome) → ViewOf mode bs r x → numberOf (x .answer) ≡ 0 → IsRead mode bs r (countsOf (x .answer)) (x .header)
+    by x v e = go x (x .answer) v e
+
+-- ---- larger tables
+
+pub record Larger (r r′ : Rooms) : Type 0 where
+  pub rows : r .rows ≤ r′ .rows
+  pub letters : r .letters ≤ r′ .letters
+  pub islands : r .islands ≤ r′ .islands
+  pub points : r .points ≤ r′ .points
+
+holds-more : (a : Needs) (r r′ : Rooms) → Larger r r′ → holdsAll a r ≡ true → holdsAll a r′ ≡ true
+unfolding holdsAll
+holds-more a r r′ l e =
+    let t₁ = leb (a .rows) (r .rows / 12) in
+    let t₂ = leb (a .letters) (r .letters) in
+    let t₃ = leb (a .islands) (r .islands) in
+    let e₃ = and-left (t₁ && t₂ && t₃) (leb (a .points) (r .points / 2)) e in
+    let e₂ = and-left (t₁ && t₂) t₃ e₃ in
+    let r₁ = leb-true (a .rows) (r .rows / 12) (and-left t₁ t₂ e₂) in
+    let r₂ = leb-true (a .letters) (r .letters) (and-right t₁ t₂ e₂) in
+    let r₃ = leb-true (a .islands) (r .islands) (and-right (t₁ && t₂) t₃ e₃) in
+    let r₄ = leb-true (a .points) (r .points / 2) (and-right (t₁ && t₂ && t₃) (leb (a .points) (r .points / 2)) e) in
+    rw (
+      le-leb (a .rows) (r′ .rows / 12) (omega (arith, l .rows)),
+      le-leb (a .letters) (r′ .letters) (omega (arith, l .letters)),
+      le-leb (a .islands) (r′ .islands) (omega (arith, l .islands)),
+      le-leb (a .points) (r′ .points / 2) (omega (arith, l .points)),
+    )
+
+abbrev NotShort : Answer → Type 0
+NotShort (Answer.Read a) = Unit {0}
+NotShort (Answer.NoRoom a) = ⊥
+NotShort (Answer.Refused m k at) = Unit {0}
+
+-- **room**: larger tables change no answer but "no room"
+pub larger-tables : (mode : Mode) (bs : List ℕ) (r r′ : Rooms) → Larger r r′ → NotShort (readOf mode bs r .answer) → readOf mode bs r′ ≡ readOf mode bs r
+unfolding readOf
+larger-tables mode bs r r′ l n = by (reading mode bs) n
+  where
+    room : (h : Header) (o : Tables) (b : Bool) → holdsAll (needsOf o) r ≡ b
+        → NotShort (cond b (record { answer = Answer.Read (needsOf o); header = h }) (refusedWith (Answer.NoRoom (needsOf o))) .answer)
+        → cond (holdsAll (needsOf o) r′) (record { answer = Answer.Read (needsOf o); header = h }) (refusedWith (Answer.NoRoom (needsOf o)))
+        ≡ cond b (record { answer = Answer.Read (needsOf o); header = h }) (refusedWith (Answer.NoRoom (needsOf o)))
+    room h o true e n = rw (holds-more (needsOf o) r r′ l e)
+    room h o false e n = absurd n
+
+    by : (x : Reading) → NotShort (answered x r .answer) → answered x r′ ≡ answered x r
+    by (sheet h o) n = room h o (holdsAll (needsOf o) r) refl n
+    by (refused m k at) n = refl
+
+-- ---- two modes, one meaning
+
+-- **exact within loose**: a sheet that exact mode accepts with given tables is accepted by loose mode with the same tables,
+-- the same header, and the same tables at exit (`written` of equal answers and equal tables)
+pub exact-within-loose : (bs : List ℕ) (r : Rooms) (a : Needs) (h : Header) → readOf Exact bs r ≡ record { answer = Answer.Read a; header = h }
+    → (readOf Loose bs r ≡ record { answer = Answer.Read a; header = h }) × (tablesIn (reading Loose bs) ≡ tablesIn (reading Exact bs))
+exact-within-loose bs r a h e =
+    let v = read-is Exact bs r a h e in
+    let l = exact-loose bs h (v .tables) (v .sound) in
+    (is-read Loose bs r h (v .tables) l (v .room) ∙ ap (λ (x : Needs). record { answer = Answer.Read x; header = h }) (sym (v .counts)), rw (l, v .sound))
+
+-- ---- two maps in one file
+
+-- **joining**: a second accepted map's elements put just before the EOF record of a first: if the joined file keeps the length
+-- limit and has room, its elements are the first map's followed by the second's
+pub joined-read : (mode : Mode) (a b : List ℕ) (h h′ : Header) (o o′ : Tables) (r : Rooms) → reading mode a ≡ sheet h o → reading mode b ≡ sheet h′ o′
+    → length (joined mode a b) ≤ fileMost → holdsAll (needsOf (o then o′)) r ≡ true
+    → (readOf mode (joined mode a b) r ≡ record { answer = Answer.Read (needsOf (o then o′)); header = h }) × (tablesIn (reading mode (joined mode a b)) ≡ o then o′)
+joined-read mode a b h h′ o o′ r e e′ l f =
+    let j = joining mode a b h h′ o o′ e e′ l in
+    (is-read mode (joined mode a b) r h (o then o′) j f, rw j)

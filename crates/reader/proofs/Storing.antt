@@ -1,0 +1,112 @@
+-- The stores into lent tables: a list that is copied, a row that is new, a real, a word. Assumes nothing.
+use mathlib.Core.Path.{_≡_, refl, sym, _∙_, ap, subst}
+use mathlib.Core.Bool.{Bool, true, false, cond}
+use mathlib.Core.List.{List}
+use Prim.Native.Nat.{ℕ, zero, suc, _+_, _-_, _/_, _%_, _^_, _≤_, _<_, zero-le}
+use native.Mathlib.Omega.{arith}
+use lib.ListN.{length, take, drop, getD, set, getD-replicate}
+use lib.Seq.{paste, paste-zero, length-paste}
+use lib.Dec.{eqb, ltb}
+use lib.IntN.{ℤ, pos, negsuc, _-ℤ_}
+use lib.Signed.{mag}
+use mir.Syntax.{w64}
+use mir.Val.{SFits, toZ, ofZ}
+use mir.ValLaws.{toZ-pos, toZ-ofZ}
+use borrow.Author.Tests.{ne-eqb}
+use Rattle.laws.specs.Lists.{pasted}
+use Rattle.laws.proofs.TableLaws.{paste-more, paste-all}
+use Rattle.record.specs.declared.Mode.the-variants.{Loose}
+use Rattle.number.specs.declared.Word.{Word}
+use Rattle.number.specs.declared.Word.the-variants as Word
+use Rattle.number.specs.Words.{wordOf, trimmed}
+use Rattle.number.proofs.WordLaws.{word-is}
+use Rattle.token.specs.Lex.{liftBy, unlift}
+use Rattle.machine.specs.Rows.{rowWidth}
+use Rattle.sheet.specs.Tables.{newRow}
+use Rattle.reader.specs.Store.{tokenMost}
+
+-- ---- a copy: the first `j` of `s` stand in `d`, from `at` on
+
+pub record Pasting {A : Type 0} (l : List A) (at : ℕ) (s d : List A) (j : ℕ) : Type 0 where
+  pub within : j ≤ length s
+  pub room : at + length s ≤ length l
+  pub is : d ≡ paste l at s j
+
+pub pasting-start : {A : Type 0} (l : List A) (at : ℕ) (s : List A) → at + length s ≤ length l → Pasting l at s l 0
+pasting-start l at s h = record { within = zero-le; room = h; is = paste-zero l at s }
+
+module _ {A : Type 0} (l : List A) (at : ℕ) (s d : List A) (j : ℕ) (p : Pasting l at s d j) where
+  pub pasting-length : length d ≡ length l
+  pasting-length = ap length (p .is) ∙ length-paste l at s j (omega (arith, p .within, p .room)) (p .within)
+
+  pub pasting-at : j < length s → at + j < length d
+  pasting-at h = omega (arith, pasting-length, p .room)
+
+  pub pasting-step : (z v : A) (e : List A) → j < length s → v ≡ getD s j z → e ≡ set d (at + j) v → Pasting l at s e (j + 1)
+  pasting-step z v e h q r =
+      record { within = omega arith; room = p .room; is = r ∙ rw (q, p .is) (paste-more l at s j z (omega (arith, p .room)) h) }
+
+  pub pasting-end : length s ≤ j → d ≡ pasted l at s
+  pasting-end h = p .is ∙ paste-all l at s j (omega (arith, p .within))
+
+-- ---- a new row
+
+abbrev cellAt : ℕ → ℕ → ℕ
+cellAt j t = cond (eqb j 0) (t / 2) (cond (eqb j 1) (t % 2) 0)
+
+module _ (j t v : ℕ) (e : v ≡ cellAt j t) where
+  pub cell-is : j < rowWidth → pos v ≡ getD (newRow t) j (pos 0)
+  cell-is h = ap pos e ∙ go j h
+    where
+      go : (j : ℕ) → j < rowWidth → pos (cellAt j t) ≡ getD (newRow t) j (pos 0)
+      go zero h = refl
+      go (suc zero) h = refl
+      go (suc (suc j)) h =
+          rw (ne-eqb (suc (suc j)) 0 (λ z. omega arith), ne-eqb (suc (suc j)) 1 (λ z. omega arith))
+          (sym (getD-replicate 10 j (pos 0) (pos 0) (omega arith)))
+
+  pub cell-most : t ≤ tokenMost → v ≤ tokenMost
+  cell-most h = rw e (go (eqb j 0) (eqb j 1))
+    where
+      go : (a b : Bool) → cond a (t / 2) (cond b (t % 2) 0) ≤ tokenMost
+      go true b = omega arith
+      go false true = omega arith
+      go false false = omega arith
+
+-- ---- a real, from its token
+
+module _ (t : ℕ) (h : t ≤ tokenMost) where
+  unlift-fits : SFits w64 (unlift t)
+  unfolding unlift
+  unlift-fits = record { sfits = go (ltb t liftBy) }
+    where
+      go : (b : Bool) → mag (cond b (negsuc (liftBy - suc t)) (pos (t - liftBy))) < 2 ^ 63
+      go true = omega arith
+      go false = omega arith
+
+  unlift-is : toZ w64 t -ℤ pos liftBy ≡ unlift t
+  unfolding unlift
+  unlift-is = ap (λ (z : ℤ). z -ℤ pos liftBy) (toZ-pos w64 t (omega arith))
+
+  pub real-asks : SFits w64 (toZ w64 t -ℤ pos liftBy)
+  real-asks = subst (SFits w64) (sym unlift-is) unlift-fits
+
+  pub real-stored : toZ w64 (ofZ w64 (toZ w64 t -ℤ pos liftBy)) ≡ unlift t
+  real-stored = toZ-ofZ w64 _ real-asks ∙ unlift-is
+
+-- ---- the word of a content
+
+module _ (c : List ℕ) (w : Word) (e : w ≡ wordOf Loose c) where
+  -- loose mode drops blanks, so it takes every content
+  pub never-padded : w ≡ Word.Padded → ⊥
+  unfolding wordOf
+  never-padded f = let z : _≡_ {A = ℕ} 0 1 = cc in omega arith
+
+  module _ (start len : ℕ) (f : w ≡ Word.Is start len) where
+    pub word-in : start + len ≤ length c
+    word-in = word-is Loose c start len (sym e ∙ f) .0
+
+    pub word-part : take (start + len - start) (drop start c) ≡ trimmed c
+    word-part =
+        let z : start + len - start ≡ len = omega arith in
+        rw z (word-is Loose c start len (sym e ∙ f) .1)

@@ -1,0 +1,63 @@
+-- `reader::judge` meets its contract. Assumes nothing.
+use Rattle.reader.proofs.Judging.{at-start, at-on, at-less, judge-refused, judge-done}
+use Rattle.reader.proofs.Standing.{At}
+use Rattle.sheet.specs.Reading.{walkFrom}
+use Rattle.sheet.specs.Tables.{Tables, empty}
+use lib.ListN.{length}
+use Prim.Native.Nat.{_-_}
+use borrow.Author.Needs.{needs}
+use Rattle.reader.proofs.judge.Statement.{statement}
+use Rattle.reader.proofs.judge.Tie as tie
+
+abbrev Inv-loop : tie.InvT-loop
+Inv-loop src mode start d₀ d = (o : Tables) × At mode src (walkFrom mode src start) o d
+
+abbrev μ-loop : tie.MeasureT-loop
+μ-loop src mode start d₀ d = length src - d .at
+
+first-stand-requires : tie.Need-first-stand-requires Inv-loop μ-loop
+first-stand-requires c κs = search needs
+
+loop-holds : tie.Need-loop-holds Inv-loop μ-loop
+loop-holds c = (empty, rw (c .first-stand .ensures) (at-start _ ((c .before .before) .args .src .now) ((c .before .before) .args .start) ((c .before .before) .pre .0) ((c .before .before) .pre .1)))
+
+turn-at-requires : tie.Need-turn-at-requires Inv-loop μ-loop
+turn-at-requires c κs = c .before .loop .inv .1 .within
+
+enum-known-stand : tie.Need-enum-known-stand Inv-loop μ-loop
+enum-known-stand c = search needs
+
+loop-less : tie.Need-loop-less Inv-loop μ-loop
+loop-less c = at-less _ ((c .before .before .before .before .before .before .before .before) .args .src .now) _ (c .before .before .before .before .before .loop .inv .0) (c .before .before .before .before .before .loop .d) (c .before .before .before .before .before .loop .inv .1) (c .before .before .before .turn-at .result) (c .before .before .before .turn-at .ensures) _ _ _ (c .before .stand .given .1)
+
+loop-again : tie.Need-loop-again Inv-loop μ-loop
+loop-again c = (_, at-on _ ((c .before .before .before .before .before .before .before .before) .args .src .now) _ (c .before .before .before .before .before .loop .inv .0) (c .before .before .before .before .before .loop .d) (c .before .before .before .before .before .loop .inv .1) (c .before .before .before .turn-at .result) (c .before .before .before .turn-at .ensures) _ _ _ (c .before .stand .given .1) .then)
+
+enum-known-number : tie.Need-enum-known-number Inv-loop μ-loop
+enum-known-number c = search needs
+
+returns : tie.Need-returns Inv-loop μ-loop
+returns c = judge-refused _ ((c .before .before .before .before .before .before .before .before) .args .src .now) _ (c .before .before .before .before .before .loop .inv .0) (c .before .before .before .before .before .loop .d) (c .before .before .before .before .before .loop .inv .1) (c .before .before .before .turn-at .result) (c .before .before .before .turn-at .ensures) _ _ _ (c .before .number .given .1)
+
+enum-told : tie.Need-enum-told Inv-loop μ-loop
+enum-told c = search needs
+
+returns-2 : tie.Need-returns-2 Inv-loop μ-loop
+returns-2 c = judge-done _ ((c .before .before .before .before .before .before .before) .args .src .now) _ (c .before .before .before .before .loop .inv .0) (c .before .before .before .before .loop .d) (c .before .before .before .before .loop .inv .1) (c .before .before .turn-at .result) (c .before .before .turn-at .ensures) (c .enum-told .given .1)
+
+pub judge-spec : {M : Type 1} → statement M
+judge-spec =
+    tie.close
+    (tie.spec
+    Inv-loop
+    μ-loop
+    first-stand-requires
+    loop-holds
+    turn-at-requires
+    enum-known-stand
+    loop-less
+    loop-again
+    enum-known-number
+    returns
+    enum-told
+    returns-2)

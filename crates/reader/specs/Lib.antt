@@ -1,0 +1,3 @@
+pub mod Turn
+pub mod Store
+pub mod Read

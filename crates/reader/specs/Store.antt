@@ -1,0 +1,77 @@
+-- What a record stores in the tables that are lent. Assumes nothing: these are definitions.
+use Prim.Native.Nat.{ℕ, _+_, _-_, _*_, _≤_, _<_}
+use mathlib.Core.List.{List, [], _∷_, _++_}
+use mathlib.Core.Bool.{Bool, true, false, cond}
+use lib.ListN.{length, set}
+use lib.Dec.{eqb}
+use lib.IntN.{ℤ, pos}
+use Rattle.laws.specs.Lists.{pasted}
+use Rattle.number.specs.Words.{trimmed}
+use Rattle.token.specs.Lex.{unlift}
+use Rattle.machine.specs.Rows.{rowWidth, lettersPlace}
+use Rattle.machine.specs.Machine.{wantAt}
+use Rattle.machine.specs.declared.State.{State}
+use Rattle.machine.specs.declared.State.the-variants.{Due, Field, Island, X, Y}
+use Rattle.sheet.specs.Tables.{Tables, empty, newRow, cellOf}
+use Rattle.sheet.specs.Reading.{Sections, read, stop}
+use Rattle.reader.specs.declared.Needs.{Needs}
+
+-- no token is larger: the largest real, lifted
+abbrev pub tokenMost : ℕ
+tokenMost = 109999999999
+
+-- an island's count is an integer, and its table holds it
+abbrev pub IslandToken : State → ℕ → Type 0
+IslandToken Due t = Unit {0}
+IslandToken (Field k p i) t = Unit {0}
+IslandToken (Island l s r) t = t ≤ 9999
+IslandToken (X r) t = Unit {0}
+IslandToken (Y r x) t = Unit {0}
+
+-- the tables that hold `a` already, after a record with the token t and the content c
+abbrev pub rowsPut : State → ℕ → Needs → List ℤ → List ℤ
+rowsPut Due t a l = pasted l (rowWidth * a .rows) (newRow t)
+rowsPut (Field k p i) t a l = set l (rowWidth * (a .rows - 1) + p) (cellOf (wantAt p) t)
+rowsPut (Island l′ s r) t a l = l
+rowsPut (X r) t a l = l
+rowsPut (Y r x) t a l = l
+
+abbrev pub lettersPut : State → List ℕ → Needs → List ℕ → List ℕ
+lettersPut Due c a l = l
+lettersPut (Field k p i) c a l = cond (eqb p lettersPlace) (pasted l (a .letters) (trimmed c)) l
+lettersPut (Island l′ s r) c a l = l
+lettersPut (X r) c a l = l
+lettersPut (Y r x) c a l = l
+
+abbrev pub islandsPut : State → ℕ → Needs → List ℕ → List ℕ
+islandsPut Due t a l = l
+islandsPut (Field k p i) t a l = l
+islandsPut (Island l′ s r) t a l = set l (a .islands) t
+islandsPut (X r) t a l = l
+islandsPut (Y r x) t a l = l
+
+abbrev pub pointsPut : State → ℕ → Needs → List ℤ → List ℤ
+pointsPut Due t a l = l
+pointsPut (Field k p i) t a l = l
+pointsPut (Island l′ s r) t a l = l
+pointsPut (X r) t a l = set l (2 * a .points) (unlift t)
+pointsPut (Y r x) t a l = set l (2 * a .points + 1) (unlift t)
+
+-- room for that
+abbrev pub PutRoom : State → List ℕ → Needs → ℕ → ℕ → ℕ → ℕ → Type 0
+PutRoom Due c a rows letters islands points = rowWidth * a .rows + rowWidth ≤ rows
+PutRoom (Field k p i) c a rows letters islands points = (1 ≤ a .rows) × (rowWidth * a .rows ≤ rows) × (p ≤ 11) × (a .letters + cond (eqb p lettersPlace) (length (trimmed c)) 0 ≤ letters)
+PutRoom (Island l′ s r) c a rows letters islands points = a .islands + 1 ≤ islands
+PutRoom (X r) c a rows letters islands points = 2 * a .points + 1 ≤ points
+PutRoom (Y r x) c a rows letters islands points = 2 * a .points + 2 ≤ points
+
+-- the tables of sections that were read
+abbrev pub tablesOf : Sections → Tables
+tablesOf (read o eof) = o
+tablesOf (stop m k at) = empty
+
+-- the sections are read, and tables of these lengths hold them
+abbrev pub Room : Sections → ℕ → ℕ → ℕ → ℕ → Type 0
+Room (read o eof) rows letters islands points =
+    (length (o .rows) ≤ rows) × (length (o .letters) ≤ letters) × (length (o .islands) ≤ islands) × (length (o .points) ≤ points)
+Room (stop m k at) rows letters islands points = ⊥

@@ -1,0 +1,634 @@
+// The reader of a sheet (document 01, "Sheet tables"): the whole file is judged, then the room, then the tables are written.
+// All of it is proved, and no public function has a `requires`. A refusal alters nothing that was lent, and past the used
+// part no table is altered. There is no scratch array: the size of a ring is read again from the file when the one before it ends.
+ghost use mathlib.Core.Path.{_≡_};
+ghost use mathlib.Core.Bool.{cond};
+ghost use Prim.Native.Nat.{_+_, _/_, _%_, _<_, _≤_};
+ghost use lib.ListN.{length, set};
+ghost use lib.Dec.{eqb};
+ghost use lib.IntN.{pos};
+ghost use Rattle.laws.specs.Lists.{over, pasted};
+ghost use Rattle.record.specs.declared.Mode.the-variants.{Loose};
+ghost use Rattle.record.specs.Refusals.{fileMost};
+ghost use Rattle.number.specs.Words.{trimmed};
+ghost use Rattle.token.specs.Lex.{unlift};
+ghost use Rattle.machine.specs.Machine.{wantAt};
+ghost use Rattle.sheet.specs.Tables.{newRow, cellOf};
+ghost use Rattle.sheet.specs.Reading.{walkFrom, reading};
+ghost use Rattle.reader.specs.Turn.{sizeOf, isTurning, sizeNext, islNext, Few, added, closing, turnOf, standAt, Within};
+ghost use Rattle.reader.specs.Store.{tokenMost, IslandToken, rowsPut, lettersPut, islandsPut, pointsPut, PutRoom, tablesOf, Room};
+ghost use Rattle.reader.specs.Read.{judgedOf, Rooms, roomsOf, holdsAll, refusedWith, readOf, tablesIn, written};
+use header::Ahead;
+use header::Header;
+use header::header_at;
+use machine::One;
+use machine::State;
+use machine::one_at;
+use machine::want_at;
+use number::Whole;
+use number::Word;
+use number::integer;
+use number::word_of;
+use record::FILE_MOST;
+use record::Line;
+use record::Mode;
+use record::line_at;
+use record::refusal::AFTER_EOF;
+use record::refusal::TOO_LONG;
+use token::Want;
+
+// How many rows, letters, island counts and points a file needs.
+pub struct Needs {
+    pub rows: usize,
+    pub letters: usize,
+    pub islands: usize,
+    pub points: usize,
+}
+
+// Where a walk over the records stands: the machine's state, the place and the number of the next record, the place of
+// the next ring's size, and what was read so far.
+struct Stand {
+    pub state: State,
+    pub at: usize,
+    pub nth: usize,
+    pub ring: usize,
+    pub needs: Needs,
+}
+
+// One record further, with its token and its content's length; or a refusal; or the end of the file.
+enum Turn {
+    On {
+        stand: Stand,
+        token: usize,
+        len: usize,
+    },
+    Refused {
+        number: usize,
+        record: usize,
+        offset: usize,
+    },
+    Done,
+}
+
+enum Judged {
+    Fine(Needs),
+    Refused {
+        number: usize,
+        record: usize,
+        offset: usize,
+    },
+}
+
+// The answer to a reading: read, with what was used; no room (14), with what is needed; or refused, located.
+pub enum Answer {
+    Read(Needs),
+    NoRoom(Needs),
+    Refused {
+        number: usize,
+        record: usize,
+        offset: usize,
+    },
+}
+
+// The answer and, beside it, the header: all zero where the sheet is not read.
+pub struct Outcome {
+    pub answer: Answer,
+    pub header: Header,
+}
+
+// A ring's size, and the bytes of the record that says it.
+struct Size {
+    pub n: usize,
+    pub width: usize,
+}
+
+// The number of the record that a file's sections begin with.
+const FIRST: usize = 4;
+
+const ROW_WIDTH: usize = 12;
+
+const LETTERS_PLACE: usize = 9;
+
+// The number in the first record of the bytes, and that record's bytes.
+fn size_of(bs: &[u8], mode: Mode) -> Size
+    ensures { λ r. ⌜ r ≡ sizeOf mode (now (bs .entry)) ⌝ }
+{
+    match line_at(bs, mode, false) {
+        Line::Bad(_) => Size { n: 0, width: 0 },
+        Line::Got { len, width } => match integer(&bs[..len], mode) {
+            Whole::Is(n) => Size { n, width },
+            Whole::Malformed => Size { n: 0, width: 0 },
+        },
+    }
+}
+
+// A ring ends here, and another follows.
+fn is_turning(st: State) -> bool
+    ensures { λ r. ⌜ r ≡ isTurning st ⌝ }
+{
+    match st {
+        State::Due => false,
+        State::Field {
+            kind: _,
+            place: _,
+            islands: _,
+        } => false,
+        State::Island {
+            left: _,
+            spare: _,
+            rings: _,
+        } => false,
+        State::X(_) => false,
+        State::Y(r, _) => {
+            let left = r.left;
+            if left > 1 {
+                return false;
+            }
+            let rings = r.rings;
+            if rings == 0 { false } else { true }
+        }
+    }
+}
+
+fn size_next(bs: &[u8], mode: Mode, st: State) -> Size
+    ensures { λ r. ⌜ r ≡ sizeNext mode st (now (bs .entry)) ⌝ }
+{
+    if is_turning(st) {
+        return size_of(bs, mode);
+    }
+    Size { n: 0, width: 0 }
+}
+
+// Where the next ring's size stands after a record that was read at a state.
+fn ring_next(st: State, ring: usize, width: usize, at: usize) -> usize
+    requires { ⌜ ring + width < 18446744073709551616 ⌝ }
+    ensures { λ r. ⌜ r ≡ islNext st ring width at ⌝ }
+{
+    match st {
+        State::Due => ring,
+        State::Field {
+            kind: _,
+            place: _,
+            islands: _,
+        } => at,
+        State::Island {
+            left: _,
+            spare: _,
+            rings: _,
+        } => ring,
+        State::X(_) => ring,
+        State::Y(_, _) => ring + width,
+    }
+}
+
+// What a record with the token `t` adds to the needs.
+fn more_needs(a: Needs, st: State, t: usize) -> Needs
+    requires { ⌜ Few (added a st t) ⌝ }
+    ensures { λ r. ⌜ r ≡ added a st t ⌝ }
+{
+    let rows = a.rows;
+    let letters = a.letters;
+    let islands = a.islands;
+    let points = a.points;
+    match st {
+        State::Due => Needs {
+            rows: rows + 1,
+            letters,
+            islands,
+            points,
+        },
+        State::Field {
+            kind: _,
+            place,
+            islands: _,
+        } => {
+            if place == LETTERS_PLACE {
+                return Needs {
+                    rows,
+                    letters: letters + t,
+                    islands,
+                    points,
+                };
+            }
+            a
+        }
+        State::Island {
+            left: _,
+            spare: _,
+            rings: _,
+        } => Needs {
+            rows,
+            letters,
+            islands: islands + 1,
+            points,
+        },
+        State::X(_) => a,
+        State::Y(_, _) => Needs {
+            rows,
+            letters,
+            islands,
+            points: points + 1,
+        },
+    }
+}
+
+// The EOF record ends before `next`, where the record `nth` would begin.
+fn closing_at(mode: Mode, nth: usize, next: usize, size: usize) -> Turn
+    ensures { λ r. ⌜ r ≡ closing mode nth next size ⌝ }
+{
+    match mode {
+        Mode::Loose => Turn::Done,
+        Mode::Exact => {
+            if size <= next {
+                return Turn::Done;
+            }
+            Turn::Refused {
+                number: AFTER_EOF,
+                record: nth,
+                offset: next,
+            }
+        }
+    }
+}
+
+// One record further.
+fn turn_at(src: &[u8], mode: Mode, d: Stand) -> Turn
+    requires { ⌜ Within (now src) d ⌝ }
+    ensures { λ r. ⌜ r ≡ turnOf mode (now (src .entry)) d ⌝ }
+{
+    let st = d.state;
+    let at = d.at;
+    let nth = d.nth;
+    let ring = d.ring;
+    let needs = d.needs;
+    let size = size_next(&src[ring..], mode, st);
+    let n = size.n;
+    let wide = size.width;
+    match one_at(&src[at..], mode, st, n) {
+        One::No(number) => Turn::Refused {
+            number,
+            record: nth,
+            offset: at,
+        },
+        One::End(width) => closing_at(mode, nth + 1, at + width, src.len()),
+        One::Go {
+            state,
+            token,
+            len,
+            width,
+        } => {
+            let next = at + width;
+            Turn::On {
+                stand: Stand {
+                    state,
+                    at: next,
+                    nth: nth + 1,
+                    ring: ring_next(st, ring, wide, next),
+                    needs: more_needs(needs, st, token),
+                },
+                token,
+                len,
+            }
+        }
+    }
+}
+
+// Where the sections begin, nothing is read.
+fn first_stand(start: usize) -> Stand
+    ensures { λ r. ⌜ r ≡ standAt start ⌝ }
+{
+    Stand {
+        state: State::Due,
+        at: start,
+        nth: FIRST,
+        ring: start,
+        needs: Needs {
+            rows: 0,
+            letters: 0,
+            islands: 0,
+            points: 0,
+        },
+    }
+}
+
+// The sections, which begin at `start`, are judged, and what they need is counted.
+fn judge(src: &[u8], mode: Mode, start: usize) -> Judged
+    requires { ⌜ (start ≤ length (now src)) × (length (now src) ≤ fileMost) ⌝ }
+    ensures { λ r. ⌜ r ≡ judgedOf (walkFrom mode (now (src .entry)) start) ⌝ }
+{
+    let mut d = first_stand(start);
+    loop {
+        let needs = d.needs;
+        match turn_at(src, mode, d) {
+            Turn::On {
+                stand,
+                token: _,
+                len: _,
+            } => d = stand,
+            Turn::Refused {
+                number,
+                record,
+                offset,
+            } => {
+                return Judged::Refused {
+                    number,
+                    record,
+                    offset,
+                };
+            }
+            Turn::Done => return Judged::Fine(needs),
+        }
+    }
+}
+
+fn put_letters(dst: &mut [u8], at: usize, c: &[u8])
+    requires { ⌜ at + length (now c) ≤ length (now dst) ⌝ }
+    ensures { λ _. ⌜ now (dst .exit) ≡ pasted (now (dst .entry)) at (now (c .entry)) ⌝ }
+{
+    let mut j = 0;
+    while j < c.len() {
+        dst[at + j] = c[j];
+        j += 1;
+    }
+}
+
+fn put_island(dst: &mut [u16], at: usize, t: usize)
+    requires { ⌜ (at < length (now dst)) × (t < 65536) ⌝ }
+    ensures { λ _. ⌜ now (dst .exit) ≡ set (now (dst .entry)) at t ⌝ }
+{
+    dst[at] = t as u16;
+}
+
+fn put_number(dst: &mut [i64], at: usize, t: usize)
+    requires { ⌜ (at < length (now dst)) × (t ≤ tokenMost) ⌝ }
+    ensures { λ _. ⌜ now (dst .exit) ≡ set (now (dst .entry)) at (pos t) ⌝ }
+{
+    dst[at] = t as i64;
+}
+
+// A real of a row or of a point.
+fn put_real(dst: &mut [i64], at: usize, t: usize)
+    requires { ⌜ (at < length (now dst)) × (t ≤ tokenMost) ⌝ }
+    ensures { λ _. ⌜ now (dst .exit) ≡ set (now (dst .entry)) at (unlift t) ⌝ }
+{
+    dst[at] = t as i64 - 10_000_000_000;
+}
+
+// A field of a row.
+fn put_field(dst: &mut [i64], at: usize, place: usize, t: usize)
+    requires { ⌜ (at < length (now dst)) × (t ≤ tokenMost) ⌝ }
+    ensures { λ _. ⌜ now (dst .exit) ≡ set (now (dst .entry)) at (cellOf (wantAt place) t) ⌝ }
+{
+    match want_at(place) {
+        Want::Real => put_real(dst, at, t),
+        Want::Key => put_number(dst, at, t),
+        Want::Text => put_number(dst, at, t),
+        Want::Int => put_number(dst, at, t),
+    }
+}
+
+// What a new row has at a place: its kind, outside, and then zeros.
+fn cell(j: usize, t: usize) -> usize
+    ensures { λ r. ⌜ r ≡ cond (eqb j 0) (t / 2) (cond (eqb j 1) (t % 2) 0) ⌝ }
+{
+    if j == 0 {
+        return t / 2;
+    }
+    if j == 1 {
+        return t % 2;
+    }
+    0
+}
+
+fn put_row(dst: &mut [i64], at: usize, t: usize)
+    requires { ⌜ (at + 12 ≤ length (now dst)) × (t ≤ tokenMost) ⌝ }
+    ensures { λ _. ⌜ now (dst .exit) ≡ pasted (now (dst .entry)) at (newRow t) ⌝ }
+{
+    let mut j = 0;
+    while j < ROW_WIDTH {
+        let v = cell(j, t);
+        put_number(dst, at + j, v);
+        j += 1;
+    }
+}
+
+// The letters of a content.
+fn put_word(dst: &mut [u8], at: usize, c: &[u8])
+    requires { ⌜ at + length (trimmed (now c)) ≤ length (now dst) ⌝ }
+    ensures { λ _. ⌜ now (dst .exit) ≡ pasted (now (dst .entry)) at (trimmed (now (c .entry))) ⌝ }
+{
+    match word_of(c, Mode::Loose) {
+        Word::Is { start, len } => {
+            let end = start + len;
+            put_letters(dst, at, &c[start..end]);
+        }
+        Word::Padded => {}
+    }
+}
+
+// What a record with the token `t` and the content `c` stores, where the tables hold `a` already.
+fn store(
+    st: State,
+    t: usize,
+    c: &[u8],
+    a: Needs,
+    rows: &mut [i64],
+    letters: &mut [u8],
+    islands: &mut [u16],
+    points: &mut [i64],
+)
+    requires { ⌜ (t ≤ tokenMost) × IslandToken st t ⌝ }
+    requires { ⌜ PutRoom st (now c) a (length (now rows)) (length (now letters)) (length (now islands)) (length (now points)) ⌝ }
+    ensures { λ _. ⌜ now (rows .exit) ≡ rowsPut st t a (now (rows .entry)) ⌝ }
+    ensures { λ _. ⌜ now (letters .exit) ≡ lettersPut st (now (c .entry)) a (now (letters .entry)) ⌝ }
+    ensures { λ _. ⌜ now (islands .exit) ≡ islandsPut st t a (now (islands .entry)) ⌝ }
+    ensures { λ _. ⌜ now (points .exit) ≡ pointsPut st t a (now (points .entry)) ⌝ }
+{
+    let nr = a.rows;
+    let nl = a.letters;
+    let ni = a.islands;
+    let np = a.points;
+    match st {
+        State::Due => put_row(rows, ROW_WIDTH * nr, t),
+        State::Field {
+            kind: _,
+            place,
+            islands: _,
+        } => {
+            put_field(rows, ROW_WIDTH * (nr - 1) + place, place, t);
+            if place == LETTERS_PLACE {
+                put_word(letters, nl, c);
+            }
+        }
+        State::Island {
+            left: _,
+            spare: _,
+            rings: _,
+        } => put_island(islands, ni, t),
+        State::X(_) => put_real(points, 2 * np, t),
+        State::Y(_, _) => put_real(points, 2 * np + 1, t),
+    }
+}
+
+// The second pass: the records are read again, and stored.
+fn fill(
+    src: &[u8],
+    mode: Mode,
+    start: usize,
+    rows: &mut [i64],
+    letters: &mut [u8],
+    islands: &mut [u16],
+    points: &mut [i64],
+)
+    requires { ⌜ (start ≤ length (now src)) × (length (now src) ≤ fileMost) ⌝ }
+    requires { ⌜ Room (walkFrom mode (now src) start) (length (now rows)) (length (now letters)) (length (now islands)) (length (now points)) ⌝ }
+    ensures { λ _. ⌜ now (rows .exit) ≡ over (tablesOf (walkFrom mode (now (src .entry)) start) .rows) (now (rows .entry)) ⌝ }
+    ensures { λ _. ⌜ now (letters .exit) ≡ over (tablesOf (walkFrom mode (now (src .entry)) start) .letters) (now (letters .entry)) ⌝ }
+    ensures { λ _. ⌜ now (islands .exit) ≡ over (tablesOf (walkFrom mode (now (src .entry)) start) .islands) (now (islands .entry)) ⌝ }
+    ensures { λ _. ⌜ now (points .exit) ≡ over (tablesOf (walkFrom mode (now (src .entry)) start) .points) (now (points .entry)) ⌝ }
+{
+    let mut d = first_stand(start);
+    loop {
+        let st = d.state;
+        let at = d.at;
+        let needs = d.needs;
+        match turn_at(src, mode, d) {
+            Turn::On { stand, token, len } => {
+                let end = at + len;
+                store(
+                    st,
+                    token,
+                    &src[at..end],
+                    needs,
+                    rows,
+                    letters,
+                    islands,
+                    points,
+                );
+                d = stand;
+            }
+            Turn::Refused {
+                number: _,
+                record: _,
+                offset: _,
+            } => return,
+            Turn::Done => return,
+        }
+    }
+}
+
+// Every table is long enough: 12 numbers a row, two a point.
+fn has_room(a: Needs, rows: usize, letters: usize, islands: usize, points: usize) -> bool
+    ensures { λ r. ⌜ r ≡ holdsAll a (roomsOf rows letters islands points) ⌝ }
+{
+    let nr = a.rows;
+    let nl = a.letters;
+    let ni = a.islands;
+    let np = a.points;
+    if nr > rows / ROW_WIDTH {
+        return false;
+    }
+    if nl > letters {
+        return false;
+    }
+    if ni > islands {
+        return false;
+    }
+    if np > points / 2 { false } else { true }
+}
+
+// An answer with no sheet has no header.
+fn without(answer: Answer) -> Outcome
+    ensures { λ r. ⌜ r ≡ refusedWith answer ⌝ }
+{
+    Outcome {
+        answer,
+        header: Header {
+            kind: 0,
+            name: [0; 11],
+            scale: 0,
+        },
+    }
+}
+
+// Reads a sheet in the mode that is named, into the tables that are lent.
+pub fn read_as(
+    mode: Mode,
+    src: &[u8],
+    rows: &mut [i64],
+    letters: &mut [u8],
+    islands: &mut [u16],
+    points: &mut [i64],
+) -> Outcome
+    ensures { λ r. ⌜ r ≡ readOf mode (now (src .entry)) (roomsOf (length (now (rows .entry))) (length (now (letters .entry))) (length (now (islands .entry))) (length (now (points .entry)))) ⌝ }
+    ensures { λ r. ⌜ now (rows .exit) ≡ written (r .answer) (tablesIn (reading mode (now (src .entry))) .rows) (now (rows .entry)) ⌝ }
+    ensures { λ r. ⌜ now (letters .exit) ≡ written (r .answer) (tablesIn (reading mode (now (src .entry))) .letters) (now (letters .entry)) ⌝ }
+    ensures { λ r. ⌜ now (islands .exit) ≡ written (r .answer) (tablesIn (reading mode (now (src .entry))) .islands) (now (islands .entry)) ⌝ }
+    ensures { λ r. ⌜ now (points .exit) ≡ written (r .answer) (tablesIn (reading mode (now (src .entry))) .points) (now (points .entry)) ⌝ }
+{
+    if src.len() > FILE_MOST {
+        return without(Answer::Refused {
+            number: TOO_LONG,
+            record: 0,
+            offset: 0,
+        });
+    }
+    let headed = header_at(src, mode);
+    let ahead = headed.ahead;
+    let header = headed.header;
+    match ahead {
+        Ahead::Refused {
+            number,
+            record,
+            offset,
+        } => without(Answer::Refused {
+            number,
+            record,
+            offset,
+        }),
+        Ahead::Sections { at } => match judge(src, mode, at) {
+            Judged::Refused {
+                number,
+                record,
+                offset,
+            } => without(Answer::Refused {
+                number,
+                record,
+                offset,
+            }),
+            Judged::Fine(needs) => {
+                if !has_room(
+                    needs,
+                    rows.len(),
+                    letters.len(),
+                    islands.len(),
+                    points.len(),
+                ) {
+                    return without(Answer::NoRoom(needs));
+                }
+                fill(src, mode, at, rows, letters, islands, points);
+                Outcome {
+                    answer: Answer::Read(needs),
+                    header,
+                }
+            }
+        },
+    }
+}
+
+// A reading that names no mode is loose.
+pub fn read(
+    src: &[u8],
+    rows: &mut [i64],
+    letters: &mut [u8],
+    islands: &mut [u16],
+    points: &mut [i64],
+) -> Outcome
+    ensures { λ r. ⌜ r ≡ readOf Loose (now (src .entry)) (roomsOf (length (now (rows .entry))) (length (now (letters .entry))) (length (now (islands .entry))) (length (now (points .entry)))) ⌝ }
+    ensures { λ r. ⌜ now (rows .exit) ≡ written (r .answer) (tablesIn (reading Loose (now (src .entry))) .rows) (now (rows .entry)) ⌝ }
+    ensures { λ r. ⌜ now (letters .exit) ≡ written (r .answer) (tablesIn (reading Loose (now (src .entry))) .letters) (now (letters .entry)) ⌝ }
+    ensures { λ r. ⌜ now (islands .exit) ≡ written (r .answer) (tablesIn (reading Loose (now (src .entry))) .islands) (now (islands .entry)) ⌝ }
+    ensures { λ r. ⌜ now (points .exit) ≡ written (r .answer) (tablesIn (reading Loose (now (src .entry))) .points) (now (points .entry)) ⌝ }
+{
+    read_as(Mode::Loose, src, rows, letters, islands, points)
+}
