@@ -1,0 +1,7 @@
+-- The laws of the definitions of crate `crossing`; the functions' proofs stand in folders of their names.
+mod EdgeLaws
+pub mod SearchLaws
+pub mod VerdictLaws
+pub mod SharedLaws
+pub mod NeighbourLaws
+pub mod SimpleLaws

@@ -1,0 +1,5 @@
+-- The definitions that the contracts of crate `crossing` cite.
+pub mod Edges
+pub mod Search
+pub mod Shared
+mod Examples

@@ -1,0 +1,81 @@
+-- The doubled area does not depend on where the ring lies: `area-moved`. Assumes nothing.
+use mathlib.Core.Path.{_≡_, refl, ap}
+use mathlib.Core.List.{List, [], _∷_}
+use mathlib.Core.Bool.{Bool, true, false, _&&_}
+use Prim.Native.Nat.{ℕ, zero, suc, _+_, _-_, _*_, _≤_, _<_}
+use native.Mathlib.Omega.{arith}
+use lib.Dec.{leb}
+use lib.ListN.{length}
+use lib.IntN.{ℤ, natAbs, _+ℤ_, _-ℤ_}
+use Rattle.laws.proofs.Parts.{num, sum, diff, eq-parts}
+use Rattle.plane.specs.Rings.{reach, x-at, y-at, held, near, near-first, all-near, narrow}
+use Rattle.plane.specs.Areas.{east, north, edge-term, signed-sum, areaOf}
+use Rattle.plane.specs.Moved.{moved}
+use Rattle.plane.proofs.RingLaws.{held-has}
+
+diff-moved : (a b d : ℤ) → (a +ℤ d) -ℤ (b +ℤ d) ≡ a -ℤ b
+diff-moved a b d =
+    eq-parts ((a +ℤ d) -ℤ (b +ℤ d)) (a -ℤ b) (omega (arith, num a, num b, num d, sum a d, sum b d, diff a b, diff (a +ℤ d) (b +ℤ d)))
+
+-- nearness is one of the differences alone
+near-by : (ps : List ℤ) (from k : ℕ) → near-first ps from k ≡ (leb (natAbs (east ps from k)) reach && leb (natAbs (north ps from k)) reach)
+unfolding near-first near east north
+near-by ps from k = refl
+
+module _ (dx dy : ℤ) where
+  length-moved : (ps : List ℤ) → length (moved dx dy ps) ≡ length ps
+  unfolding moved
+  length-moved [] = refl
+  length-moved (x ∷ []) = refl
+  length-moved (x ∷ y ∷ ps) = ap (λ (n : ℕ). suc (suc n)) (length-moved ps)
+
+  x-moved : (ps : List ℤ) (v : ℕ) → 2 * v + 1 < length ps → x-at (moved dx dy ps) v ≡ x-at ps v +ℤ dx
+  unfolding moved
+  x-moved [] v h = let z : ⊥ = omega arith in absurd z
+  x-moved (x ∷ []) v h = let z : ⊥ = omega arith in absurd z
+  x-moved (x ∷ y ∷ ps) zero h = refl
+  x-moved (x ∷ y ∷ ps) (suc v) h =
+      let e : 2 * suc v ≡ suc (suc (2 * v)) = omega arith in
+      rw e (x-moved ps v (omega arith))
+
+  y-moved : (ps : List ℤ) (v : ℕ) → 2 * v + 1 < length ps → y-at (moved dx dy ps) v ≡ y-at ps v +ℤ dy
+  unfolding moved
+  y-moved [] v h = let z : ⊥ = omega arith in absurd z
+  y-moved (x ∷ []) v h = let z : ⊥ = omega arith in absurd z
+  y-moved (x ∷ y ∷ ps) zero h = refl
+  y-moved (x ∷ y ∷ ps) (suc v) h =
+      let e : 2 * suc v + 1 ≡ suc (suc (2 * v + 1)) = omega arith in
+      rw e (y-moved ps v (omega arith))
+
+  module _ (ps : List ℤ) (from : ℕ) where
+    east-moved : (k : ℕ) → 2 * (from + k) + 1 < length ps → east (moved dx dy ps) from k ≡ east ps from k
+    unfolding east
+    east-moved k h = simp (x-moved ps (from + k) h, x-moved ps from (omega arith)) (diff-moved (x-at ps (from + k)) (x-at ps from) dx)
+
+    north-moved : (k : ℕ) → 2 * (from + k) + 1 < length ps → north (moved dx dy ps) from k ≡ north ps from k
+    unfolding north
+    north-moved k h = simp (y-moved ps (from + k) h, y-moved ps from (omega arith)) (diff-moved (y-at ps (from + k)) (y-at ps from) dy)
+
+    near-moved : (k : ℕ) → 2 * (from + k) + 1 < length ps → near-first (moved dx dy ps) from k ≡ near-first ps from k
+    near-moved k h = rw (near-by (moved dx dy ps) from k, near-by ps from k, east-moved k h, north-moved k h)
+
+    all-near-moved : (n : ℕ) → 2 * (from + n) ≤ length ps → all-near (moved dx dy ps) from n ≡ all-near ps from n
+    unfolding all-near
+    all-near-moved zero h = refl
+    all-near-moved (suc n) h = simp (all-near-moved n (omega arith), near-moved n (omega arith))
+
+    sum-moved : (e : ℕ) → 2 * (from + e) + 1 < length ps → signed-sum (moved dx dy ps) from e ≡ signed-sum ps from e
+    unfolding signed-sum edge-term
+    sum-moved zero h = refl
+    sum-moved (suc e) h =
+        simp (sum-moved e (omega arith), east-moved e (omega arith), north-moved e (omega arith), east-moved (e + 1) (omega arith), north-moved (e + 1) (omega arith))
+
+    pub area-moved : (n : ℕ) → areaOf (moved dx dy ps) from n ≡ areaOf ps from n
+    unfolding areaOf narrow
+    area-moved n = go (held (length ps) from n) refl
+      where
+        go : (t : Bool) → held (length ps) from n ≡ t → areaOf (moved dx dy ps) from n ≡ areaOf ps from n
+        go true e =
+            let h = held-has (length ps) from n e in
+            simp (length-moved ps, e, all-near-moved n (h .2), sum-moved (n - 1) (omega arith))
+        go false e = simp (length-moved ps, e)

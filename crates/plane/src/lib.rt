@@ -1,0 +1,166 @@
+// Rings of vertices in a table of points, and their doubled areas (document 01, "Areas").
+// The table has x and y after each other, in whole millimetres; a ring is `count` vertices of it, from vertex `from` on.
+// All is proved, and no public function has a `requires`: each answers for any table and any numbers, and nothing wraps.
+ghost use mathlib.Core.Path.{_≡_};
+ghost use mathlib.Core.Bool.{Bool, true};
+ghost use Prim.Native.Nat.{ℕ, _+_, _*_, _-_, _≤_, _<_};
+ghost use lib.ListN.{length};
+ghost use lib.IntN.{ℤ, pos, natAbs};
+ghost use Rattle.laws.specs.Whole.{Within};
+ghost use Rattle.plane.specs.Rings.{most, x-at, y-at, held, near, near-first, all-near, narrow};
+ghost use Rattle.plane.specs.Areas.{sum-limit, east, north, edge-term, signed-sum, areaOf};
+
+// How far a vertex may lie from its ring's first, in x and in y.
+const REACH: i64 = 20_000_000;
+
+// The most vertices that a sheet gives a ring.
+const MOST: usize = 9999;
+
+pub enum Area {
+    // The doubled area, in square millimetres.
+    Doubled(i64),
+    // Refusal 17: a vertex lies too far from the ring's first.
+    Wide,
+    // The table holds no such ring.
+    Missing,
+}
+
+// Whether a and b are at most REACH apart. Their difference is only taken where it fits.
+fn within_reach(a: i64, b: i64) -> bool
+    ensures { λ r. ⌜ r ≡ near a b ⌝ }
+{
+    if a < 0 {
+        if a + REACH < b {
+            return false;
+        }
+        return a - b <= REACH;
+    }
+    if b < a - REACH {
+        return false;
+    }
+    b - a <= REACH
+}
+
+// The coordinates of vertex v of the table.
+fn x_of(points: &[i64], v: usize) -> i64
+    requires { ⌜ 2 * v + 1 < length (now points) ⌝ }
+    ensures { λ r. ⌜ r ≡ x-at (now (points .entry)) v ⌝ }
+{
+    points[2 * v]
+}
+
+fn y_of(points: &[i64], v: usize) -> i64
+    requires { ⌜ 2 * v + 1 < length (now points) ⌝ }
+    ensures { λ r. ⌜ r ≡ y-at (now (points .entry)) v ⌝ }
+{
+    points[2 * v + 1]
+}
+
+// Whether vertex k of the ring is near its first.
+fn is_near(points: &[i64], from: usize, k: usize) -> bool
+    requires { ⌜ 2 * (from + k) + 1 < length (now points) ⌝ }
+    ensures { λ r. ⌜ r ≡ near-first (now (points .entry)) from k ⌝ }
+{
+    if within_reach(x_of(points, from), x_of(points, from + k)) {
+        return within_reach(y_of(points, from), y_of(points, from + k));
+    }
+    false
+}
+
+// Whether the table holds a ring of `count` vertices from vertex `from` on: 1 to 9999 of them.
+pub fn is_ring(points: &[i64], from: usize, count: usize) -> bool
+    ensures { λ r. ⌜ r ≡ held (length (now (points .entry))) from count ⌝ }
+{
+    if count < 1 {
+        return false;
+    }
+    if MOST < count {
+        return false;
+    }
+    let room = points.len() / 2;
+    if room < from {
+        return false;
+    }
+    count <= room - from
+}
+
+// Whether the table holds such a ring, and each vertex of it is near its first: refusal 17 where the second fails.
+pub fn is_narrow(points: &[i64], from: usize, count: usize) -> bool
+    ensures { λ r. ⌜ r ≡ narrow (now (points .entry)) from count ⌝ }
+{
+    if !is_ring(points, from, count) {
+        return false;
+    }
+    let mut k = 0;
+    while k < count {
+        if !is_near(points, from, k) {
+            return false;
+        }
+        k += 1;
+    }
+    true
+}
+
+// Vertex k, taken from the ring's first.
+fn east_of(points: &[i64], from: usize, k: usize) -> i64
+    requires { ⌜ (2 * (from + k) + 1 < length (now points)) × (near-first (now points) from k ≡ true) ⌝ }
+    ensures { λ r. ⌜ r ≡ east (now (points .entry)) from k ⌝ }
+{
+    x_of(points, from + k) - x_of(points, from)
+}
+
+fn north_of(points: &[i64], from: usize, k: usize) -> i64
+    requires { ⌜ (2 * (from + k) + 1 < length (now points)) × (near-first (now points) from k ≡ true) ⌝ }
+    ensures { λ r. ⌜ r ≡ north (now (points .entry)) from k ⌝ }
+{
+    y_of(points, from + k) - y_of(points, from)
+}
+
+// What edge k, from vertex k to the next, adds to the signed sum.
+fn edge(points: &[i64], from: usize, k: usize) -> i64
+    requires { ⌜ (2 * (from + (k + 1)) + 1 < length (now points)) × (near-first (now points) from k ≡ true) × (near-first (now points) from (k + 1) ≡ true) ⌝ }
+    ensures { λ r. ⌜ r ≡ edge-term (now (points .entry)) from k ⌝ }
+{
+    let x1 = east_of(points, from, k);
+    let y1 = north_of(points, from, k);
+    let x2 = east_of(points, from, k + 1);
+    let y2 = north_of(points, from, k + 1);
+    x1 * y2 - x2 * y1
+}
+
+// The signed sum over the ring's edges: one less than its vertices, the last being the first again.
+fn sum_of(points: &[i64], from: usize, count: usize) -> i64
+    requires { ⌜ (1 ≤ count) × (count ≤ most) × (2 * (from + count) ≤ length (now points)) × (all-near (now points) from count ≡ true) ⌝ }
+    ensures { λ r. ⌜ (r ≡ signed-sum (now (points .entry)) from (count - 1)) × Within sum-limit r ⌝ }
+{
+    let mut s: i64 = 0;
+    let mut k = 0;
+    while k + 1 < count {
+        s += edge(points, from, k);
+        k += 1;
+    }
+    s
+}
+
+fn absolute(z: i64) -> i64
+    requires { ⌜ Within sum-limit z ⌝ }
+    ensures { λ r. ⌜ r ≡ pos (natAbs z) ⌝ }
+{
+    if z < 0 {
+        return 0 - z;
+    }
+    z
+}
+
+// The doubled area of the ring of `count` vertices from vertex `from` on.
+pub fn doubled_area(points: &[i64], from: usize, count: usize) -> Area
+    ensures { λ r. ⌜ r ≡ areaOf (now (points .entry)) from count ⌝ }
+{
+    if !is_ring(points, from, count) {
+        return Area::Missing;
+    }
+    if !is_narrow(points, from, count) {
+        return Area::Wide;
+    }
+    Area::Doubled(absolute(sum_of(points, from, count)))
+}
