@@ -1,0 +1,190 @@
+-- The ways through the functions that judge a row's own numbers, each with what the code has in hand there. Assumes nothing.
+use mathlib.Core.Path.{_≡_, refl, sym, _∙_}
+use mathlib.Core.List.{List, []}
+use mathlib.Core.Bool.{Bool, true, false, not, _&&_}
+use Prim.Native.Nat.{ℕ, _-_, _^_, _≤_, _<_}
+use native.Mathlib.Omega.{arith}
+use lib.ListN.{length, getD, List·getD-eq-default}
+use lib.Dec.{T}
+use lib.IntN.{ℤ, pos, negsuc, natAbs}
+use lib.Signed.{mag, ltZ, leZ, nonNeg}
+use mir.Syntax.{w64}
+use mir.Val.{Fits, SFits, toZ, ofZ}
+use mir.Facts.{toZ-ofZ}
+use borrow.Author.Tests.{eq-eqb, ne-eqb, le-leb, lt-leb, ltb-true, not-true, not-false}
+use Rattle.laws.specs.Lists.{below, holds}
+use Rattle.laws.specs.Whole.{eqZ}
+use Rattle.laws.proofs.Choice.{true≢false}
+use Rattle.laws.proofs.Parts.{le-not-lt}
+use Rattle.laws.proofs.Bits.{back, bits-yes, bits-no}
+use Rattle.laws.proofs.ListLaws.{below-on}
+use Rattle.number.specs.Number.{isReal}
+use Rattle.token.specs.declared.Want.{Want}
+use Rattle.token.specs.declared.Want.the-variants.{Key, Text, Int, Real}
+use Rattle.token.specs.Lex.{mayLieOutside}
+use Rattle.machine.specs.Rows.{rowWidth, schedule}
+use Rattle.machine.specs.Machine.{wantAt}
+use Rattle.made.specs.Made.{natOf, isBetween, inRange, hasField, isOutside, isCell, cellTest, areNumbers}
+
+-- a signed number in a local
+abbrev bits : ℤ → ℤ
+bits z = toZ w64 (ofZ w64 z)
+
+-- ---- a count
+
+module _ (z : ℤ) (f : SFits w64 z) where
+  held : bits z ≡ z
+  held = toZ-ofZ f
+
+  pub count-none : ltZ (bits z) (pos 0) ≡ true → 0 ≡ natOf z
+  count-none t = go z (rw held at t)
+    where
+      go : (y : ℤ) → ltZ y (pos 0) ≡ true → 0 ≡ natOf y
+      go (pos n) e = absurd (omega (arith, ltb-true n 0 e))
+      go (negsuc n) e = refl
+
+  module _ (t : ltZ (bits z) (pos 0) ≡ false) where
+    pub count-cast : T (nonNeg (bits z)) × Fits w64 (natAbs (bits z))
+    count-cast = rw held (go z f (rw held at t))
+      where
+        go : (y : ℤ) → SFits w64 y → ltZ y (pos 0) ≡ false → T (nonNeg y) × Fits w64 (natAbs y)
+        go (pos n) g e = (tt, record { fits = omega (arith, g .sfits) })
+        go (negsuc n) g e = absurd (true≢false e)
+
+    pub count-is : natAbs (bits z) ≡ natOf z
+    count-is = rw held (go z (rw held at t))
+      where
+        go : (y : ℤ) → ltZ y (pos 0) ≡ false → natAbs y ≡ natOf y
+        go (pos n) e = refl
+        go (negsuc n) e = absurd (true≢false e)
+
+pub ruleset count-ways = (count-none, count-is)
+
+pub count-past : (rows : List ℤ) (p : ℕ) → length rows ≤ p → 0 ≡ natOf (getD rows p (pos 0))
+count-past rows p h = rw (List·getD-eq-default rows (pos 0) {n = p} h)
+
+pub count-here : (rows : List ℤ) (p n : ℕ) → mag (getD rows p (pos 0)) < 2 ^ 63 → n ≡ natOf (bits (getD rows p (pos 0))) → n ≡ natOf (getD rows p (pos 0))
+count-here rows p n m q = rw (back (getD rows p (pos 0)) m) at q
+
+-- ---- a number within bounds
+
+module _ (least most z : ℤ) (f : SFits w64 least) (g : SFits w64 most) (h : SFits w64 z) where
+  from-least : (t : Bool) → ltZ (bits z) (bits least) ≡ t → leZ least z ≡ not t
+  from-least t e = le-not-lt least z t (rw (toZ-ofZ h, toZ-ofZ f) at e)
+
+  to-most : (t : Bool) → ltZ (bits most) (bits z) ≡ t → leZ z most ≡ not t
+  to-most t e = le-not-lt z most t (rw (toZ-ofZ h, toZ-ofZ g) at e)
+
+  pub between-low : ltZ (bits z) (bits least) ≡ true → false ≡ (leZ least z && leZ z most)
+  between-low e = rw (from-least true e)
+
+  module _ (e : ltZ (bits z) (bits least) ≡ false) where
+    pub between-high : ltZ (bits most) (bits z) ≡ true → false ≡ (leZ least z && leZ z most)
+    between-high u = rw (from-least false e, to-most true u)
+
+    pub between-in : ltZ (bits most) (bits z) ≡ false → true ≡ (leZ least z && leZ z most)
+    between-in u = rw (from-least false e, to-most false u)
+
+-- ---- a number by what is wanted
+
+module _ (want : Want) (z : ℤ) where
+  pub range-key : want ≡ Key → false ≡ inRange want z
+  unfolding inRange
+  range-key e = rw e
+
+  module _ (f : SFits w64 z) (r : Bool) where
+    pub range-text : want ≡ Text → r ≡ isBetween 1 255 (bits z) → r ≡ inRange want z
+    unfolding inRange
+    range-text e q = rw e (rw (toZ-ofZ f) at q)
+
+    pub range-int : want ≡ Int → r ≡ isBetween 0 9999 (bits z) → r ≡ inRange want z
+    unfolding inRange
+    range-int e q = rw e (rw (toZ-ofZ f) at q)
+
+    pub range-real : want ≡ Real → r ≡ isReal (bits z) → r ≡ inRange want z
+    unfolding inRange
+    range-real e q = rw e (rw (toZ-ofZ f) at q)
+
+pub ruleset range-ways = (range-key, range-text, range-int, range-real)
+
+-- ---- a number of a row
+
+module _ (z : ℤ) (f : SFits w64 z) where
+  is-0 : ofZ w64 z ≡ 0 → eqZ z (pos 0) ≡ true
+  is-0 = bits-yes z (pos 0) (toZ-ofZ f) refl
+
+  is-1 : ofZ w64 z ≡ 1 → eqZ z (pos 1) ≡ true
+  is-1 = bits-yes z (pos 1) (toZ-ofZ f) refl
+
+module _ (kind : ℕ) (z : ℤ) (f : SFits w64 z) where
+  pub outside-0 : ofZ w64 z ≡ 0 → true ≡ isOutside kind z
+  unfolding isOutside
+  outside-0 e = rw (is-0 z f e)
+
+  module _ (n : ofZ w64 z ≡ 0 → ⊥) where
+    pub outside-1 : ofZ w64 z ≡ 1 → (r : Bool) → r ≡ mayLieOutside kind → r ≡ isOutside kind z
+    unfolding isOutside
+    outside-1 e r q = rw (bits-no z (pos 0) n, is-1 z f e) q
+
+    pub outside-other : (ofZ w64 z ≡ 1 → ⊥) → false ≡ isOutside kind z
+    unfolding isOutside
+    outside-other e = rw (bits-no z (pos 0) n, bits-no z (pos 1) e)
+
+pub ruleset outside-ways = (outside-0, outside-1, outside-other)
+
+module _ (kind p : ℕ) (z : ℤ) (f : SFits w64 z) where
+  pub cell-kind : (r : Bool) → p ≡ 0 → r ≡ isBetween 1 5 (bits z) → r ≡ isCell kind p z
+  unfolding isCell
+  cell-kind r e q = rw (eq-eqb p 0 e) (rw (toZ-ofZ f) at q)
+
+  module _ (n : p ≡ 0 → ⊥) where
+    pub cell-outside : (r : Bool) → p ≡ 1 → r ≡ isOutside kind (bits z) → r ≡ isCell kind p z
+    unfolding isCell
+    cell-outside r e q = rw (ne-eqb p 0 n, eq-eqb p 1 e) (rw (toZ-ofZ f) at q)
+
+    module _ (m : p ≡ 1 → ⊥) (b : Bool) (h : b ≡ holds (getD schedule kind []) p) where
+      pub cell-field : b ≡ true → (w : Want) → w ≡ wantAt p → (r : Bool) → r ≡ inRange w (bits z) → r ≡ isCell kind p z
+      unfolding isCell hasField
+      cell-field t w v r q = rw (ne-eqb p 0 n, ne-eqb p 1 m, ← h, t, ← v) (rw (toZ-ofZ f) at q)
+
+      module _ (t : b ≡ false) where
+        pub cell-0 : ofZ w64 z ≡ 0 → true ≡ isCell kind p z
+        unfolding isCell hasField
+        cell-0 e = rw (ne-eqb p 0 n, ne-eqb p 1 m, ← h, t, is-0 z f e)
+
+        pub cell-other : (ofZ w64 z ≡ 0 → ⊥) → false ≡ isCell kind p z
+        unfolding isCell hasField
+        cell-other e = rw (ne-eqb p 0 n, ne-eqb p 1 m, ← h, t, bits-no z (pos 0) e)
+
+pub ruleset cell-ways = (cell-kind, cell-outside, cell-field, cell-0, cell-other)
+
+-- ---- the first row of some rows
+
+module _ (rows : List ℤ) where
+  pub numbers-short : length rows < rowWidth → false ≡ areNumbers rows
+  unfolding areNumbers
+  numbers-short h = rw (lt-leb rowWidth (length rows) h)
+
+  module _ (p : ℕ) (q : below rowWidth (cellTest rows) ≡ below p (cellTest rows)) where
+    numbers-are : rowWidth ≤ length rows → areNumbers rows ≡ below p (cellTest rows)
+    unfolding areNumbers
+    numbers-are l = rw (le-leb rowWidth (length rows) l) q
+
+    pub numbers-over : rowWidth ≤ length rows → p ≤ 0 → true ≡ areNumbers rows
+    unfolding below
+    numbers-over l h =
+        let z : p ≡ 0 = omega arith in
+        sym (numbers-are l ∙ rw z)
+
+    module _ (h : 0 < p) (kind : ℕ) (k : kind ≡ natOf (getD rows 0 (pos 0))) (m : mag (getD rows (p - 1) (pos 0)) < 2 ^ 63)
+        (r : Bool) (e : r ≡ isCell kind (p - 1) (bits (getD rows (p - 1) (pos 0)))) where
+      here : r ≡ cellTest rows (p - 1)
+      here = rw (k, back (getD rows (p - 1) (pos 0)) m) at e
+
+      pub numbers-step : not r ≡ false → below rowWidth (cellTest rows) ≡ below (p - 1) (cellTest rows)
+      numbers-step t = q ∙ below-on p (cellTest rows) h ∙ rw (← here, not-false r t)
+
+      pub numbers-stop : rowWidth ≤ length rows → not r ≡ true → false ≡ areNumbers rows
+      numbers-stop l t = sym (numbers-are l ∙ below-on p (cellTest rows) h ∙ rw (← here, not-true r t))
+
+pub ruleset number-ways = (numbers-short, numbers-over, numbers-step, numbers-stop)
