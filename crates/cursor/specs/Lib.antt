@@ -1,0 +1,2 @@
+-- The definitions of a cursor.
+pub mod Cursor
