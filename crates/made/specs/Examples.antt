@@ -20,7 +20,7 @@ use Rattle.made.specs.Made.{tablesOf, inRange, hasField, isOutside, isCe
 abbrev header : ℕ → Header
 header kind = record { kind = kind; name = text "Z999_000100"; scale = pos 1000000 }
 
--- a text `7` outside, a symbol of a code, a border of four vertices around nothing, and one with an island
+-- rows: a text that lies outside, a symbol of a code, a border; and a ring of four vertices, closed where `last` is 0
 abbrev label : List ℤ
 label = pos 2 ∷ pos 1 ∷ pos 0 ∷ pos 18 ∷ pos 0 ∷ pos 3000 ∷ negsuc 4 ∷ pos 0 ∷ pos 0 ∷ pos 1 ∷ pos 0 ∷ pos 0 ∷ []
 
@@ -39,7 +39,7 @@ judged : Mode → List ℤ → List ℕ → List ℕ → List ℤ → ℕ → Ve
 unfolding judgeOf isHeader isName allAt nameByte same judgeRows isMade areNumbers below isCell isOutside hasField inRange isReal wantAt mayLieOutside schedule holds areLetters all sum areCounts arePoints areReals isClosed areClosed ringSizes isCoded isListed codes
 judged mode rows letters islands points count = judgeOf mode (header 1) count (tablesOf rows letters islands points)
 
--- no row is well made, whatever the tables hold; the header is judged first
+-- a sheet of no rows is well made, whatever its tables hold; the header is judged first
 none : judged Exact (negsuc 0 ∷ []) (32 ∷ []) [] [] 0 ≡ Fine
 unfolding judged
 none = refl
