@@ -1,12 +1,13 @@
 -- A table over what stood there: all that storing needs. Assumes nothing.
 use mathlib.Core.Path.{_≡_, refl, sym, _∙_, ap, ap₂}
-use mathlib.Core.List.{List, [], _∷_, _++_, append-assoc}
+use mathlib.Core.List.{List, [], _∷_, _++_, append-assoc, append-nil}
 use Prim.Native.Nat.{ℕ, suc, _+_, _-_, _≤_, _<_}
 use native.Mathlib.Omega.{arith}
 use native.Mathlib.Numerals.{add-one}
 use lib.ListN.{length, take, drop, getD, set, length-append, length-set, length-drop}
-use lib.Seq.{paste, paste-zero, paste-suc, take-length, take-all, take-suc, set-at, set-split, drop-cons, drop-drop, set-append-left, take-append-seam, take-append-le, take-take, drop-at, drop-append-add, length-take-le}
-use Rattle.laws.specs.Lists.{over, pasted}
+use lib.Seq.{paste, paste-zero, paste-suc, take-length, take-all, take-suc, set-at, set-split, drop-cons, drop-drop, set-append-left, take-append-seam, take-append-le, take-take, take-at, drop-at, drop-append-add, length-take-le}
+use Rattle.laws.specs.Lists.{tail, over, pasted}
+use Rattle.laws.proofs.ListLaws.{rest-is, left-none}
 
 module _ {ℓ} {A : Type ℓ} where
   pub over-none : (l : List A) → l ≡ over [] l
@@ -82,3 +83,20 @@ module _ {ℓ} {A : Type ℓ} where
 
   pub over-whole : (s l : List A) (i : ℕ) → length s ≤ i → over (take i s) l ≡ over s l
   over-whole s l i h = rw (take-all i s h)
+
+  -- what is stored directly behind `xs`
+  pub pasted-behind : (l : List A) (i : ℕ) (xs ys : List A) → i + length xs ≤ length l
+      → pasted (pasted l i xs) (i + length xs) ys ≡ pasted l i (xs ++ ys)
+  pasted-behind l i xs ys h =
+      let r : List A = drop (i + length xs) l in
+      let n : length (take i l ++ xs) ≡ i + length xs = omega (arith, length-append (take i l) xs, length-take-le i l (omega arith)) in
+      let a : take (i + length xs) (take i l ++ xs ++ r) ≡ take i l ++ xs = take-at (take i l ++ xs) r (i + length xs) n in
+      let b : drop (i + length xs + length ys) (take i l ++ xs ++ r) ≡ drop (i + length xs + length ys) l
+      = ap (λ (k : ℕ). drop (k + length ys) (take i l ++ xs ++ r)) (sym n) ∙ drop-append-add (take i l ++ xs) r (length ys) ∙ drop-drop (length ys) (i + length xs) l in
+      let k : i + length xs + length ys ≡ i + length (xs ++ ys) = omega (arith, length-append xs ys) in
+      rw (a, b, k) (simp append-assoc)
+
+  -- what is stored at the start of the part `&mut l[i..]`
+  pub pasted-part : (l xs : List A) (i : ℕ) → take i l ++ (over xs (tail l i) ++ drop (length l - i) (drop i l)) ≡ pasted l i xs
+  pasted-part l xs i =
+      rw (rest-is l i, left-none (drop i l) (length l - i) (simp length-drop (omega arith)), append-nil, drop-drop (length xs) i l, append-assoc)

@@ -2,11 +2,12 @@
 use mathlib.Core.Path.{_≡_, refl, sym, _∙_, ap}
 use mathlib.Core.List.{List, []}
 use mathlib.Core.Bool.{Bool, true, false, not, _&&_}
-use Prim.Native.Nat.{ℕ, zero, suc, _+_, _-_, _*_, _^_, _≤_, _<_}
+use Prim.Native.Nat.{ℕ, zero, suc, _+_, _-_, _*_, _^_, _≤_, _<_, zero-le}
 use native.Mathlib.Omega.{arith}
 use lib.ListN.{length, getD, take}
 use lib.Dec.{leb, eqb}
 use lib.IntN.{ℤ, pos, negsuc}
+use lib.Signed.{leZ}
 use mir.Syntax.{w64}
 use mir.Val.{Fits}
 use borrow.Author.Tests.{leb-true, eqb-true, eqb-false, not-true, not-false}
@@ -16,10 +17,12 @@ use Rattle.laws.proofs.Choice.{and-left, and-right}
 use Rattle.laws.proofs.ListLaws.{below-at, part-count}
 use Rattle.record.specs.declared.Mode.{Mode}
 use Rattle.record.specs.declared.Mode.the-variants.{Loose, Exact}
+use Rattle.token.specs.declared.Want.the-variants.{Int}
 use Rattle.machine.specs.Rows.{rowWidth, codePlace, lettersPlace, islandsPlace, verticesPlace, schedule, isListed}
+use Rattle.machine.specs.Machine.{wantAt}
 use Rattle.sheet.specs.Tables.{Tables}
 use Rattle.made.specs.declared.Turn.the-variants.{Wrong, Strange, On}
-use Rattle.made.specs.Made.{tablesOf, natOf, countAt, kindOf, islandsOf, hasField, isCell, cellTest, areNumbers, areLetters, sum, fourAtLeast, areCounts, areReals, arePoints, isMade, isCoded}
+use Rattle.made.specs.Made.{tablesOf, natOf, countAt, kindOf, islandsOf, inRange, hasField, isCell, cellTest, areNumbers, areLetters, sum, fourAtLeast, areCounts, areReals, arePoints, isMade, isCoded}
 use Rattle.made.specs.Turn.{rowTurn}
 
 -- ---- what a row that is made holds
@@ -39,6 +42,11 @@ nought : (z : ℤ) → eqZ z (pos 0) ≡ true → natOf z ≡ 0
 nought (pos n) e = eqb-true n 0 e
 nought (negsuc n) e = refl
 
+at-most : (z : ℤ) → inRange Int z ≡ true → natOf z ≤ 9999
+unfolding inRange
+at-most (pos n) e = leb-true n 9999 (and-right (leZ (pos 0) (pos n)) (leZ (pos n) (pos 9999)) e)
+at-most (negsuc n) e = zero-le
+
 module _ (rows : List ℤ) (e : areNumbers rows ≡ true) where
   row-held : rowWidth ≤ length rows
   unfolding areNumbers
@@ -53,6 +61,12 @@ module _ (rows : List ℤ) (e : areNumbers rows ≡ true) where
   islands-none n =
       let c = cell-right islandsPlace (omega arith) in
       nought (getD rows islandsPlace (pos 0)) (rw (no-islands (natOf (getD rows 0 (pos 0))) n) at c)
+
+  vertices-most : natOf (getD rows 0 (pos 0)) ≡ 1 → natOf (getD rows verticesPlace (pos 0)) ≤ 9999
+  unfolding isCell hasField schedule holds inRange wantAt
+  vertices-most k =
+      let c = cell-right verticesPlace (omega arith) in
+      at-most (getD rows verticesPlace (pos 0)) (rw k at c)
 
 module _ (i v : ℕ) (s : List ℕ) (e : areCounts 1 i v s ≡ true) where
   abbrev enough : Bool
@@ -69,11 +83,13 @@ module _ (i v : ℕ) (s : List ℕ) (e : areCounts 1 i v s ≡ true) where
   border-islands =
       leb-true i (length s) (and-right enough (leb i (length s)) (and-left (enough && leb i (length s)) fours (and-left (enough && leb i (length s) && fours) outer e)))
 
-  border-sum : sum (take i s) ≤ v
+  border-fours : fours ≡ true
   unfolding areCounts
-  border-sum =
-      let h = leb-true (sum (take i s) + 4) v (and-right (enough && leb i (length s) && fours) outer e) in
-      omega arith
+  border-fours = and-right (enough && leb i (length s)) fours (and-left (enough && leb i (length s) && fours) outer e)
+
+  border-outer : sum (take i s) + 4 ≤ v
+  unfolding areCounts
+  border-outer = leb-true (sum (take i s) + 4) v (and-right (enough && leb i (length s) && fours) outer e)
 
 -- the code has tested the numbers and the counts
 module _ (rows : List ℤ) (islands : List ℕ) (a : Bool) (p : a ≡ areNumbers rows) (t : not a ≡ false) (kind i v : ℕ)
@@ -94,7 +110,9 @@ module _ (rows : List ℤ) (islands : List ℕ) (a : Bool) (p : a ≡ areNumbers
   made-islands = part-count i islands islands-in
 
   pub made-rest : kind ≡ 1 → sum (take i islands) ≤ v
-  made-rest e = border-sum i v islands (rw e at counted)
+  made-rest e =
+      let h = border-outer i v islands (rw e at counted) in
+      omega arith
 
 first-of : (a b c d : Bool) → (a && b && c && d) ≡ true → a ≡ true
 first-of a b c d e = and-left a b (and-left (a && b) c (and-left (a && b && c) d e))
@@ -105,6 +123,12 @@ pub record Held (t : Tables) : Type 0 where
   pub letters : countAt t lettersPlace ≤ length (t .letters)
   pub islands : countAt t islandsPlace ≤ length (t .islands)
   pub points : 2 * countAt t verticesPlace ≤ length (t .points)
+
+-- and a border's counts are right
+pub record Counted (t : Tables) : Type 0 where
+  pub vertices : countAt t verticesPlace ≤ 9999
+  pub islands : all fourAtLeast (islandsOf t) ≡ true
+  pub outer : sum (islandsOf t) + 4 ≤ countAt t verticesPlace
 
 module _ (t : Tables) (e : isMade t ≡ true) where
   abbrev N : Bool
@@ -153,6 +177,18 @@ module _ (t : Tables) (e : isMade t ≡ true) where
         islands = islands-in (t .rows) (t .islands) N refl (ap not N-right) (kindOf t) (countAt t islandsPlace) (countAt t verticesPlace) refl refl C refl (ap not C-right);
         points = points-in;
       }
+
+  module _ (k : kindOf t ≡ 1) where
+    counts-right : areCounts 1 (countAt t islandsPlace) (countAt t verticesPlace) (t .islands) ≡ true
+    counts-right = rw k at C-right
+
+    pub made-counted : Counted t
+    made-counted =
+        record {
+          vertices = vertices-most (t .rows) N-right k;
+          islands = border-fours (countAt t islandsPlace) (countAt t verticesPlace) (t .islands) counts-right;
+          outer = border-outer (countAt t islandsPlace) (countAt t verticesPlace) (t .islands) counts-right;
+        }
 
 -- ---- the row
 

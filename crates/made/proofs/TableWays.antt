@@ -75,7 +75,7 @@ module _ (s : List ℕ) (i : ℕ) (q : all fourAtLeast s ≡ all fourAtLeast (dr
 
 pub ruleset island-ways = (islands-over, islands-step, islands-stop)
 
-sum-on : (s : List ℕ) (i : ℕ) → i < length s → sum (drop i s) ≡ getD s i 0 + sum (drop (i + 1) s)
+pub sum-on : (s : List ℕ) (i : ℕ) → i < length s → sum (drop i s) ≡ getD s i 0 + sum (drop (i + 1) s)
 unfolding sum
 sum-on s i h = rw (left s i 0 h)
 

@@ -50,7 +50,7 @@ const ISLANDS_PLACE: usize = 10;
 
 const VERTICES_PLACE: usize = 11;
 
-fn wide(n: u16) -> usize
+pub fn wide(n: u16) -> usize
     ensures { λ r. ⌜ r ≡ n ⌝ }
 {
     n as usize
@@ -67,7 +67,7 @@ fn count_of(z: i64) -> usize
 }
 
 // The count at a place of the first row; past the end there is none.
-fn count_at(rows: &[i64], place: usize) -> usize
+pub fn count_at(rows: &[i64], place: usize) -> usize
     ensures { λ r. ⌜ r ≡ natOf (getD (now (rows .entry)) place (pos 0)) ⌝ }
 {
     if place >= rows.len() {
@@ -180,7 +180,7 @@ fn are_islands(s: &[u16]) -> bool
 }
 
 // The vertices that the islands leave for the outer ring; none where they are more.
-fn outer_of(v: usize, s: &[u16]) -> usize
+pub fn outer_of(v: usize, s: &[u16]) -> usize
     ensures { λ r. ⌜ r ≡ v - sum (now (s .entry)) ⌝ }
 {
     let mut rest = v;

@@ -4,7 +4,7 @@ use mathlib.Core.List.{List}
 use mathlib.Core.Bool.{Bool, true, false}
 use Prim.Native.Nat.{ℕ, zero, suc, _+_, _-_, _*_, _≤_, _<_}
 use native.Mathlib.Numerals.{add-one}
-use native.Mathlib.Nat.{le-refl, le-trans, mul-le-mul}
+use native.Mathlib.Nat.{le-refl, mul-le-mul}
 use native.Mathlib.Omega.{arith}
 use lib.ListN.{length}
 use lib.IntN.{ℤ, pos, natAbs, _+ℤ_}
@@ -65,12 +65,18 @@ module _ (ps : List ℤ) (from n : ℕ) where
       go true false e f = let r = area-wide e f in let z : _≡_ {A = ℕ} 0 1 = cc in absurd (omega arith)
       go true true e f = let r = area-doubled {d = pos (natAbs (signed-sum ps from (n - 1)))} e f refl in (refl, cc)
 
-  -- it is at most 9,998 times 800,000,000,000,000, and not below 0
-  pub area-bound : (d : ℤ) → areaOf ps from n ≡ Doubled d → Within sum-limit d × (leZ (pos 0) d ≡ true)
-  area-bound d q =
+  -- each edge adds at most `edge-limit`, and a ring of n vertices has n - 1; an area is not below 0
+  pub area-size : (d : ℤ) → areaOf ps from n ≡ Doubled d → (1 ≤ n) × Within ((n - 1) * edge-limit) d × (leZ (pos 0) d ≡ true)
+  area-size d q =
       let r = area-is d q in
       let h = held-has (length ps) from n (narrow-held ps from n (r .0)) in
       let w = sum-within ps from n (narrow-near ps from n (r .0)) (n - 1) (omega arith) in
+      (h .0, rw (r .1) (record { within = w .within }), rw (r .1) (le-leb 0 (natAbs (signed-sum ps from (n - 1))) (omega arith)))
+
+  -- so it is at most 9,998 times 800,000,000,000,000
+  pub area-bound : (d : ℤ) → areaOf ps from n ≡ Doubled d → Within sum-limit d × (leZ (pos 0) d ≡ true)
+  area-bound d q =
+      let r = area-size d q in
+      let h = held-has (length ps) from n (narrow-held ps from n (area-is d q .0)) in
       let f : n - 1 ≤ most - 1 = omega arith in
-      let l : natAbs (signed-sum ps from (n - 1)) ≤ sum-limit = le-trans (w .within) (mul-le-mul f (le-refl edge-limit)) in
-      rw (r .1) (record { within = l }, le-leb 0 (natAbs (signed-sum ps from (n - 1))) (omega arith))
+      (within-le (mul-le-mul f (le-refl edge-limit)) (r .1), r .2)

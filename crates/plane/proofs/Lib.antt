@@ -2,4 +2,6 @@
 mod Apart
 pub mod RingLaws
 pub mod AreaLaws
+mod AlikeLaws
 pub mod MovedLaws
+pub mod OwnLaws

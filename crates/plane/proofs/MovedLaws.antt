@@ -1,26 +1,20 @@
 -- The doubled area does not depend on where the ring lies: `area-moved`. Assumes nothing.
 use mathlib.Core.Path.{_≡_, refl, ap}
 use mathlib.Core.List.{List, [], _∷_}
-use mathlib.Core.Bool.{Bool, true, false, _&&_}
-use Prim.Native.Nat.{ℕ, zero, suc, _+_, _-_, _*_, _≤_, _<_}
+use Prim.Native.Nat.{ℕ, zero, suc, _+_, _*_, _<_}
 use native.Mathlib.Omega.{arith}
-use lib.Dec.{leb}
 use lib.ListN.{length}
-use lib.IntN.{ℤ, natAbs, _+ℤ_, _-ℤ_}
+use lib.IntN.{ℤ, _+ℤ_, _-ℤ_}
 use Rattle.laws.proofs.Parts.{num, sum, diff, eq-parts}
-use Rattle.plane.specs.Rings.{reach, x-at, y-at, held, near, near-first, all-near, narrow}
-use Rattle.plane.specs.Areas.{east, north, edge-term, signed-sum, areaOf}
+use Rattle.plane.specs.Rings.{x-at, y-at}
+use Rattle.plane.specs.Areas.{east, north, areaOf}
 use Rattle.plane.specs.Moved.{moved}
 use Rattle.plane.proofs.RingLaws.{held-has}
+use Rattle.plane.proofs.AlikeLaws.{area-alike}
 
 diff-moved : (a b d : ℤ) → (a +ℤ d) -ℤ (b +ℤ d) ≡ a -ℤ b
 diff-moved a b d =
     eq-parts ((a +ℤ d) -ℤ (b +ℤ d)) (a -ℤ b) (omega (arith, num a, num b, num d, sum a d, sum b d, diff a b, diff (a +ℤ d) (b +ℤ d)))
-
--- nearness is one of the differences alone
-near-by : (ps : List ℤ) (from k : ℕ) → near-first ps from k ≡ (leb (natAbs (east ps from k)) reach && leb (natAbs (north ps from k)) reach)
-unfolding near-first near east north
-near-by ps from k = refl
 
 module _ (dx dy : ℤ) where
   length-moved : (ps : List ℤ) → length (moved dx dy ps) ≡ length ps
@@ -56,26 +50,7 @@ module _ (dx dy : ℤ) where
     unfolding north
     north-moved k h = simp (y-moved ps (from + k) h, y-moved ps from (omega arith)) (diff-moved (y-at ps (from + k)) (y-at ps from) dy)
 
-    near-moved : (k : ℕ) → 2 * (from + k) + 1 < length ps → near-first (moved dx dy ps) from k ≡ near-first ps from k
-    near-moved k h = rw (near-by (moved dx dy ps) from k, near-by ps from k, east-moved k h, north-moved k h)
-
-    all-near-moved : (n : ℕ) → 2 * (from + n) ≤ length ps → all-near (moved dx dy ps) from n ≡ all-near ps from n
-    unfolding all-near
-    all-near-moved zero h = refl
-    all-near-moved (suc n) h = simp (all-near-moved n (omega arith), near-moved n (omega arith))
-
-    sum-moved : (e : ℕ) → 2 * (from + e) + 1 < length ps → signed-sum (moved dx dy ps) from e ≡ signed-sum ps from e
-    unfolding signed-sum edge-term
-    sum-moved zero h = refl
-    sum-moved (suc e) h =
-        simp (sum-moved e (omega arith), east-moved e (omega arith), north-moved e (omega arith), east-moved (e + 1) (omega arith), north-moved (e + 1) (omega arith))
-
     pub area-moved : (n : ℕ) → areaOf (moved dx dy ps) from n ≡ areaOf ps from n
-    unfolding areaOf narrow
-    area-moved n = go (held (length ps) from n) refl
-      where
-        go : (t : Bool) → held (length ps) from n ≡ t → areaOf (moved dx dy ps) from n ≡ areaOf ps from n
-        go true e =
-            let h = held-has (length ps) from n e in
-            simp (length-moved ps, e, all-near-moved n (h .2), sum-moved (n - 1) (omega arith))
-        go false e = simp (length-moved ps, e)
+    area-moved n =
+        area-alike (moved dx dy ps) ps from from n (rw (length-moved ps))
+        (λ e k l. let h = held-has (length ps) from n e in (east-moved k (omega arith), north-moved k (omega arith)))

@@ -9,7 +9,7 @@ use Rattle.record.specs.Refusals.{fileMost}
 use Rattle.machine.specs.declared.State.the-variants.{Due}
 use Rattle.sheet.specs.Tables.{Tables, empty, put}
 use Rattle.sheet.specs.Reading.{Sections, read, stop, walkFrom}
-use Rattle.reader.specs.Turn.{standAt, turnOf, Within}
+use Rattle.reader.specs.Turn.{standAt, turnOf, Within, Turns}
 use Rattle.reader.specs.Read.{needsOf, judgedOf}
 use Rattle.reader.specs.declared.Needs.{Needs}
 use Rattle.reader.specs.declared.Stand.{Stand}
@@ -17,6 +17,7 @@ use Rattle.reader.specs.declared.Turn.{Turn}
 use Rattle.reader.specs.declared.Judged.{Judged}
 use Rattle.reader.specs.declared.Judged.the-variants as Judged
 use Rattle.reader.proofs.Standing.{At, Moved, TurnOk, turn-ok}
+use Rattle.reader.proofs.Running.{Reached, turns-reach}
 
 -- where the sections begin nothing is read
 pub at-start : (mode : Mode) (s : List ℕ) (start : ℕ) → start ≤ length s → length s ≤ fileMost → At mode s (walkFrom mode s start) empty (standAt start)
@@ -38,6 +39,17 @@ module _ (mode : Mode) (s : List ℕ) (target : Sections) (o : Tables) (d : Stan
 
   pub at-on : (d′ : Stand) (t len : ℕ) → r ≡ Turn.On d′ t len → Moved mode s target o d d′ t len
   at-on d′ t len e = subst (TurnOk mode s target o d) e turn-is
+
+  -- a turn, and those behind it
+  pub at-past : (d′ : Stand) (t len : ℕ) → r ≡ Turn.On d′ t len → (e : Stand) → Turns mode s d′ e → Reached mode s target (d .at + 1) e
+  at-past d′ t len q e p =
+      let m = at-on d′ t len q in
+      let b = turns-reach (m .then) p in
+      record { tables = b .tables; stands = b .stands; past-it = omega (arith, b .past-it, m .on) }
+
+  -- the places behind a record are fewer
+  pub past-less : (d′ : Stand) (t len : ℕ) → r ≡ Turn.On d′ t len → (e : Stand) → Turns mode s d′ e → length s - e .at < length s - d .at
+  past-less d′ t len q e p = let b = at-past d′ t len q e p in omega (arith, b .past-it, b .stands .within .here)
 
   -- the places behind a record are fewer
   pub at-less : (d′ : Stand) (t len : ℕ) → r ≡ Turn.On d′ t len → length s - d′ .at < length s - d .at

@@ -1,20 +1,26 @@
 -- What a record stores in the tables that are lent. Assumes nothing: these are definitions.
 use Prim.Native.Nat.{ℕ, _+_, _-_, _*_, _≤_, _<_}
+use mathlib.Core.Path.{_≡_}
 use mathlib.Core.List.{List, [], _∷_, _++_}
 use mathlib.Core.Bool.{Bool, true, false, cond}
 use lib.ListN.{length, set}
 use lib.Dec.{eqb}
 use lib.IntN.{ℤ, pos}
 use Rattle.laws.specs.Lists.{pasted}
+use Rattle.record.specs.declared.Mode.{Mode}
 use Rattle.number.specs.Words.{trimmed}
 use Rattle.token.specs.Lex.{unlift}
+use Rattle.quick.specs.Seen.{RealAt}
 use Rattle.machine.specs.Rows.{rowWidth, lettersPlace}
 use Rattle.machine.specs.Machine.{wantAt}
 use Rattle.machine.specs.declared.State.{State}
 use Rattle.machine.specs.declared.State.the-variants.{Due, Field, Island, X, Y}
 use Rattle.sheet.specs.Tables.{Tables, empty, newRow, cellOf}
 use Rattle.sheet.specs.Reading.{Sections, read, stop}
+use Rattle.reader.specs.Turn.{turnOf}
 use Rattle.reader.specs.declared.Needs.{Needs}
+use Rattle.reader.specs.declared.Stand.{Stand}
+use Rattle.reader.specs.declared.Turn.{Turn}
 
 -- no token is larger: the largest real, lifted
 abbrev pub tokenMost : ℕ
@@ -75,3 +81,24 @@ abbrev pub Room : Sections → ℕ → ℕ → ℕ → ℕ → Type 0
 Room (read o eof) rows letters islands points =
     (length (o .rows) ≤ rows) × (length (o .letters) ≤ letters) × (length (o .islands) ≤ islands) × (length (o .points) ≤ points)
 Room (stop m k at) rows letters islands points = ⊥
+
+-- ---- a run of vertices
+
+-- k vertices from `at` up to a place, stored into a table that has `from` points before them
+pub data Stored (mode : Mode) (s : List ℕ) (at from : ℕ) (l : List ℤ) : ℕ → ℕ → List ℤ → Type 0 where
+  none : Stored mode s at from l 0 at l
+  more : {k a w x w′ y : ℕ} {m : List ℤ} → Stored mode s at from l k a m → RealAt mode s a w x → RealAt mode s (a + w) w′ y
+      → Stored mode s at from l (k + 1) (a + w + w′) (set (set m (2 * (from + k)) (unlift x)) (2 * (from + k) + 1) (unlift y))
+
+abbrev pub AtVertex : State → Type 0
+AtVertex Due = ⊥
+AtVertex (Field k p i) = ⊥
+AtVertex (Island l s r) = ⊥
+AtVertex (X r) = Unit {0}
+AtVertex (Y r x) = Unit {0}
+
+-- turns at vertices, and what they leave in the table of points
+pub data Stores (mode : Mode) (s : List ℕ) (d : Stand) (l : List ℤ) : Stand → List ℤ → Type 0 where
+  still : Stores mode s d l d l
+  on : {e f : Stand} {m : List ℤ} {t len : ℕ} → Stores mode s d l e m → AtVertex (e .state) → turnOf mode s e ≡ Turn.On f t len
+      → Stores mode s d l f (pointsPut (e .state) t (e .needs) m)

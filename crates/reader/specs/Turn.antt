@@ -1,5 +1,6 @@
 -- One turn of a walk over the records, as the reader makes it: what is kept is the needs, not the tables. Assumes nothing: these are definitions.
-use Prim.Native.Nat.{ℕ, _+_, _≤_, _<_}
+use Prim.Native.Nat.{ℕ, _+_, _-_, _*_, _≤_, _<_}
+use mathlib.Core.Path.{_≡_}
 use mathlib.Core.List.{List, [], _∷_}
 use mathlib.Core.Bool.{Bool, true, false, cond, not, _&&_}
 use lib.ListN.{length, take, drop}
@@ -13,6 +14,7 @@ use Rattle.number.specs.declared.Whole.{Whole}
 use Rattle.number.specs.Number.{integerOf}
 use Rattle.machine.specs.Rows.{lettersPlace}
 use Rattle.machine.specs.Machine.{oneOf}
+use Rattle.machine.specs.declared.Ring.{Ring}
 use Rattle.machine.specs.declared.State.{State}
 use Rattle.machine.specs.declared.State.the-variants.{Due, Field, Island, X, Y}
 use Rattle.machine.specs.declared.One.{One}
@@ -108,3 +110,20 @@ pub record Within (bs : List ℕ) (s : Stand) : Type 0 where
   pub letters : s .needs .letters ≤ s .at
   pub islands : s .needs .islands ≤ s .at
   pub points : s .needs .points ≤ s .at
+
+-- ---- many turns
+
+pub data Turns (mode : Mode) (s : List ℕ) (d : Stand) : Stand → Type 0 where
+  still : Turns mode s d d
+  on : {e f : Stand} {t len : ℕ} → Turns mode s d e → turnOf mode s e ≡ Turn.On f t len → Turns mode s d f
+
+-- k vertices further in a ring, at a place
+abbrev pub past : Stand → Ring → ℕ → ℕ → Stand
+past d r k at =
+    record {
+      state = X (record { closed = r .closed; fresh = false; rings = r .rings; left = r .left - k; fx = r .fx; fy = r .fy });
+      at = at;
+      nth = d .nth + 2 * k;
+      ring = d .ring;
+      needs = record { rows = d .needs .rows; letters = d .needs .letters; islands = d .needs .islands; points = d .needs .points + k };
+    }

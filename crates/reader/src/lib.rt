@@ -3,7 +3,7 @@
 // part no table is altered. There is no scratch array: the size of a ring is read again from the file when the one before it ends.
 ghost use mathlib.Core.Path.{_≡_};
 ghost use mathlib.Core.Bool.{cond};
-ghost use Prim.Native.Nat.{_+_, _/_, _%_, _<_, _≤_};
+ghost use Prim.Native.Nat.{_+_, _*_, _/_, _%_, _<_, _≤_};
 ghost use lib.ListN.{length, set};
 ghost use lib.Dec.{eqb};
 ghost use lib.IntN.{pos};
@@ -15,13 +15,14 @@ ghost use Rattle.token.specs.Lex.{unlift};
 ghost use Rattle.machine.specs.Machine.{wantAt};
 ghost use Rattle.sheet.specs.Tables.{newRow, cellOf};
 ghost use Rattle.sheet.specs.Reading.{walkFrom, reading};
-ghost use Rattle.reader.specs.Turn.{sizeOf, isTurning, sizeNext, islNext, Few, added, closing, turnOf, standAt, Within};
-ghost use Rattle.reader.specs.Store.{tokenMost, IslandToken, rowsPut, lettersPut, islandsPut, pointsPut, PutRoom, tablesOf, Room};
+ghost use Rattle.reader.specs.Turn.{sizeOf, isTurning, sizeNext, islNext, Few, added, closing, turnOf, standAt, Within, Turns, past};
+ghost use Rattle.reader.specs.Store.{tokenMost, IslandToken, rowsPut, lettersPut, islandsPut, pointsPut, PutRoom, tablesOf, Room, Stored, Stores};
 ghost use Rattle.reader.specs.Read.{judgedOf, Rooms, roomsOf, holdsAll, refusedWith, readOf, tablesIn, written};
 use header::Ahead;
 use header::Header;
 use header::header_at;
 use machine::One;
+use machine::Ring;
 use machine::State;
 use machine::one_at;
 use machine::want_at;
@@ -29,6 +30,9 @@ use number::Whole;
 use number::Word;
 use number::integer;
 use number::word_of;
+use quick::Run;
+use quick::real_at;
+use quick::vertices;
 use record::FILE_MOST;
 use record::Line;
 use record::Mode;
@@ -311,6 +315,80 @@ fn first_stand(start: usize) -> Stand
     }
 }
 
+// A stand in a ring, `k` vertices further.
+fn past_at(d: Stand, r: Ring, k: usize, at: usize) -> Stand
+    requires { ⌜ (k ≤ r .left) × (d .nth + 2 * k < 18446744073709551616) × (d .needs .points + k < 18446744073709551616) ⌝ }
+    ensures { λ e. ⌜ e ≡ past d r k at ⌝ }
+{
+    let nth = d.nth;
+    let ring = d.ring;
+    let needs = d.needs;
+    let left = r.left;
+    let closed = r.closed;
+    let rings = r.rings;
+    let fx = r.fx;
+    let fy = r.fy;
+    let rows = needs.rows;
+    let letters = needs.letters;
+    let islands = needs.islands;
+    let points = needs.points;
+    Stand {
+        state: State::X(Ring {
+            closed,
+            fresh: false,
+            rings,
+            left: left - k,
+            fx,
+            fy,
+        }),
+        at,
+        nth: nth + 2 * k,
+        ring,
+        needs: Needs {
+            rows,
+            letters,
+            islands,
+            points: points + k,
+        },
+    }
+}
+
+// Over the vertices of a ring that stand in the usual form, at once; not over its first, nor its last.
+fn skim(src: &[u8], mode: Mode, d: Stand) -> Stand
+    requires { ⌜ Within (now src) d ⌝ }
+    ensures { λ e. ⌜ Turns mode (now (src .entry)) d e ⌝ }
+{
+    let st = d.state;
+    match st {
+        State::Due => d,
+        State::Field {
+            kind: _,
+            place: _,
+            islands: _,
+        } => d,
+        State::Island {
+            left: _,
+            spare: _,
+            rings: _,
+        } => d,
+        State::Y(_, _) => d,
+        State::X(r) => {
+            let fresh = r.fresh;
+            let left = r.left;
+            if fresh {
+                return d;
+            }
+            if left < 2 {
+                return d;
+            }
+            let run = vertices(src, d.at, mode, left - 1);
+            let count = run.count;
+            let next = run.next;
+            past_at(d, r, count, next)
+        }
+    }
+}
+
 // The sections, which begin at `start`, are judged, and what they need is counted.
 fn judge(src: &[u8], mode: Mode, start: usize) -> Judged
     requires { ⌜ (start ≤ length (now src)) × (length (now src) ≤ fileMost) ⌝ }
@@ -324,7 +402,7 @@ fn judge(src: &[u8], mode: Mode, start: usize) -> Judged
                 stand,
                 token: _,
                 len: _,
-            } => d = stand,
+            } => d = skim(src, mode, stand),
             Turn::Refused {
                 number,
                 record,
@@ -470,6 +548,91 @@ fn store(
     }
 }
 
+// At most so many vertices from a place on, as many as stand there in the usual form, stored behind `from` points.
+fn store_run(src: &[u8], at: usize, mode: Mode, most: usize, points: &mut [i64], from: usize) -> Run
+    ensures { λ r. ⌜ (r .count ≤ most) × Stored mode (now (src .entry)) at from (now (points .entry)) (r .count) (r .next) (now (points .exit)) ⌝ }
+{
+    let half = points.len() / 2;
+    let mut k = 0;
+    let mut here = at;
+    if half < from {
+        return Run {
+            count: k,
+            next: here,
+        };
+    }
+    let room = half - from;
+    while k < most {
+        if k >= room {
+            return Run {
+                count: k,
+                next: here,
+            };
+        }
+        let x = real_at(src, here, mode);
+        if x == 0 {
+            return Run {
+                count: k,
+                next: here,
+            };
+        }
+        let mid = here + x % 16;
+        let y = real_at(src, mid, mode);
+        if y == 0 {
+            return Run {
+                count: k,
+                next: here,
+            };
+        }
+        let p = 2 * (from + k);
+        put_real(points, p, x / 16);
+        put_real(points, p + 1, y / 16);
+        here = mid + y % 16;
+        k += 1;
+    }
+    Run {
+        count: k,
+        next: here,
+    }
+}
+
+// As `skim` goes, with the points stored.
+fn run_into(src: &[u8], mode: Mode, d: Stand, points: &mut [i64]) -> Stand
+    requires { ⌜ Within (now src) d ⌝ }
+    ensures { λ e. ⌜ Stores mode (now (src .entry)) d (now (points .entry)) e (now (points .exit)) ⌝ }
+{
+    let st = d.state;
+    let needs = d.needs;
+    match st {
+        State::Due => d,
+        State::Field {
+            kind: _,
+            place: _,
+            islands: _,
+        } => d,
+        State::Island {
+            left: _,
+            spare: _,
+            rings: _,
+        } => d,
+        State::Y(_, _) => d,
+        State::X(r) => {
+            let fresh = r.fresh;
+            let left = r.left;
+            if fresh {
+                return d;
+            }
+            if left < 2 {
+                return d;
+            }
+            let run = store_run(src, d.at, mode, left - 1, points, needs.points);
+            let count = run.count;
+            let next = run.next;
+            past_at(d, r, count, next)
+        }
+    }
+}
+
 // The second pass: the records are read again, and stored.
 fn fill(
     src: &[u8],
@@ -505,7 +668,7 @@ fn fill(
                     islands,
                     points,
                 );
-                d = stand;
+                d = run_into(src, mode, stand, points);
             }
             Turn::Refused {
                 number: _,

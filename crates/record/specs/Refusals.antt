@@ -49,6 +49,9 @@ notMade = 15
 abbrev pub tooWide : ℕ
 tooWide = 17
 
+abbrev pub pastLimit : ℕ
+pastLimit = 18
+
 abbrev pub noSuch : ℕ
 noSuch = 19
 

@@ -24,3 +24,15 @@ pub const COUNT: usize = 11;
 pub const OPEN_RING: usize = 12;
 
 pub const AFTER_EOF: usize = 13;
+
+pub const NO_ROOM: usize = 14;
+
+pub const NOT_MADE: usize = 15;
+
+pub const TOO_WIDE: usize = 17;
+
+pub const PAST_LIMIT: usize = 18;
+
+pub const NO_SUCH: usize = 19;
+
+pub const OFF_TILE: usize = 20;

@@ -2,10 +2,10 @@
 use Prim.Native.Nat.{ℕ, suc, _+_, _-_, _/_, _%_, _^_, _≤_, _<_, zero-le}
 use mathlib.Core.Path.{_≡_, refl, sym, _∙_, ap}
 use mathlib.Core.List.{List, [], _∷_, _++_, append-assoc, append-nil}
-use mathlib.Core.Bool.{Bool, true, false, _&&_}
+use mathlib.Core.Bool.{Bool, true, false, cond, _&&_}
 use native.Mathlib.Omega.{arith}
 use lib.ListN.{length, getD, take, drop, set, replicate, length-append, length-set, length-replicate, replicate-append-replicate, drop-of-length-le}
-use lib.Seq.{take-at, sets-eq, length-take-le}
+use lib.Seq.{take-at, drop-at, take-length, sets-eq, length-take-le}
 use lib.Dec.{T, leb}
 use lib.IntN.{ℤ, pos, negsuc, negℤ, natAbs, _-ℤ_, +ℤ-idl}
 use lib.Signed.{ltZ, leZ, nonNeg}
@@ -17,7 +17,7 @@ use Rattle.laws.specs.Lists.{over, pasted}
 use Rattle.laws.proofs.Choice.{false≢true}
 use Rattle.laws.proofs.TableLaws.{pasted-none, pasted-front, pasted-before, pasted-one, length-pasted, length-over, over-next, over-whole}
 use Rattle.number.specs.Number.{isReal}
-use Rattle.spelling.specs.Spelling.{digits, places, aligned, integerText, minus, decimal, realText}
+use Rattle.spelling.specs.Spelling.{digits, places, countText, aligned, integerText, minus, decimal, realText}
 use Rattle.spelling.proofs.DigitLaws.{digits-few, digits-more, shorter}
 use Rattle.spelling.proofs.SpellingLaws.{body-length, decimal-length, in-plus, in-minus}
 
@@ -196,6 +196,14 @@ pub integer-made : (v r : ℕ) (text : List ℕ) → (r + length (digits 4 v) �
 unfolding integerText
 integer-made v r text e = e .1 ∙ aligned-put 4 r (digits 4 v) (e .0)
 
+-- digits at the end of an array are the part from their start on
+part-made : (w r : ℕ) (s text : List ℕ) → r + length s ≡ w → text ≡ pasted (blanks w) r s → take (w - r) (drop r text) ≡ s
+part-made w r s text e q =
+    let n : length (take r (blanks w)) ≡ r = length-take-le r (blanks w) (omega (arith, length-replicate {A = ℕ} w 32)) in
+    let z : drop (r + length s) (blanks w) ≡ [] = drop-of-length-le (blanks w) {i = r + length s} (omega (arith, length-replicate {A = ℕ} w 32)) in
+    let k : w - r ≡ length s = omega arith in
+    rw (q, z, k, append-nil, drop-at (take r (blanks w)) s r n) (take-length s)
+
 -- a sign finds room before the digits
 sign-room : (z : ℤ) → isReal z ≡ true → length (minus z) + length (digits 8 (natAbs z / 1000)) ≤ 8
 sign-room z h = omega (arith, body-length z h, length-append (minus z) (decimal (natAbs z)), decimal-length (natAbs z))
@@ -271,3 +279,21 @@ module _ (z : ℤ) (n : ℕ) (f : SFits w64 z) (r : Bool) (e : r ≡ isReal (toZ
 
   pub real-done : r ≡ true → 12 ≤ n → true ≡ (isReal z && leb 12 n)
   real-done x k = rw (← real-is, x, le-leb 12 n k)
+
+module _ (v r : ℕ) (text : List ℕ) (e : (r + length (digits 20 v) ≡ 20) × (text ≡ pasted (blanks 20) r (digits 20 v))) (l : List ℕ) where
+  count-size : 20 - r ≡ length (countText v)
+  unfolding countText
+  count-size = omega (arith, e .0)
+
+  abbrev fits : Bool
+  fits = leb (length (countText v)) (length l)
+
+  pub count-tight : length l < 20 - r → (0 ≡ cond fits (length (countText v)) 0) × (l ≡ cond fits (over (countText v) l) l)
+  count-tight h = rw (lt-leb (length (countText v)) (length l) (omega (arith, count-size))) (refl, refl)
+
+  pub count-done : (d : List ℕ) → 20 - r ≤ length l → d ≡ over (take (20 - r) (drop r text)) l
+      → (20 - r ≡ cond fits (length (countText v)) 0) × (d ≡ cond fits (over (countText v) l) l)
+  unfolding countText
+  count-done d h q =
+      rw (le-leb (length (countText v)) (length l) (omega (arith, count-size)))
+      (count-size, q ∙ rw (part-made 20 r (digits 20 v) text (e .0) (e .1)))

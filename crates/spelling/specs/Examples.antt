@@ -1,8 +1,8 @@
--- Numbers of document 01 as exact mode has them, computed.
+-- Numbers of document 01 as exact mode and the listing have them, computed.
 use mathlib.Core.Path.{_≡_, refl}
 use mathlib.Core.List.{[], _∷_}
 use lib.IntN.{pos, negℤ}
-use Rattle.spelling.specs.Spelling.{digits, places, aligned, integerText, minus, decimal, realText}
+use Rattle.spelling.specs.Spelling.{digits, places, countText, aligned, integerText, minus, decimal, realText}
 
 -- `   0`
 nought : integerText 0 ≡ 32 ∷ 32 ∷ 32 ∷ 48 ∷ []
@@ -38,3 +38,12 @@ real-least = refl
 real-most : realText (pos 99999999999) ≡ 57 ∷ 57 ∷ 57 ∷ 57 ∷ 57 ∷ 57 ∷ 57 ∷ 57 ∷ 46 ∷ 57 ∷ 57 ∷ 57 ∷ []
 unfolding realText aligned minus decimal digits places
 real-most = refl
+
+-- `0` and `400000000`, as they are listed
+listed-nought : countText 0 ≡ 48 ∷ []
+unfolding countText digits
+listed-nought = refl
+
+listed-area : countText 400000000 ≡ 52 ∷ 48 ∷ 48 ∷ 48 ∷ 48 ∷ 48 ∷ 48 ∷ 48 ∷ 48 ∷ []
+unfolding countText digits
+listed-area = refl

@@ -17,6 +17,10 @@ integerWidth = 4
 abbrev pub realWidth : ℕ
 realWidth = 12
 
+-- the digits that a number of 64 bits has at most
+abbrev pub countWidth : ℕ
+countWidth = 20
+
 -- the digits of n, at most w of them, no zero in front except for 0 itself
 unfoldable pub digits : ℕ → ℕ → List ℕ
 digits zero n = []
@@ -26,6 +30,10 @@ digits (suc w) n = cond (ltb n 10) ((48 + n) ∷ []) (digits w (n / 10) ++ (48 +
 unfoldable pub places : ℕ → ℕ → List ℕ
 places zero n = []
 places (suc w) n = places w (n / 10) ++ (48 + n % 10) ∷ []
+
+-- a number as it is listed: no zero in front except for 0 itself
+unfoldable pub countText : ℕ → List ℕ
+countText n = digits countWidth n
 
 -- right aligned with blanks, w characters
 unfoldable pub aligned : ℕ → List ℕ → List ℕ

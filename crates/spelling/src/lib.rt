@@ -1,4 +1,5 @@
 // A number as exact mode has it (document 01, "Records"): the 4 characters of an integer, the 12 of a real.
+// And as the listing has it ("Listing program"): its digits alone.
 // All of it is proved, and no public function has a `requires`: a value out of range, or too little room, alters nothing.
 ghost use mathlib.Core.Path.{_≡_};
 ghost use mathlib.Core.Bool.{true, cond, _&&_};
@@ -9,7 +10,7 @@ ghost use lib.Dec.{leb};
 ghost use lib.IntN.{natAbs};
 ghost use Rattle.laws.specs.Lists.{over, pasted};
 ghost use Rattle.number.specs.Number.{isReal};
-ghost use Rattle.spelling.specs.Spelling.{integerMost, integerWidth, realWidth, digits, places, integerText, minus, realText};
+ghost use Rattle.spelling.specs.Spelling.{integerMost, integerWidth, realWidth, digits, places, countText, integerText, minus, realText};
 
 const INTEGER_MOST: usize = 9999;
 
@@ -20,6 +21,8 @@ const REAL_LEAST: i64 = -9_999_999_999;
 const REAL_MOST: i64 = 99_999_999_999;
 
 const REAL_WIDTH: usize = 12;
+
+const COUNT_WIDTH: usize = 20;
 
 // The last digit of a number, as a character.
 fn glyph(n: usize) -> u8
@@ -156,4 +159,20 @@ pub fn spell_real(value: i64, out: &mut [u8]) -> bool
         return true;
     }
     false
+}
+
+// How many digits of a number now stand at the start of `out`, with no zero in front except for 0 itself;
+// 0, and `out` as it was, where it is shorter.
+pub fn spell_count(value: usize, out: &mut [u8]) -> usize
+    ensures { λ r. ⌜ r ≡ cond (leb (length (countText value)) (length (now (out .entry)))) (length (countText value)) 0 ⌝ }
+    ensures { λ _. ⌜ now (out .exit) ≡ cond (leb (length (countText value)) (length (now (out .entry)))) (over (countText value) (now (out .entry))) (now (out .entry)) ⌝ }
+{
+    let mut text = [b' '; COUNT_WIDTH];
+    let at = put_digits(&mut text, COUNT_WIDTH, value);
+    let size = COUNT_WIDTH - at;
+    if out.len() < size {
+        return 0;
+    }
+    copy(&text[at..], out);
+    size
 }

@@ -58,11 +58,14 @@ module _ (k : ℕ) (h : k < 5) where
   unfolding keywords
   word-to = packed-to words starts keywords words-packed k h
 
+  pub word-part : take (getD starts (k + 1) 0 - getD starts k 0) (drop (getD starts k 0) words) ≡ getD keywords k []
+  unfolding keywords
+  word-part = packed-is words starts keywords words-packed k h
+
   -- what `is_same` says of the part
   pub word-same : (w : List ℕ) (r : Bool) → r ≡ same w (take (getD starts (k + 1) 0 - getD starts k 0) (drop (getD starts k 0) words))
       → r ≡ same w (getD keywords k [])
-  unfolding keywords
-  word-same w r e = e ∙ ap (same w) (packed-is words starts keywords words-packed k h)
+  word-same w r e = e ∙ ap (same w) word-part
 
 -- ---- the kind of a keyword
 

@@ -41,9 +41,9 @@ const LIFT_BY: usize = 10_000_000_000;
 const LEAST: i64 = -10_000_000_000;
 
 // The keywords one behind the other, and where each begins.
-const WORDS: [u8; 31] = *b"BORDOTESTOSIMBOLOFIDUCIALELINEA";
+pub const WORDS: [u8; 31] = *b"BORDOTESTOSIMBOLOFIDUCIALELINEA";
 
-const WORD_STARTS: [usize; 6] = [0, 5, 10, 17, 26, 31];
+pub const WORD_STARTS: [usize; 6] = [0, 5, 10, 17, 26, 31];
 
 // A word is the keyword of the kind `k + 1`.
 fn is_keyword(w: &[u8], k: usize) -> bool

@@ -1,11 +1,11 @@
 -- `reader::fill` meets its contract. Assumes nothing.
-use Rattle.reader.proofs.Judging.{at-less}
-use Rattle.reader.proofs.Filled.{Filled, filled-start, filled-kept, fill-inside, fill-token, fill-room, fill-on, fill-refused, fill-done}
-use Rattle.sheet.specs.Reading.{walkFrom}
-use lib.ListN.{length}
-use Prim.Native.Nat.{_-_}
-use native.Mathlib.Omega.{arith}
 use borrow.Author.Needs.{needs}
+use native.Mathlib.Omega.{arith}
+use Prim.Native.Nat.{_-_}
+use lib.ListN.{length}
+use Rattle.sheet.specs.Reading.{walkFrom}
+use Rattle.reader.proofs.Judging.{at-on}
+use Rattle.reader.proofs.Filled.{Filled, filled-start, filled-kept, fill-inside, fill-token, fill-room, fill-refused, fill-done, fill-past, fill-less}
 use Rattle.reader.proofs.fill.Statement.{statement}
 use Rattle.reader.proofs.fill.Tie as tie
 
@@ -42,11 +42,14 @@ part-store-end c = omega (arith, fill-inside ((c .before .before .before .before
 store-requires : tie.Need-store-requires Inv-loop μ-loop
 store-requires c κs = (fill-token ((c .before .before .before .before .before .before .before .before .before .before .before .before .before .before .before) .pre .1) (c .before .before .before .before .before .before .before .before .before .before .loop .inv) (c .before .before .before .before .before .before .before .before .turn-at .result) (c .before .before .before .before .before .before .before .before .turn-at .ensures) _ _ _ (c .before .before .before .before .before .before .stand .given .1), fill-room ((c .before .before .before .before .before .before .before .before .before .before .before .before .before .before .before) .pre .1) (c .before .before .before .before .before .before .before .before .before .before .loop .inv) (c .before .before .before .before .before .before .before .before .turn-at .result) (c .before .before .before .before .before .before .before .before .turn-at .ensures) _ _ _ (c .before .before .before .before .before .before .stand .given .1))
 
+run-into-requires : tie.Need-run-into-requires Inv-loop μ-loop
+run-into-requires c κs = at-on _ _ _ _ _ (c .before .before .before .before .before .before .before .before .before .before .before .before .before .before .before .before .before .before .loop .inv .stands) (c .before .before .before .before .before .before .before .before .before .before .before .before .before .before .before .before .turn-at .result) (c .before .before .before .before .before .before .before .before .before .before .before .before .before .before .before .before .turn-at .ensures) _ _ _ (c .before .before .before .before .before .before .before .before .before .before .before .before .before .before .stand .given .1) .then .within
+
 loop-less : tie.Need-loop-less Inv-loop μ-loop
-loop-less c = at-less _ _ _ _ _ (c .before .before .before .before .before .before .before .before .before .before .before .before .before .before .before .before .before .loop .inv .stands) _ (c .before .before .before .before .before .before .before .before .before .before .before .before .before .before .before .turn-at .ensures) _ _ _ (c .before .before .before .before .before .before .before .before .before .before .before .before .before .stand .given .1)
+loop-less c = fill-less ((c .before .before .before .before .before .before .before .before .before .before .before .before .before .before .before .before .before .before .before .before .before .before .before .before .before) .pre .1) (c .before .before .before .before .before .before .before .before .before .before .before .before .before .before .before .before .before .before .before .before .loop .inv) (c .before .before .before .before .before .before .before .before .before .before .before .before .before .before .before .before .before .before .turn-at .result) (c .before .before .before .before .before .before .before .before .before .before .before .before .before .before .before .before .before .before .turn-at .ensures) _ _ _ (c .before .before .before .before .before .before .before .before .before .before .before .before .before .before .before .before .stand .given .1) _ _ _ _ _ (c .before .before .before .before .before .before .before .before .before .store .ensures .0) (c .before .before .before .before .before .before .before .before .before .store .ensures .1 .0) (c .before .before .before .before .before .before .before .before .before .store .ensures .1 .1 .0) (c .before .before .before .before .before .before .before .before .before .store .ensures .1 .1 .1) _ (c .before .run-into .ensures)
 
 loop-again : tie.Need-loop-again Inv-loop μ-loop
-loop-again c = fill-on ((c .before .before .before .before .before .before .before .before .before .before .before .before .before .before .before .before .before .before .before .before .before .before) .pre .1) (c .before .before .before .before .before .before .before .before .before .before .before .before .before .before .before .before .before .loop .inv) (c .before .before .before .before .before .before .before .before .before .before .before .before .before .before .before .turn-at .result) (c .before .before .before .before .before .before .before .before .before .before .before .before .before .before .before .turn-at .ensures) _ _ _ (c .before .before .before .before .before .before .before .before .before .before .before .before .before .stand .given .1) _ _ _ _ (c .before .before .before .before .before .before .store .ensures .0) (c .before .before .before .before .before .before .store .ensures .1 .0) (c .before .before .before .before .before .before .store .ensures .1 .1 .0) (c .before .before .before .before .before .before .store .ensures .1 .1 .1)
+loop-again c = fill-past ((c .before .before .before .before .before .before .before .before .before .before .before .before .before .before .before .before .before .before .before .before .before .before .before .before .before) .pre .1) (c .before .before .before .before .before .before .before .before .before .before .before .before .before .before .before .before .before .before .before .before .loop .inv) (c .before .before .before .before .before .before .before .before .before .before .before .before .before .before .before .before .before .before .turn-at .result) (c .before .before .before .before .before .before .before .before .before .before .before .before .before .before .before .before .before .before .turn-at .ensures) _ _ _ (c .before .before .before .before .before .before .before .before .before .before .before .before .before .before .before .before .stand .given .1) _ _ _ _ _ (c .before .before .before .before .before .before .before .before .before .store .ensures .0) (c .before .before .before .before .before .before .before .before .before .store .ensures .1 .0) (c .before .before .before .before .before .before .before .before .before .store .ensures .1 .1 .0) (c .before .before .before .before .before .before .before .before .before .store .ensures .1 .1 .1) _ (c .before .run-into .ensures) .filled
 
 enum-told : tie.Need-enum-told Inv-loop μ-loop
 enum-told c = search needs
@@ -99,6 +102,7 @@ fill-spec =
     part-store-start
     part-store-end
     store-requires
+    run-into-requires
     loop-less
     loop-again
     enum-told

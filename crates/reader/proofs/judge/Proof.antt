@@ -1,11 +1,11 @@
 -- `reader::judge` meets its contract. Assumes nothing.
-use Rattle.reader.proofs.Judging.{at-start, at-on, at-less, judge-refused, judge-done}
-use Rattle.reader.proofs.Standing.{At}
-use Rattle.sheet.specs.Reading.{walkFrom}
-use Rattle.sheet.specs.Tables.{Tables, empty}
-use lib.ListN.{length}
-use Prim.Native.Nat.{_-_}
 use borrow.Author.Needs.{needs}
+use Prim.Native.Nat.{_-_}
+use lib.ListN.{length}
+use Rattle.sheet.specs.Tables.{Tables, empty}
+use Rattle.sheet.specs.Reading.{walkFrom}
+use Rattle.reader.proofs.Standing.{At}
+use Rattle.reader.proofs.Judging.{at-start, at-on, at-past, past-less, judge-refused, judge-done}
 use Rattle.reader.proofs.judge.Statement.{statement}
 use Rattle.reader.proofs.judge.Tie as tie
 
@@ -27,23 +27,26 @@ turn-at-requires c κs = c .before .loop .inv .1 .within
 enum-known-stand : tie.Need-enum-known-stand Inv-loop μ-loop
 enum-known-stand c = search needs
 
+skim-requires : tie.Need-skim-requires Inv-loop μ-loop
+skim-requires c κs = at-on ((c .before .before .before .before .before .before .before .before) .args .mode) ((c .before .before .before .before .before .before .before .before) .args .src .now) _ (c .before .before .before .before .before .loop .inv .0) (c .before .before .before .before .before .loop .d) (c .before .before .before .before .before .loop .inv .1) (c .before .before .before .turn-at .result) (c .before .before .before .turn-at .ensures) _ _ _ (c .before .stand .given .1) .then .within
+
 loop-less : tie.Need-loop-less Inv-loop μ-loop
-loop-less c = at-less _ ((c .before .before .before .before .before .before .before .before) .args .src .now) _ (c .before .before .before .before .before .loop .inv .0) (c .before .before .before .before .before .loop .d) (c .before .before .before .before .before .loop .inv .1) (c .before .before .before .turn-at .result) (c .before .before .before .turn-at .ensures) _ _ _ (c .before .stand .given .1)
+loop-less c = past-less ((c .before .before .before .before .before .before .before .before .before) .args .mode) ((c .before .before .before .before .before .before .before .before .before) .args .src .now) _ (c .before .before .before .before .before .before .loop .inv .0) (c .before .before .before .before .before .before .loop .d) (c .before .before .before .before .before .before .loop .inv .1) (c .before .before .before .before .turn-at .result) (c .before .before .before .before .turn-at .ensures) _ _ _ (c .before .before .stand .given .1) _ (c .skim .ensures)
 
 loop-again : tie.Need-loop-again Inv-loop μ-loop
-loop-again c = (_, at-on _ ((c .before .before .before .before .before .before .before .before) .args .src .now) _ (c .before .before .before .before .before .loop .inv .0) (c .before .before .before .before .before .loop .d) (c .before .before .before .before .before .loop .inv .1) (c .before .before .before .turn-at .result) (c .before .before .before .turn-at .ensures) _ _ _ (c .before .stand .given .1) .then)
+loop-again c = let b = at-past ((c .before .before .before .before .before .before .before .before .before) .args .mode) ((c .before .before .before .before .before .before .before .before .before) .args .src .now) _ (c .before .before .before .before .before .before .loop .inv .0) (c .before .before .before .before .before .before .loop .d) (c .before .before .before .before .before .before .loop .inv .1) (c .before .before .before .before .turn-at .result) (c .before .before .before .before .turn-at .ensures) _ _ _ (c .before .before .stand .given .1) _ (c .skim .ensures) in (b .tables, b .stands)
 
 enum-known-number : tie.Need-enum-known-number Inv-loop μ-loop
 enum-known-number c = search needs
 
 returns : tie.Need-returns Inv-loop μ-loop
-returns c = judge-refused _ ((c .before .before .before .before .before .before .before .before) .args .src .now) _ (c .before .before .before .before .before .loop .inv .0) (c .before .before .before .before .before .loop .d) (c .before .before .before .before .before .loop .inv .1) (c .before .before .before .turn-at .result) (c .before .before .before .turn-at .ensures) _ _ _ (c .before .number .given .1)
+returns c = judge-refused ((c .before .before .before .before .before .before .before .before) .args .mode) ((c .before .before .before .before .before .before .before .before) .args .src .now) _ (c .before .before .before .before .before .loop .inv .0) (c .before .before .before .before .before .loop .d) (c .before .before .before .before .before .loop .inv .1) (c .before .before .before .turn-at .result) (c .before .before .before .turn-at .ensures) _ _ _ (c .before .number .given .1)
 
 enum-told : tie.Need-enum-told Inv-loop μ-loop
 enum-told c = search needs
 
 returns-2 : tie.Need-returns-2 Inv-loop μ-loop
-returns-2 c = judge-done _ ((c .before .before .before .before .before .before .before) .args .src .now) _ (c .before .before .before .before .loop .inv .0) (c .before .before .before .before .loop .d) (c .before .before .before .before .loop .inv .1) (c .before .before .turn-at .result) (c .before .before .turn-at .ensures) (c .enum-told .given .1)
+returns-2 c = judge-done ((c .before .before .before .before .before .before .before) .args .mode) ((c .before .before .before .before .before .before .before) .args .src .now) _ (c .before .before .before .before .loop .inv .0) (c .before .before .before .before .loop .d) (c .before .before .before .before .loop .inv .1) (c .before .before .turn-at .result) (c .before .before .turn-at .ensures) (c .enum-told .given .1)
 
 pub judge-spec : {M : Type 1} → statement M
 judge-spec =
@@ -55,6 +58,7 @@ judge-spec =
     loop-holds
     turn-at-requires
     enum-known-stand
+    skim-requires
     loop-less
     loop-again
     enum-known-number

@@ -1,0 +1,4 @@
+pub mod Twelve
+pub mod Tokens
+pub mod Places
+pub mod Leading

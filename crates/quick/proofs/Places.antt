@@ -1,0 +1,122 @@
+-- Twelve bytes and a line end are a real's record, in either mode. Assumes nothing.
+use Prim.Native.Nat.{ℕ, _+_, _-_, _*_, _/_, _%_, _≤_, _<_}
+use mathlib.Core.Path.{_≡_, refl, sym, _∙_, ap}
+use mathlib.Core.List.{List, [], _∷_, _++_}
+use mathlib.Core.Bool.{Bool, true, false}
+use native.Mathlib.Nat.{add-sub-cancel-left}
+use native.Mathlib.Omega.{arith}
+use lib.ListN.{length, getD, take, drop, length-drop, take-append-drop}
+use lib.Seq.{drop-drop, length-take-le}
+use lib.IntN.{ℤ}
+use Rattle.laws.specs.Lists.{all}
+use Rattle.laws.proofs.ListLaws.{left}
+use Rattle.record.specs.declared.Mode.{Mode}
+use Rattle.record.specs.declared.Mode.the-variants.{Loose, Exact}
+use Rattle.record.specs.declared.Line.the-variants.{Got}
+use Rattle.record.specs.Record.{plain, lineOf}
+use Rattle.record.specs.RecordView.{LineEnd, crlf, lf}
+use Rattle.record.proofs.RecordLaws.{line-make, line-view}
+use Rattle.number.specs.declared.Decimal.the-variants as Decimal
+use Rattle.number.specs.Number.{realOf}
+use Rattle.number.proofs.NumberLaws.{real-widens}
+use Rattle.token.specs.Lex.{lexOf}
+use Rattle.token.specs.declared.Token.the-variants.{Say}
+use Rattle.token.specs.declared.Want.the-variants.{Real}
+use Rattle.token.proofs.TokenLaws.{says-most}
+use Rattle.quick.specs.Neat.{Neat, Sound}
+use Rattle.quick.specs.Seen.{RealAt, SomeReal, Ends, Vertices, more}
+
+either : (c : List ℕ) (z : ℤ) (mode : Mode) → realOf Exact c ≡ Decimal.Is z → realOf mode c ≡ Decimal.Is z
+either c z Exact e = e
+either c z Loose e = real-widens c z e
+
+-- plain bytes and a line end at a place are a record
+pub line-at : (mode : Mode) (s : List ℕ) (at n : ℕ) (e : List ℕ) → at + n ≤ length s → n ≤ 255 → all plain (take n (drop at s)) ≡ true → LineEnd mode e
+    → drop (at + n) s ≡ e ++ drop (at + n + length e) s → lineOf mode false (drop at s) ≡ Got n (n + length e)
+line-at mode s at n e h k p l q =
+    let c : length (take n (drop at s)) ≡ n = length-take-le n (drop at s) (omega (arith, length-drop at s)) in
+    let split : drop at s ≡ take n (drop at s) ++ (e ++ drop (at + n + length e) s) =
+    sym (take-append-drop n (drop at s)) ∙ ap (λ (x : List ℕ). take n (drop at s) ++ x) (drop-drop n at s ∙ q) in
+    ap (lineOf mode false) split ∙ line-make mode false (take n (drop at s)) e (drop (at + n + length e) s) p (omega arith) l ∙ rw c
+
+-- the ways of `ending`
+module _ (mode : Mode) (s : List ℕ) (at : ℕ) (h : 14 ≤ length s) (k : at ≤ length s - 14) where
+  pub ends-cr : getD s (at + 12) 0 ≡ 13 → getD s (at + 13) 0 ≡ 10 → Ends mode s at 14
+  ends-cr x y =
+      let a : at + 12 + 1 ≡ at + 13 = omega arith in
+      let b : at + 13 + 1 ≡ at + 12 + 2 = omega arith in
+      let two : drop (at + 12) s ≡ 13 ∷ 10 ∷ drop (at + 12 + 2) s = left s (at + 12) 0 (omega arith) ∙ rw (x, a, left s (at + 13) 0 (omega arith), y, b) in
+      record { few = omega arith; inside = omega arith; line = λ p. line-at mode s at 12 (13 ∷ 10 ∷ []) (omega arith) (omega arith) p (crlf refl) two }
+
+  pub ends-lf : mode ≡ Loose → getD s (at + 12) 0 ≡ 10 → Ends mode s at 13
+  ends-lf m x =
+      record {
+        few = omega arith;
+        inside = omega arith;
+        line = λ p. line-at mode s at 12 (10 ∷ []) (omega arith) (omega arith) p (lf m refl) (left s (at + 12) 0 (omega arith) ∙ rw x);
+      }
+
+real-of : (mode : Mode) (s : List ℕ) (at w v : ℕ) → Ends mode s at w → Neat (take 12 (drop at s)) v → RealAt mode s at w v
+unfolding lexOf
+real-of mode s at w v e n =
+    record { len = 12; line = e .line (n .bytes); says = rw (either (take 12 (drop at s)) (n .z) mode (n .real), n .lifted) }
+
+-- ---- a real's record in a file
+
+module _ {mode : Mode} {s : List ℕ} {at w v : ℕ} (r : RealAt mode s at w v) where
+  pub real-most : v ≤ 109999999999
+  real-most =
+      let l = line-view mode false (drop at s) (r .len) w (r .line) in
+      says-most mode Real (take (r .len) (drop at s)) v (omega (arith, l .counted, l .most)) (r .says)
+
+  pub real-inside : (0 < w) × (at + w ≤ length s)
+  real-inside =
+      let l = line-view mode false (drop at s) (r .len) w (r .line) in
+      (l .some, omega (arith, l .some, l .within, length-drop at s))
+
+pub some-inside : {mode : Mode} {s : List ℕ} {at w : ℕ} → SomeReal mode s at w → (0 < w) × (at + w ≤ length s)
+some-inside r = real-inside (r .real)
+
+-- the ways of `padded` and `padded_width`
+module _ (mode : Mode) (s : List ℕ) (at w : ℕ) (f : 0 < w → Ends mode s at w) (o : w ≡ 0 → ⊥) where
+  pub twelve-in : at + 12 ≤ length s
+  twelve-in = omega (arith, f (omega arith) .inside)
+
+  module _ (v : ℕ) (g : 0 < v → Neat (take (at + 12 - at) (drop at s)) v) (n : v ≡ 0 → ⊥) where
+    real : RealAt mode s at w v
+    real =
+        let p : 0 < v = omega arith in
+        real-of mode s at w v (f (omega arith)) (rw (add-sub-cancel-left at 12) at (g p))
+
+    pub padded-most : (v ≤ 109999999999) × (w ≤ 14)
+    padded-most = (real-most real, f (omega arith) .few)
+
+    pub padded-is : RealAt mode s at ((v * 16 + w) % 16) ((v * 16 + w) / 16)
+    padded-is =
+        let k = f (omega arith) .few in
+        let a : (v * 16 + w) % 16 ≡ w = omega arith in
+        let b : (v * 16 + w) / 16 ≡ v = omega arith in
+        rw (a, b) real
+
+  pub width-is : (b : Bool) → (b ≡ true → Sound (take (at + 12 - at) (drop at s))) → b ≡ true → SomeReal mode s at w
+  width-is b g t =
+      let p : Sound (take 12 (drop at s)) = rw (add-sub-cancel-left at 12) at (g t) in
+      record { v = p .v; real = real-of mode s at w (p .v) (f (omega arith)) (p .neat) }
+
+pub loose-real : (mode : Mode) (s : List ℕ) (at r : ℕ) → mode ≡ Loose → (0 < r → RealAt Loose s at (r % 16) (r / 16)) → 0 < r → RealAt mode s at (r % 16) (r / 16)
+loose-real mode s at r e f o = rw e (f o)
+
+pub loose-width : (mode : Mode) (s : List ℕ) (at r : ℕ) → mode ≡ Loose → (0 < r → RealAt Loose s at (r % 16) (r / 16)) → 0 < r % 16 → SomeReal mode s at (r % 16)
+loose-width mode s at r e f o = record { v = r / 16; real = loose-real mode s at r e f (omega arith) }
+
+-- the ways of `vertices`
+module _ (mode : Mode) (s : List ℕ) (at k here x y : ℕ) (v : Vertices mode s at k here) (f : 0 < x → SomeReal mode s here x) (n : x ≡ 0 → ⊥) where
+  pub past-x : here + x ≤ length s
+  past-x = some-inside (f (omega arith)) .1
+
+  module _ (g : 0 < y → SomeReal mode s (here + x) y) (m : y ≡ 0 → ⊥) where
+    pub past-y : here + x + y ≤ length s
+    past-y = some-inside (g (omega arith)) .1
+
+    pub vertices-on : Vertices mode s at (k + 1) (here + x + y)
+    vertices-on = more v (f (omega arith) .real) (g (omega arith) .real)

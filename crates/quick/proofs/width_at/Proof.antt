@@ -1,0 +1,39 @@
+-- `quick::width_at` meets its contract. Assumes nothing.
+use Rattle.quick.proofs.Places.{loose-width}
+use Rattle.quick.proofs.Twelve.{never}
+use borrow.Author.Needs.{needs}
+use Rattle.quick.proofs.width_at.Statement.{statement}
+use Rattle.quick.proofs.width_at.Tie as tie
+
+padded-width-requires : tie.Need-padded-width-requires
+padded-width-requires c κs = search needs
+
+returns : tie.Need-returns
+returns c = search needs
+
+enum-told : tie.Need-enum-told
+enum-told c = search needs
+
+enum-told-2 : tie.Need-enum-told-2
+enum-told-2 c = search needs
+
+bare-requires : tie.Need-bare-requires
+bare-requires c κs = search needs
+
+returns-2 : tie.Need-returns-2
+returns-2 c = λ h. never h
+
+returns-3 : tie.Need-returns-3
+returns-3 c = loose-width ((c .before .before .before .before .before .before) .args .mode) ((c .before .before .before .before .before .before) .args .s .now) ((c .before .before .before .before .before .before) .args .at) (c .bare .result) (c .before .enum-told2 .given .1) (c .bare .ensures)
+
+pub width-at-spec : {M : Type 1} → statement M
+width-at-spec =
+    tie.close
+    (tie.spec
+    padded-width-requires
+    returns
+    enum-told
+    enum-told-2
+    bare-requires
+    returns-2
+    returns-3)

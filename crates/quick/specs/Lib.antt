@@ -1,0 +1,4 @@
+-- What the quick way has seen.
+pub mod Seen
+pub mod Neat
+pub mod Brisk
