@@ -1,0 +1,47 @@
+-- Where a walk over the rows of a sheet stands in its four tables: letters, island counts and points "stand in three further tables in
+-- element order, with no gaps" (document 01, "Sheet tables"). Assumes nothing: these are definitions.
+use Prim.Native.Nat.{ℕ, zero, suc, _+_, _*_, _≤_}
+use mathlib.Core.List.{List}
+use lib.ListN.{getD, drop}
+use lib.IntN.{ℤ, pos}
+use Rattle.machine.specs.Rows.{rowWidth, lettersPlace, islandsPlace, verticesPlace}
+use Rattle.sheet.specs.Tables.{Tables}
+use Rattle.made.specs.Made.{tablesOf, natOf}
+use Rattle.row.specs.declared.Stand.{Stand}
+
+-- the greatest number of the code
+abbrev pub wordMost : ℕ
+wordMost = 18446744073709551615
+
+-- a count of the first row
+abbrev pub cellIn : List ℤ → ℕ → ℕ
+cellIn rows p = natOf (getD rows p (pos 0))
+
+abbrev pub firstStand : Stand
+firstStand = record { row = 0; letters = 0; islands = 0; points = 0 }
+
+-- past the row that a walk stands at, and its own part of the tables
+unfoldable pub nextStand : List ℤ → Stand → Stand
+nextStand rows d =
+    record {
+      row = d .row + rowWidth;
+      letters = d .letters + cellIn (drop (d .row) rows) lettersPlace;
+      islands = d .islands + cellIn (drop (d .row) rows) islandsPlace;
+      points = d .points + 2 * cellIn (drop (d .row) rows) verticesPlace;
+    }
+
+-- where row k stands: past the k rows before it
+unfoldable pub standOf : ℕ → List ℤ → Stand
+standOf zero rows = firstStand
+standOf (suc k) rows = nextStand rows (standOf k rows)
+
+-- what is left of the tables there
+abbrev pub leftAt : Tables → Stand → Tables
+leftAt t d = tablesOf (drop (d .row) (t .rows)) (drop (d .letters) (t .letters)) (drop (d .islands) (t .islands)) (drop (d .points) (t .points))
+
+-- within tables of these lengths
+pub record Stands (rows letters islands points : ℕ) (d : Stand) : Type 0 where
+  pub row-in : d .row ≤ rows
+  pub letters-in : d .letters ≤ letters
+  pub islands-in : d .islands ≤ islands
+  pub points-in : d .points ≤ points

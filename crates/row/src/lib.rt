@@ -1,0 +1,86 @@
+// A row of a sheet that is handed in (document 01, "Refusal numbers"): every question about a row first has the header judged
+// (6), then the sheet (15), then finds the row (19). All of it is proved, and no public function has a `requires`.
+ghost use mathlib.Core.Path.{_≡_};
+ghost use lib.ListN.{length};
+ghost use Rattle.made.specs.Made.{tablesOf};
+ghost use Rattle.row.specs.Walk.{wordMost, standOf, Stands};
+ghost use Rattle.row.specs.Seek.{soughtOf};
+use header::Header;
+use made::Verdict;
+use made::count_at;
+use made::judge;
+use record::Mode;
+
+// Where a row's own part of the four tables begins.
+pub struct Stand {
+    pub row: usize,
+    pub letters: usize,
+    pub islands: usize,
+    pub points: usize,
+}
+
+// Where the row stands; no such row (19); or what is wrong with the sheet (6, 15).
+pub enum Sought {
+    At(Stand),
+    Missing,
+    Refused(Verdict),
+}
+
+const ROW_WIDTH: usize = 12;
+
+const LETTERS_PLACE: usize = 9;
+
+const ISLANDS_PLACE: usize = 10;
+
+const VERTICES_PLACE: usize = 11;
+
+// Past the first k rows.
+fn stand_at(k: usize, rows: &[i64]) -> Stand
+    requires { ⌜ Stands (length (now rows)) wordMost wordMost wordMost (standOf k (now rows)) ⌝ }
+    ensures { λ r. ⌜ r ≡ standOf k (now (rows .entry)) ⌝ }
+{
+    let mut r = 0;
+    let mut l = 0;
+    let mut i = 0;
+    let mut p = 0;
+    let mut n = 0;
+    while n < k {
+        let left = &rows[r..];
+        l += count_at(left, LETTERS_PLACE);
+        i += count_at(left, ISLANDS_PLACE);
+        p += 2 * count_at(left, VERTICES_PLACE);
+        r += ROW_WIDTH;
+        n += 1;
+    }
+    Stand {
+        row: r,
+        letters: l,
+        islands: i,
+        points: p,
+    }
+}
+
+// Where row `row` of the sheet stands. Any code is well made.
+pub fn seek(
+    header: Header,
+    count: usize,
+    rows: &[i64],
+    letters: &[u8],
+    islands: &[u16],
+    points: &[i64],
+    row: usize,
+) -> Sought
+    ensures { λ r. ⌜ r ≡ soughtOf header count (tablesOf (now (rows .entry)) (now (letters .entry)) (now (islands .entry)) (now (points .entry))) row ⌝ }
+{
+    match judge(Mode::Loose, header, count, rows, letters, islands, points) {
+        Verdict::Fine => {
+            if row < count {
+                return Sought::At(stand_at(row, rows));
+            }
+            Sought::Missing
+        }
+        Verdict::BadHeader => Sought::Refused(Verdict::BadHeader),
+        Verdict::Faulty(k) => Sought::Refused(Verdict::Faulty(k)),
+        Verdict::Unlisted(k) => Sought::Refused(Verdict::Unlisted(k)),
+    }
+}
