@@ -1,0 +1,4 @@
+pub mod Classes
+pub mod BorderAt
+pub mod TextAt
+pub mod Examples
