@@ -1,0 +1,99 @@
+-- Questions about a sheet of a text and of a border with an island, by computation (document 01, "Areas" and "Refusal numbers"). Assumes nothing.
+use Prim.Native.Nat.{ℕ}
+use mathlib.Core.Path.{_≡_, refl}
+use mathlib.Core.List.{List, [], _∷_, _++_}
+use lib.IntN.{ℤ, pos, negsuc}
+use Rattle.laws.specs.Lists.{all, allAt, below, holds, same}
+use Rattle.laws.specs.Text.{text}
+use Rattle.number.specs.Number.{isReal}
+use Rattle.token.specs.Lex.{mayLieOutside}
+use Rattle.machine.specs.Rows.{schedule}
+use Rattle.machine.specs.Machine.{wantAt}
+use Rattle.header.specs.declared.Header.{Header}
+use Rattle.header.specs.Header.{nameByte, isName, isHeader}
+use Rattle.sheet.specs.Tables.{Tables}
+use Rattle.plane.specs.Rings.{held, near, near-first, all-near, narrow}
+use Rattle.plane.specs.Areas.{east, north, edge-term, signed-sum, areaOf}
+use Rattle.made.specs.Made.{tablesOf, inRange, hasField, isOutside, isCell, areNumbers, areLetters, sum, areCounts, areReals, isClosed, areClosed, ringSizes, arePoints, isMade, isCoded, judgeRows, judgeOf}
+use Rattle.row.specs.Walk.{nextStand, standOf}
+use Rattle.row.specs.Seek.{soughtOf}
+use Rattle.area.specs.declared.AreaAnswer.{AreaAnswer}
+use Rattle.area.specs.declared.AreaAnswer.the-variants.{Doubled}
+use Rattle.area.specs.BorderRings.{totalFrom, areasOf, ringOf}
+use Rattle.area.specs.Questions.{ringOfRow, ringAt, netAreaOf, ringAreaAt, netAreaAt, numberOf, rowOf}
+
+abbrev header : Header
+header = record { kind = 1; name = text "Z999_000100"; scale = pos 1000000 }
+
+abbrev label : List ℤ
+label = pos 2 ∷ pos 1 ∷ pos 0 ∷ pos 18 ∷ pos 0 ∷ pos 3000 ∷ negsuc 4 ∷ pos 0 ∷ pos 0 ∷ pos 1 ∷ pos 0 ∷ pos 0 ∷ []
+
+abbrev border : List ℤ
+border = pos 1 ∷ pos 0 ∷ pos 0 ∷ pos 18 ∷ pos 0 ∷ pos 1 ∷ pos 1 ∷ pos 1 ∷ pos 1 ∷ pos 1 ∷ pos 1 ∷ pos 8 ∷ []
+
+-- a triangle of double the area side * side
+abbrev ring : ℕ → List ℤ
+ring side = pos 0 ∷ pos 0 ∷ pos side ∷ pos 0 ∷ pos side ∷ pos side ∷ pos 0 ∷ pos 0 ∷ []
+
+-- the island's side
+abbrev sheet : ℕ → Tables
+sheet side = tablesOf (label ++ border) (text "77") (4 ∷ []) (ring 10 ++ ring side)
+
+asked : ℕ → ℕ → ℕ → AreaAnswer
+unfolding ringAreaAt ringAt ringOfRow ringOf soughtOf standOf nextStand judgeOf isHeader isName allAt nameByte same judgeRows isMade areNumbers below isCell isOutside hasField inRange isReal wantAt mayLieOutside schedule holds areLetters all sum areCounts arePoints areReals isClosed areClosed ringSizes isCoded areaOf narrow held near near-first all-near signed-sum edge-term east north
+asked side row k = ringAreaAt header 2 (sheet side) row k
+
+net : ℕ → ℕ → AreaAnswer
+unfolding netAreaAt netAreaOf areasOf totalFrom soughtOf standOf nextStand judgeOf isHeader isName allAt nameByte same judgeRows isMade areNumbers below isCell isOutside hasField inRange isReal wantAt mayLieOutside schedule holds areLetters all sum areCounts arePoints areReals isClosed areClosed ringSizes isCoded areaOf narrow held near near-first all-near signed-sum edge-term east north
+net side row = netAreaAt header 2 (sheet side) row
+
+outer-ring : asked 2 1 0 ≡ Doubled (pos 100)
+unfolding asked
+outer-ring = refl
+
+island : asked 2 1 1 ≡ Doubled (pos 4)
+unfolding asked
+island = refl
+
+both-rings : net 2 1 ≡ Doubled (pos 96)
+unfolding net
+both-rings = refl
+
+net-below : net 20 1 ≡ Doubled (negsuc 299)
+unfolding net
+net-below = refl
+
+-- 19: a ring past the islands, a text, a row past the sheet
+no-ring : numberOf (asked 2 1 2) ≡ 19
+unfolding asked
+no-ring = refl
+
+no-border : numberOf (net 2 0) ≡ 19
+unfolding net
+no-border = refl
+
+no-row : numberOf (net 2 2) ≡ 19
+unfolding net
+no-row = refl
+
+-- 17 is of the ring that is asked for; of the net it is of any ring, and no row is returned
+wide-apart : asked 20000001 1 0 ≡ Doubled (pos 100)
+unfolding asked
+wide-apart = refl
+
+wide-island : numberOf (asked 20000001 1 1) ≡ 17
+unfolding asked
+wide-island = refl
+
+wide-net : (numberOf (net 20000001 1) ≡ 17) × (rowOf (net 20000001 1) ≡ 0)
+unfolding net
+wide-net = (refl, refl)
+
+-- 15 comes before 19 and names the row; 6 comes first
+faulty : numberOf (ringAreaAt header 2 (tablesOf (label ++ label) (text "7") [] []) 5 0) ≡ 15
+unfolding ringAreaAt ringAt soughtOf judgeOf isHeader isName allAt nameByte same judgeRows isMade areNumbers below isCell isOutside hasField inRange isReal wantAt mayLieOutside schedule holds areLetters all areCounts arePoints areReals isCoded
+faulty = refl
+
+bad-header : numberOf (netAreaAt (record { kind = 4; name = []; scale = pos 1 }) 2 (tablesOf [] [] [] []) 5) ≡ 6
+unfolding netAreaAt soughtOf judgeOf isHeader
+bad-header = refl
