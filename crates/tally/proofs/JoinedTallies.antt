@@ -1,0 +1,50 @@
+-- The last clause of demand 3: put a second map's elements just before the EOF record of a first, and every tally is the sum of the
+-- two. The joined file is `joined` of `sheet`. Assumes nothing.
+use Prim.Native.Nat.{ℕ, _+_, _*_, _/_, _≤_}
+use mathlib.Core.Path.{_≡_, sym, _∙_, ap, ap₂}
+use mathlib.Core.List.{List, _++_}
+use mathlib.Core.Bool.{true}
+use native.Mathlib.Omega.{arith}
+use lib.ListN.{length, length-append}
+use Rattle.record.specs.declared.Mode.{Mode}
+use Rattle.record.specs.Refusals.{fileMost}
+use Rattle.header.specs.declared.Header.{Header}
+use Rattle.machine.specs.Rows.{rowWidth}
+use Rattle.sheet.specs.Tables.{Tables, _then_}
+use Rattle.sheet.specs.Reading.{sheet, reading, joined}
+use Rattle.sheet.proofs.Meaning.{reading-meaning}
+use Rattle.sheet.proofs.Join.{joining}
+use Rattle.made.specs.Made.{usedOf}
+use Rattle.writer.proofs.ReadMade.{reading-made}
+use Rattle.tally.specs.declared.Tally.{Tally}
+use Rattle.tally.specs.declared.Taken.{Taken}
+use Rattle.tally.specs.declared.Refusal.the-variants.{None}
+use Rattle.tally.specs.Tally.{isTally, plus}
+use Rattle.tally.specs.Take.{takenWith, tallyOf}
+use Rattle.tally.proofs.TallyJoin.{tallies-add}
+
+-- the rows of a sheet that was read, and its tally
+abbrev pub rowsIn : Tables → ℕ
+rowsIn o = length (o .rows) / rowWidth
+
+abbrev pub tallyIn : Header → Tables → Taken
+tallyIn h o = tallyOf h (rowsIn o) o
+
+module _ (mode : Mode) (a b : List ℕ) (h g : Header) (o u : Tables) (d : reading mode a ≡ sheet h o) (e : reading mode b ≡ sheet g u) where
+  -- what was read uses its tables up
+  used : usedOf (rowsIn o) o ≡ o
+  used = reading-made mode a h o (reading-meaning mode a h o d .1) .2
+
+  rows-joined : rowsIn (o then u) ≡ rowsIn o + rowsIn u
+  rows-joined =
+      let x = reading-made mode a h o (reading-meaning mode a h o d .1) .3 in
+      let y = reading-made mode b g u (reading-meaning mode b g u e .1) .3 in
+      omega (arith, x, y, length-append (o .rows) (u .rows))
+
+  -- in maps of one kind and name
+  pub joined-tallies : length (joined mode a b) ≤ fileMost → h .kind ≡ g .kind → h .name ≡ g .name → (s t : Tally) → tallyIn h o ≡ takenWith s None → tallyIn g u ≡ takenWith t None
+      → isTally (plus (s .figures) (t .figures)) ≡ true
+      → (reading mode (joined mode a b) ≡ sheet h (o then u)) × (tallyIn h (o then u) ≡ takenWith (record { figures = plus (s .figures) (t .figures) }) None)
+  joined-tallies l p q s t x y z =
+      let sums = tallies-add h g (rowsIn o) (rowsIn u) o u s t p q x y z in
+      (joining mode a b h g o u d e l, ap₂ (λ (n : ℕ) (v : Tables). tallyOf h n (v then u)) rows-joined (sym used) ∙ sums)

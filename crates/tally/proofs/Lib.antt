@@ -1,0 +1,11 @@
+pub mod TallyLaws
+pub mod TallyWays
+pub mod AddWays
+pub mod TakeWays
+pub mod Tallying
+pub mod SumLaws
+pub mod OwnLaws
+pub mod MadeJoin
+pub mod TallyJoin
+pub mod CountLaws
+pub mod JoinedTallies

@@ -1,0 +1,62 @@
+-- `tally::take_border` meets its contract: the ways are in `TakeWays`. Assumes nothing.
+use Rattle.tally.proofs.TakeWays.{islands-part, border-ways}
+use borrow.Author.Needs.{needs}
+use Rattle.tally.proofs.take_border.Statement.{statement}
+use Rattle.tally.proofs.take_border.Tie as tie
+
+count-at-requires : tie.Need-count-at-requires
+count-at-requires c κs = search needs
+
+count-at-requires-2 : tie.Need-count-at-requires-2
+count-at-requires-2 c κs = search needs
+
+slice-aggregate-areas-of : tie.Need-slice-aggregate-areas-of
+slice-aggregate-areas-of c = search (islands-part, needs)
+
+areas-of-requires : tie.Need-areas-of-requires
+areas-of-requires c κs = search needs
+
+enum-told : tie.Need-enum-told
+enum-told c = search needs
+
+enum-told-2 : tie.Need-enum-told-2
+enum-told-2 c = search needs
+
+enum-known-outer : tie.Need-enum-known-outer
+enum-known-outer c = search needs
+
+border-of-requires : tie.Need-border-of-requires
+border-of-requires c κs = search needs
+
+add-requires : tie.Need-add-requires
+add-requires c κs = search needs
+
+told-requires : tie.Need-told-requires
+told-requires c κs = search needs
+
+returns : tie.Need-returns
+returns c = search (border-ways, needs)
+
+returns-2 : tie.Need-returns-2
+returns-2 c = search (border-ways, needs)
+
+returns-3 : tie.Need-returns-3
+returns-3 c = search (border-ways, needs)
+
+pub take-border-spec : {M : Type 1} → statement M
+take-border-spec =
+    tie.close
+    (tie.spec
+    count-at-requires
+    count-at-requires-2
+    slice-aggregate-areas-of
+    areas-of-requires
+    enum-told
+    enum-told-2
+    enum-known-outer
+    border-of-requires
+    add-requires
+    told-requires
+    returns
+    returns-2
+    returns-3)

@@ -1,0 +1,3 @@
+pub mod Tally
+pub mod Take
+pub mod Sums
