@@ -1,0 +1,5 @@
+-- The ways through the functions that put the listing together, and its length.
+mod LineWays
+pub mod ListLaws
+mod ReadWays
+pub mod Sound
