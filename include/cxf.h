@@ -1,0 +1,222 @@
+/* cxf.h: reads, writes and questions CXF sheets of the Italian cadastre.
+ *
+ * Link with libcabi.a (see README.md). Every function answers for every input, allocates nothing, keeps nothing between
+ * calls and has no state, so calls may run side by side.
+ *
+ *   A slice     is a pointer and a length, in that order. The length counts elements, not bytes. A slice of length 0 is
+ *               not touched, whatever its pointer. No slice that is written may overlap another slice of the same call.
+ *   An answer   is a struct by value. `number` is 0 where the question was answered, else the refusal (the list below).
+ *               A field that the answer does not name is 0.
+ *   A refusal   alters nothing that was lent.
+ *   Numbers     are in thousandths where a file has decimals: a scale of 1000.000 is 1000000, and a coordinate in metres
+ *               is one in millimetres.
+ */
+#ifndef CXF_H
+#define CXF_H
+
+#include <stddef.h>
+#include <stdint.h>
+
+#ifdef __cplusplus
+extern "C" {
+#endif
+
+/* ---- refusals -------------------------------------------------------------------------------------------------------- */
+
+enum {
+    CXF_TOO_LONG = 1,   /* the file has, or would have, more than 16,777,216 bytes */
+    CXF_CUT = 2,        /* no line end: the file is cut off */
+    CXF_LINE_END = 3,   /* exact mode: no CR before the LF */
+    CXF_LENGTH = 4,     /* a record of more than 255 bytes */
+    CXF_BYTE = 5,       /* a byte that is not 32 to 126 */
+    CXF_HEADER = 6,     /* a wrong first word, name or scale; of a sheet handed in also a wrong kind */
+    CXF_KEYWORD = 7,    /* not a keyword, where one is due */
+    CXF_NUMBER = 8,     /* a malformed number */
+    CXF_LETTERS = 9,    /* empty letters; exact mode: a blank at an end */
+    CXF_CODE = 10,      /* an unlisted code (exact reading, writing) */
+    CXF_COUNT = 11,     /* a count of vertices or islands that cannot be */
+    CXF_OPEN_RING = 12, /* a ring whose last vertex is not its first */
+    CXF_AFTER_EOF = 13, /* exact mode: something follows EOF */
+    CXF_NO_ROOM = 14,   /* what was lent is too short: the answer says what is needed */
+    CXF_NOT_MADE = 15,  /* the sheet handed in could not come from a reading: the answer names the row */
+    CXF_TOO_WIDE = 17,  /* a ring with a vertex more than 20,000,000 mm from its first, in x or in y */
+    CXF_TOO_LARGE = 18, /* a figure of a tally above 9,000,000,000,000,000,000 */
+    CXF_NO_SUCH = 19,   /* no such row, border or ring */
+    CXF_OFF_TILE = 20   /* outside the tile frame */
+};
+
+/* ---- modes ----------------------------------------------------------------------------------------------------------- */
+
+/* Loose takes what is met in practice, exact only the layout of the specification. Any mode but 0 is exact. */
+enum { CXF_LOOSE = 0, CXF_EXACT = 1 };
+
+/* ---- reading a file -------------------------------------------------------------------------------------------------- */
+
+/* A row, 12 numbers for each element of the sheet. What its section lacks is 0. */
+enum {
+    CXF_ROW_KIND = 0,     /* 1 BORDO, 2 TESTO, 3 SIMBOLO, 4 FIDUCIALE, 5 LINEA */
+    CXF_ROW_OUTSIDE = 1,  /* 1 where the keyword has a final backslash, else 0 */
+    CXF_ROW_CODE = 2,
+    CXF_ROW_SIZE = 3,
+    CXF_ROW_ANGLE = 4,
+    CXF_ROW_X = 5,
+    CXF_ROW_Y = 6,
+    CXF_ROW_X2 = 7,       /* the inner point of a BORDO, the label of a FIDUCIALE */
+    CXF_ROW_Y2 = 8,
+    CXF_ROW_LETTERS = 9,  /* how many letters, island counts and vertices are this row's: they stand in the other three */
+    CXF_ROW_ISLANDS = 10, /* tables in the order of the rows, with no gaps. The vertices of a BORDO are those of its outer */
+    CXF_ROW_VERTICES = 11,/* ring, then those of its islands; each ring ends with the vertex it began with */
+    CXF_ROW_WIDTH = 12
+};
+
+typedef struct {
+    uint64_t number;
+    uint64_t record, offset;                 /* the refused record, from 1, and its first byte; 0 and 0 with 1 and 14 */
+    uint64_t rows, letters, islands, points; /* used where number is 0, needed where it is 14 */
+    uint64_t kind;                           /* the header, where number is 0: 1 MAPPA, 2 MAPPA FONDIARIO, */
+    int64_t scale;                           /* 3 QUADRO D'UNIONE; the scale in thousandths; */
+    uint8_t name[11];                        /* the sheet's name, with no 0 at its end */
+} cxf_reading;
+
+/* Reads a whole file into four lent tables: rows, 12 numbers each; letters; island counts; points, x and y after each other.
+   The room of a table is rows_len / 12 rows, letters_len letters, islands_len counts, points_len / 2 points. To learn what a
+   file needs, ask with four lengths of 0: the answer is 14 and the needs (0 where the sheet has no rows). Past the used part
+   no table is altered. */
+cxf_reading cxf_read(const uint8_t *src, size_t src_len, uint64_t mode,
+                     int64_t *rows, size_t rows_len, uint8_t *letters, size_t letters_len,
+                     uint16_t *islands, size_t islands_len, int64_t *points, size_t points_len);
+
+/* ---- a sheet that is handed in --------------------------------------------------------------------------------------- */
+
+/* Its header, how many rows it has, and its four tables, which may be longer than the rows use. A name_len other than 11 is a
+   wrong name (6). What a reading answered is handed in so: r.kind, r.name, 11, r.scale, r.rows, and the tables. */
+#define CXF_SHEET                                                                                        \
+    uint64_t kind, const uint8_t *name, size_t name_len, int64_t scale, uint64_t count,                  \
+    const int64_t *rows, size_t rows_len, const uint8_t *letters, size_t letters_len,                    \
+    const uint16_t *islands, size_t islands_len, const int64_t *points, size_t points_len
+
+/* Every function below that takes a sheet judges the header (6), then all rows (15, with the first faulty row), then whether
+   the row that is asked for is there (19), each time anew. Rows count from 0. In the answers `row` is the refused row with 15 and 10, and
+   with 17 and 18 of the tallies; else it is 0. */
+
+/* ---- writing a file -------------------------------------------------------------------------------------------------- */
+
+typedef struct {
+    uint64_t number, row; /* row with 15 and 10 */
+    uint64_t length;      /* the bytes that were written, or that are needed with 14 */
+} cxf_written;
+
+/* Writes a sheet in the layout of the exact mode to the start of out, where its codes are listed (10), the file would not be
+   too long (1) and there is room (14). Past the text out is not altered. */
+cxf_written cxf_write(CXF_SHEET, uint8_t *out, size_t out_len);
+
+/* ---- borders and texts ----------------------------------------------------------------------------------------------- */
+
+enum { CXF_CONFINE = 1, CXF_OTHER = 2, CXF_ROAD = 3, CXF_WATER = 4, CXF_BUILDING = 5, CXF_PARCEL = 6 };
+
+typedef struct {
+    uint64_t number, row;
+    uint64_t class_of; /* 1 to 6, as above; the other fields are the row's own */
+    int64_t size, angle, x, y, inner_x, inner_y;
+    uint64_t letters, islands, vertices;
+} cxf_border;
+
+/* A row that is a border, and its class. A row that is none is refused 19. */
+cxf_border cxf_border_at(CXF_SHEET, uint64_t row);
+
+typedef struct {
+    uint64_t number, row;
+    uint64_t surface_right; /* 1 where the row is a TESTO of at least 3 letters from ( to ), else 0 */
+    uint64_t centroid;      /* 1 where it is a TESTO of size 0: a raster parcel's centroid. A row may be both */
+} cxf_text;
+
+cxf_text cxf_text_at(CXF_SHEET, uint64_t row);
+
+/* ---- areas ----------------------------------------------------------------------------------------------------------- */
+
+typedef struct {
+    uint64_t number, row;
+    int64_t doubled; /* twice the area, in square millimetres */
+} cxf_area;
+
+/* One ring of a border, judged alone: ring 0 is the outer one, ring i is island i. 17, or 19 where there is no such ring. */
+cxf_area cxf_ring_area(CXF_SHEET, uint64_t row, uint64_t ring);
+
+/* The outer ring less the islands: below 0 where the islands are larger. */
+cxf_area cxf_net_area(CXF_SHEET, uint64_t row);
+
+/* ---- tallies --------------------------------------------------------------------------------------------------------- */
+
+/* 24 figures: for each class in the order above its borders, their outer rings' doubled area, their islands, and the islands'
+   doubled area. So the figures of a class are figures[4 * (class_of - 1)] and the three after it. */
+typedef struct {
+    uint64_t number, row;
+    int64_t figures[24];
+} cxf_tally;
+
+/* All borders of a sheet. Refused 17 or 18 it names the row; refused at all, its figures are 0. */
+cxf_tally cxf_tally_sheet(CXF_SHEET);
+
+/* A running tally by value: the tally with the border of a row taken, or as it was and the refusal. Begin with 24 zeros. The
+   tally handed in is judged after 6, 15 and 19: a figure that is negative or too large, or a figures_len other than 24 (the
+   answer's figures are then 0), is refused 18; then come 17, and 18 of the border. */
+cxf_tally cxf_tally_take(const int64_t *figures, size_t figures_len, CXF_SHEET, uint64_t row);
+
+/* ---- ring check ------------------------------------------------------------------------------------------------------ */
+
+typedef struct {
+    uint64_t number, row;
+    uint64_t simple;        /* 1 where the ring is simple */
+    uint64_t first, second; /* where it is not: the first faulty pair of edges, from 0; an edge of no length with itself */
+} cxf_ring;
+
+/* Whether no edge of a ring has equal ends, neighbours share only their vertex, and other edges share no point. */
+cxf_ring cxf_ring_check(CXF_SHEET, uint64_t row, uint64_t ring);
+
+/* ---- tile points ----------------------------------------------------------------------------------------------------- */
+
+typedef struct {
+    uint64_t number;
+    float east, south; /* the differences in millimetres, divided by 256; nothing is rounded */
+} cxf_tile;
+
+/* A point from a tile's north-west corner, all in millimetres. */
+cxf_tile cxf_tile_point(int64_t corner_x, int64_t corner_y, int64_t x, int64_t y);
+
+/* ---- records and numbers --------------------------------------------------------------------------------------------- */
+
+typedef struct {
+    uint64_t number;
+    uint64_t start, length; /* the content, no blank dropped, no line end */
+    uint64_t next;          /* where the next record starts */
+} cxf_record;
+
+/* The record that starts at a byte. keyword_due: 0 is no, anything else is yes. */
+cxf_record cxf_record_at(const uint8_t *src, size_t src_len, uint64_t at, uint64_t mode, uint64_t keyword_due);
+
+typedef struct {
+    uint64_t number;
+    int64_t value; /* a real in thousandths */
+} cxf_number;
+
+/* The content of a record as an integer, 0 to 9999, or as a real; 8 where it is malformed. */
+cxf_number cxf_integer(const uint8_t *content, size_t content_len, uint64_t mode);
+cxf_number cxf_real(const uint8_t *content, size_t content_len, uint64_t mode);
+
+/* ---- listing --------------------------------------------------------------------------------------------------------- */
+
+typedef struct {
+    uint64_t number; /* 0 or 14 */
+    uint64_t length; /* the bytes that were written, or that are needed with 14 */
+} cxf_listed;
+
+/* What the listing program writes for this input: the header, six lines of figures, the number of rows. A text that says
+   REFUSED is an answer as well: number is 0 whenever the text stands in out. No text is longer than 640 bytes. The tables
+   are on the stack: some 170,000 bytes. */
+cxf_listed cxf_listing(const uint8_t *src, size_t src_len, uint8_t *out, size_t out_len);
+
+#ifdef __cplusplus
+}
+#endif
+
+#endif
