@@ -1,0 +1,920 @@
+/* compare COUNT SEED [FIRST]: asks the library under test (cxf_*) and the reference (ref_*) the same questions, COUNT
+   cases from SEED, and says what differs. Each case has a generator of its own, so case N alone is `compare 1 SEED N`.
+   SHOW=n in the environment prints the first n differences in place of one. Exit status 1 on any difference. */
+#define _DEFAULT_SOURCE
+#include "examples.h"
+#include "generate.h"
+#include "reference.h"
+
+#include <signal.h>
+#include <stdio.h>
+#include <stdlib.h>
+#include <string.h>
+#include <sys/mman.h>
+#include <sys/time.h>
+#include <unistd.h>
+
+#define FILE_LIMIT 16777216u
+#define TALLY_MOST 9000000000000000000LL
+#define ROW_WIDTH 12u
+
+typedef enum {
+    READ, WRITE, BORDER_AT, TEXT_AT, RING_AREA, NET_AREA, TALLY_SHEET, TALLY_TAKE, RING_CHECK, TILE_POINT, RECORD_AT, INTEGER, REAL,
+    LISTING, ENTRIES
+} entry;
+
+static const char *const NAMES[ENTRIES] = {
+    "read", "write", "border_at", "text_at", "ring_area", "net_area", "tally_sheet", "tally_take", "ring_check", "tile_point",
+    "record_at", "integer", "real", "listing",
+};
+
+/* How often the reference gave each number, so that thin coverage shows. */
+#define NUMBERS 21
+static uint64_t given[ENTRIES][2][NUMBERS]; /* by mode where there is one: 0 loose, 1 exact */
+static uint64_t listing_says[NUMBERS];
+static uint64_t classes[7], rings_simple, pairs_self, pairs_next, pairs_ends, pairs_other, rights, centroids, both_texts, lists_whole;
+static uint64_t whole_files, rewritten;
+static uint64_t answers, differences, shown_most = 1;
+
+/* ---- What is being asked, for the report ---- */
+
+static struct {
+    uint64_t seed, which;
+    entry asked;
+    int mode;                    /* for the count: 1 is exact */
+    const uint8_t *src;          /* the bytes handed in, or null */
+    size_t src_len;
+    const tables *sheet;         /* the sheet handed in, or null */
+    struct { const char *name; uint64_t value; } args[8];
+    int arg_count;
+} now;
+
+static void ask(entry e) {
+    now.asked = e;
+    now.mode = 0;
+    now.src = NULL;
+    now.src_len = 0;
+    now.sheet = NULL;
+    now.arg_count = 0;
+}
+
+static void arg(const char *name, uint64_t value) {
+    now.args[now.arg_count].name = name;
+    now.args[now.arg_count].value = value;
+    now.arg_count++;
+}
+
+static void dump(const char *name, const uint8_t *b, size_t n) {
+    const size_t most = 65536;
+    printf("  %s, %zu bytes in hex%s:\n", name, n, n > most ? " (the first 65536)" : "");
+    for (size_t i = 0; i < n && i < most; i++) printf("%s%02x", i % 32 == 0 ? i == 0 ? "    " : "\n    " : " ", b[i]);
+    printf("\n");
+}
+
+static void dump_numbers(const char *name, const int64_t *v, size_t n, size_t to_a_line) {
+    const size_t most = 4800;
+    printf("  %s, %zu numbers%s:", name, n, n > most ? " (the first 4800)" : "");
+    for (size_t i = 0; i < n && i < most; i++) printf("%s%lld", i % to_a_line == 0 ? "\n    " : " ", (long long)v[i]);
+    printf("\n");
+}
+
+static void describe(void) {
+    printf("  case %llu of seed %llu (compare 1 %llu %llu), asked cxf_%s\n", (unsigned long long)now.which, (unsigned long long)now.seed,
+           (unsigned long long)now.seed, (unsigned long long)now.which, NAMES[now.asked]);
+    for (int i = 0; i < now.arg_count; i++)
+        printf("  %s = %llu (%lld)\n", now.args[i].name, (unsigned long long)now.args[i].value, (long long)now.args[i].value);
+    if (now.src != NULL) dump("input", now.src, now.src_len);
+    if (now.sheet != NULL) {
+        const tables *t = now.sheet;
+        printf("  sheet: kind %llu, scale %lld, count %llu\n", (unsigned long long)t->kind, (long long)t->scale, (unsigned long long)t->count);
+        dump("name", t->name, t->name_len);
+        dump_numbers("rows", t->rows, t->rows_len, ROW_WIDTH);
+        dump("letters", t->letters, t->letters_len);
+        printf("  islands, %zu numbers:", t->islands_len);
+        for (size_t i = 0; i < t->islands_len && i < 4800; i++) printf(" %u", t->islands[i]);
+        printf("\n");
+        dump_numbers("points", t->points, t->points_len, 2);
+    }
+}
+
+/* The library is to end with an answer for every input: a fault or an endless loop is a difference. */
+static void on_signal(int number) {
+    printf("\nDIFFERENCE: the library %s (signal %d)\n", number == SIGVTALRM ? "gave no answer in ten minutes of processor time" : "was stopped", number);
+    describe();
+    fflush(stdout);
+    _exit(1);
+}
+
+/* ---- Answers as named numbers ---- */
+
+typedef struct { const char *name[32]; uint64_t value[32]; int count; } flat;
+
+static void put(flat *f, const char *name, uint64_t value) {
+    f->name[f->count] = name;
+    f->value[f->count] = value;
+    f->count++;
+}
+
+static flat of_reading(cxf_reading a) {
+    flat f = {.count = 0};
+    uint64_t low = 0, high = 0;
+    put(&f, "number", a.number);
+    put(&f, "record", a.record);
+    put(&f, "offset", a.offset);
+    put(&f, "rows", a.rows);
+    put(&f, "letters", a.letters);
+    put(&f, "islands", a.islands);
+    put(&f, "points", a.points);
+    put(&f, "kind", a.kind);
+    put(&f, "scale", (uint64_t)a.scale);
+    for (int i = 0; i < 8; i++) low = low << 8 | a.name[i];
+    for (int i = 8; i < 11; i++) high = high << 8 | a.name[i];
+    put(&f, "name 0 to 7", low);
+    put(&f, "name 8 to 10", high);
+    return f;
+}
+
+static flat of_written(cxf_written a) {
+    flat f = {.count = 0};
+    put(&f, "number", a.number);
+    put(&f, "row", a.row);
+    put(&f, "length", a.length);
+    return f;
+}
+
+static flat of_border(cxf_border a) {
+    flat f = {.count = 0};
+    put(&f, "number", a.number);
+    put(&f, "row", a.row);
+    put(&f, "class_of", a.class_of);
+    put(&f, "size", (uint64_t)a.size);
+    put(&f, "angle", (uint64_t)a.angle);
+    put(&f, "x", (uint64_t)a.x);
+    put(&f, "y", (uint64_t)a.y);
+    put(&f, "inner_x", (uint64_t)a.inner_x);
+    put(&f, "inner_y", (uint64_t)a.inner_y);
+    put(&f, "letters", a.letters);
+    put(&f, "islands", a.islands);
+    put(&f, "vertices", a.vertices);
+    return f;
+}
+
+static flat of_text(cxf_text a) {
+    flat f = {.count = 0};
+    put(&f, "number", a.number);
+    put(&f, "row", a.row);
+    put(&f, "surface_right", a.surface_right);
+    put(&f, "centroid", a.centroid);
+    return f;
+}
+
+static flat of_area(cxf_area a) {
+    flat f = {.count = 0};
+    put(&f, "number", a.number);
+    put(&f, "row", a.row);
+    put(&f, "doubled", (uint64_t)a.doubled);
+    return f;
+}
+
+static flat of_tally(cxf_tally a) {
+    flat f = {.count = 0};
+    put(&f, "number", a.number);
+    put(&f, "row", a.row);
+    for (int i = 0; i < 24; i++) put(&f, "figure", (uint64_t)a.figures[i]);
+    return f;
+}
+
+static flat of_ring(cxf_ring a) {
+    flat f = {.count = 0};
+    put(&f, "number", a.number);
+    put(&f, "row", a.row);
+    put(&f, "simple", a.simple);
+    put(&f, "first", a.first);
+    put(&f, "second", a.second);
+    return f;
+}
+
+static flat of_tile(cxf_tile a) {
+    flat f = {.count = 0};
+    uint32_t east, south; /* by their bits, so that -0.0 is not 0.0 */
+    memcpy(&east, &a.east, 4);
+    memcpy(&south, &a.south, 4);
+    put(&f, "number", a.number);
+    put(&f, "east's bits", east);
+    put(&f, "south's bits", south);
+    return f;
+}
+
+static flat of_record(cxf_record a) {
+    flat f = {.count = 0};
+    put(&f, "number", a.number);
+    put(&f, "start", a.start);
+    put(&f, "length", a.length);
+    put(&f, "next", a.next);
+    return f;
+}
+
+static flat of_number(cxf_number a) {
+    flat f = {.count = 0};
+    put(&f, "number", a.number);
+    put(&f, "value", (uint64_t)a.value);
+    return f;
+}
+
+static flat of_listed(cxf_listed a) {
+    flat f = {.count = 0};
+    put(&f, "number", a.number);
+    put(&f, "length", a.length);
+    return f;
+}
+
+/* Compares two answers; `lent` says what else went wrong with what was lent, or is null. */
+static void judge(flat library, flat reference, const char *lent) {
+    bool same = lent == NULL;
+    answers++;
+    if (reference.value[0] < NUMBERS) given[now.asked][now.mode][reference.value[0]]++;
+    for (int i = 0; i < reference.count; i++)
+        if (library.value[i] != reference.value[i]) same = false;
+    if (same) return;
+    differences++;
+    if (differences > shown_most) return;
+    printf("\nDIFFERENCE\n");
+    if (lent != NULL) printf("  %s\n", lent);
+    printf("  %-14s %24s %24s\n", "", "library", "reference");
+    for (int i = 0; i < reference.count; i++)
+        printf("  %-14s %24lld %24lld%s\n", reference.name[i], (long long)library.value[i], (long long)reference.value[i],
+               library.value[i] != reference.value[i] ? "  <--" : "");
+    describe();
+    fflush(stdout);
+}
+
+/* ---- What is lent ---- */
+
+/* A place to lend from, with pages before and behind it that nobody may touch. What is lent lies against one of them,
+   so that one byte too far is a fault, or between guard bytes, which are looked at after each call. */
+typedef struct { uint8_t *low, *high, *at; size_t len, before, behind; } pen;
+
+enum { PAGES = 65536, GUARD = 96, GUARD_BYTE = 0xC3 };
+
+static pen SRC, OUT, ROWS, LETTERS, ISLANDS, POINTS, NAME, FIGURES;
+
+static void build(pen *p, size_t most) {
+    const size_t n = (most + 4 * GUARD + PAGES) / PAGES * PAGES + PAGES;
+    uint8_t *all = mmap(NULL, n + 2 * PAGES, PROT_NONE, MAP_PRIVATE | MAP_ANONYMOUS | MAP_NORESERVE, -1, 0);
+    if (all == MAP_FAILED || mprotect(all + PAGES, n, PROT_READ | PROT_WRITE) != 0) {
+        fprintf(stderr, "compare: no memory to lend\n");
+        exit(2);
+    }
+    p->low = all + PAGES;
+    p->high = p->low + n;
+}
+
+static void *lend(pen *p, rng *g, size_t n, size_t unit) {
+    if (n > (size_t)(p->high - p->low) - 4 * GUARD) {
+        fprintf(stderr, "compare: a table of %zu bytes is too large to lend\n", n);
+        exit(2);
+    }
+    switch (below(g, 3)) {
+    case 0: p->at = p->high - n; break;
+    case 1: p->at = p->low; break;
+    default: p->at = p->low + GUARD + unit * below(g, 8); break;
+    }
+    p->len = n;
+    p->before = (size_t)(p->at - p->low) < GUARD ? (size_t)(p->at - p->low) : GUARD;
+    p->behind = (size_t)(p->high - p->at) - n < GUARD ? (size_t)(p->high - p->at) - n : GUARD;
+    memset(p->at - p->before, GUARD_BYTE, p->before);
+    memset(p->at + n, GUARD_BYTE, p->behind);
+    /* "A slice of length 0 is not touched, whatever its pointer": null, or the first byte that nobody may touch */
+    return n == 0 && one_in(g, 2) ? NULL : p->at;
+}
+
+static void *lend_copy(pen *p, rng *g, const void *from, size_t n, size_t unit) {
+    void *at = lend(p, g, n, unit);
+    if (n > 0) memcpy(at, from, n);
+    return at;
+}
+
+static bool guarded(const pen *p) {
+    for (size_t i = 1; i <= p->before; i++)
+        if (p->at[-(ptrdiff_t)i] != GUARD_BYTE) return false;
+    for (size_t i = 0; i < p->behind; i++)
+        if (p->at[p->len + i] != GUARD_BYTE) return false;
+    return true;
+}
+
+static bool holds(const pen *p, const void *what) { return guarded(p) && (p->len == 0 || memcmp(p->at, what, p->len) == 0); }
+
+/* The reference's own copies of the tables that are lent. */
+typedef struct { void *at; size_t room; } copy;
+static copy rows_copy, letters_copy, islands_copy, points_copy, out_copy;
+
+static void *copied(copy *c, const pen *p) {
+    if (c->room < p->len || c->at == NULL) {
+        c->room = 2 * p->len + 64;
+        free(c->at);
+        c->at = malloc(c->room);
+        if (c->at == NULL) exit(2);
+    }
+    memcpy(c->at, p->at, p->len);
+    return c->at;
+}
+
+/* ---- Each entry point, asked on both sides ---- */
+
+typedef struct { size_t rows, letters, islands, points; } rooms;
+
+/* The reading that both gave; the tables are left in the reference's copies. */
+static cxf_reading try_read(rng *g, const bytes *src, uint64_t mode, rooms r) {
+    ask(READ);
+    now.mode = mode != 0;
+    now.src = src->at;
+    now.src_len = src->len;
+    arg("mode", mode);
+    arg("rows_len", r.rows);
+    arg("letters_len", r.letters);
+    arg("islands_len", r.islands);
+    arg("points_len", r.points);
+    const uint8_t *lent_src = lend_copy(&SRC, g, src->at, src->len, 1);
+    int64_t *rows = lend(&ROWS, g, r.rows * sizeof *rows, sizeof *rows);
+    uint8_t *letters = lend(&LETTERS, g, r.letters, 1);
+    uint16_t *islands = lend(&ISLANDS, g, r.islands * sizeof *islands, sizeof *islands);
+    int64_t *points = lend(&POINTS, g, r.points * sizeof *points, sizeof *points);
+    memset(ROWS.at, (int)below(g, 256), ROWS.len);
+    memset(LETTERS.at, (int)below(g, 256), LETTERS.len);
+    memset(ISLANDS.at, (int)below(g, 256), ISLANDS.len);
+    memset(POINTS.at, (int)below(g, 256), POINTS.len);
+    int64_t *my_rows = copied(&rows_copy, &ROWS), *my_points = copied(&points_copy, &POINTS);
+    uint8_t *my_letters = copied(&letters_copy, &LETTERS);
+    uint16_t *my_islands = copied(&islands_copy, &ISLANDS);
+
+    const cxf_reading theirs =
+        cxf_read(lent_src, src->len, mode, rows, r.rows, letters, r.letters, islands, r.islands, points, r.points);
+    const cxf_reading mine =
+        ref_read(src->at, src->len, mode, my_rows, r.rows, my_letters, r.letters, my_islands, r.islands, my_points, r.points);
+    const char *lent = NULL;
+    if (!holds(&SRC, src->at)) lent = "the input was altered, or what lies around it";
+    else if (!holds(&ROWS, my_rows)) lent = "the row table, or what lies around it, differs";
+    else if (!holds(&LETTERS, my_letters)) lent = "the letters table, or what lies around it, differs";
+    else if (!holds(&ISLANDS, my_islands)) lent = "the islands table, or what lies around it, differs";
+    else if (!holds(&POINTS, my_points)) lent = "the points table, or what lies around it, differs";
+    judge(of_reading(theirs), of_reading(mine), lent);
+    return mine;
+}
+
+static void try_record(rng *g, const bytes *src, uint64_t at, uint64_t mode, uint64_t due) {
+    ask(RECORD_AT);
+    now.mode = mode != 0;
+    now.src = src->at;
+    now.src_len = src->len;
+    arg("at", at);
+    arg("mode", mode);
+    arg("keyword_due", due);
+    const uint8_t *lent_src = lend_copy(&SRC, g, src->at, src->len, 1);
+    const cxf_record theirs = cxf_record_at(lent_src, src->len, at, mode, due);
+    const cxf_record mine = ref_record_at(src->at, src->len, at, mode, due);
+    judge(of_record(theirs), of_record(mine), holds(&SRC, src->at) ? NULL : "the input was altered, or what lies around it");
+}
+
+static void try_number(rng *g, const bytes *content, uint64_t mode, bool real) {
+    ask(real ? REAL : INTEGER);
+    now.mode = mode != 0;
+    now.src = content->at;
+    now.src_len = content->len;
+    arg("mode", mode);
+    const uint8_t *lent = lend_copy(&SRC, g, content->at, content->len, 1);
+    const cxf_number theirs = real ? cxf_real(lent, content->len, mode) : cxf_integer(lent, content->len, mode);
+    const cxf_number mine = real ? ref_real(content->at, content->len, mode) : ref_integer(content->at, content->len, mode);
+    judge(of_number(theirs), of_number(mine), holds(&SRC, content->at) ? NULL : "the input was altered, or what lies around it");
+}
+
+static void try_tile(int64_t corner_x, int64_t corner_y, int64_t x, int64_t y) {
+    ask(TILE_POINT);
+    arg("corner_x", (uint64_t)corner_x);
+    arg("corner_y", (uint64_t)corner_y);
+    arg("x", (uint64_t)x);
+    arg("y", (uint64_t)y);
+    judge(of_tile(cxf_tile_point(corner_x, corner_y, x, y)), of_tile(ref_tile_point(corner_x, corner_y, x, y)), NULL);
+}
+
+static void try_listing(rng *g, const bytes *src) {
+    ask(LISTING);
+    now.src = src->at;
+    now.src_len = src->len;
+    const cxf_listed need = ref_listing(src->at, src->len, NULL, 0);
+    size_t out_len = (size_t)need.length;
+    if (one_in(g, 4)) out_len = one_in(g, 2) ? out_len - 1 : below(g, out_len);
+    else if (one_in(g, 2)) out_len += below(g, 40);
+    arg("out_len", out_len);
+    const uint8_t *lent_src = lend_copy(&SRC, g, src->at, src->len, 1);
+    uint8_t *out = lend(&OUT, g, out_len, 1);
+    memset(OUT.at, (int)below(g, 256), OUT.len);
+    uint8_t *mine_out = copied(&out_copy, &OUT);
+    const cxf_listed theirs = cxf_listing(lent_src, src->len, out, out_len);
+    const cxf_listed mine = ref_listing(src->at, src->len, mine_out, out_len);
+    const char *lent = NULL;
+    if (!holds(&SRC, src->at)) lent = "the input was altered, or what lies around it";
+    else if (!holds(&OUT, mine_out)) lent = "the text, or what lies around it, differs";
+    if (lent != NULL && differences < shown_most) {
+        printf("\nthe library's text:   %.*s\nthe reference's text: %.*s\n", (int)out_len, (const char *)OUT.at, (int)out_len,
+               (const char *)mine_out);
+    }
+    judge(of_listed(theirs), of_listed(mine), lent);
+    if (mine.number == 0) {
+        unsigned says = 0;
+        if (mine_out[0] == 'R') {
+            for (size_t i = 8; mine_out[i] >= '0' && mine_out[i] <= '9'; i++) says = 10 * says + (mine_out[i] - '0');
+            if (says < NUMBERS) listing_says[says]++;
+        } else {
+            lists_whole++;
+        }
+    }
+}
+
+/* The sheet as it is lent to the library, and as the reference has it. */
+#define LENT(t)                                                                                                      \
+    (t)->kind, lent_name, (t)->name_len, (t)->scale, (t)->count, lent_rows, (t)->rows_len, lent_letters, (t)->letters_len, \
+        lent_islands, (t)->islands_len, lent_points, (t)->points_len
+#define OWN(t)                                                                                                       \
+    (t)->kind, (t)->name, (t)->name_len, (t)->scale, (t)->count, (t)->rows, (t)->rows_len, (t)->letters, (t)->letters_len,  \
+        (t)->islands, (t)->islands_len, (t)->points, (t)->points_len
+
+static const uint8_t *lent_name, *lent_letters;
+static const int64_t *lent_rows, *lent_points;
+static const uint16_t *lent_islands;
+
+static void lend_sheet(rng *g, const tables *t) {
+    lent_name = lend_copy(&NAME, g, t->name, t->name_len, 1);
+    lent_rows = lend_copy(&ROWS, g, t->rows, t->rows_len * sizeof t->rows[0], sizeof t->rows[0]);
+    lent_letters = lend_copy(&LETTERS, g, t->letters, t->letters_len, 1);
+    lent_islands = lend_copy(&ISLANDS, g, t->islands, t->islands_len * sizeof t->islands[0], sizeof t->islands[0]);
+    lent_points = lend_copy(&POINTS, g, t->points, t->points_len * sizeof t->points[0], sizeof t->points[0]);
+}
+
+static const char *sheet_altered(const tables *t) {
+    if (holds(&NAME, t->name) && holds(&ROWS, t->rows) && holds(&LETTERS, t->letters) && holds(&ISLANDS, t->islands) &&
+        holds(&POINTS, t->points))
+        return NULL;
+    return "the sheet was altered, or what lies around it";
+}
+
+static void ask_sheet(entry e, const tables *t) {
+    ask(e);
+    now.sheet = t;
+}
+
+static cxf_written try_write(rng *g, const tables *t, size_t out_len) {
+    ask_sheet(WRITE, t);
+    arg("out_len", out_len);
+    uint8_t *out = lend(&OUT, g, out_len, 1);
+    memset(OUT.at, (int)below(g, 256), OUT.len);
+    uint8_t *mine_out = copied(&out_copy, &OUT);
+    const cxf_written theirs = cxf_write(LENT(t), out, out_len);
+    const cxf_written mine = ref_write(OWN(t), mine_out, out_len);
+    const char *lent = sheet_altered(t);
+    if (lent == NULL && !holds(&OUT, mine_out)) lent = "what was written, or what lies around it, differs";
+    judge(of_written(theirs), of_written(mine), lent);
+    return mine;
+}
+
+static void try_border(const tables *t, uint64_t row) {
+    ask_sheet(BORDER_AT, t);
+    arg("row", row);
+    const cxf_border theirs = cxf_border_at(LENT(t), row), mine = ref_border_at(OWN(t), row);
+    judge(of_border(theirs), of_border(mine), sheet_altered(t));
+    if (mine.number == 0) classes[mine.class_of]++;
+}
+
+static void try_text(const tables *t, uint64_t row) {
+    ask_sheet(TEXT_AT, t);
+    arg("row", row);
+    const cxf_text theirs = cxf_text_at(LENT(t), row), mine = ref_text_at(OWN(t), row);
+    judge(of_text(theirs), of_text(mine), sheet_altered(t));
+    rights += mine.surface_right;
+    centroids += mine.centroid;
+    both_texts += mine.surface_right & mine.centroid;
+}
+
+static void try_area(const tables *t, uint64_t row, uint64_t ring) {
+    ask_sheet(RING_AREA, t);
+    arg("row", row);
+    arg("ring", ring);
+    const cxf_area theirs = cxf_ring_area(LENT(t), row, ring), mine = ref_ring_area(OWN(t), row, ring);
+    judge(of_area(theirs), of_area(mine), sheet_altered(t));
+}
+
+static void try_net(const tables *t, uint64_t row) {
+    ask_sheet(NET_AREA, t);
+    arg("row", row);
+    const cxf_area theirs = cxf_net_area(LENT(t), row), mine = ref_net_area(OWN(t), row);
+    judge(of_area(theirs), of_area(mine), sheet_altered(t));
+}
+
+static void try_tally(const tables *t) {
+    ask_sheet(TALLY_SHEET, t);
+    const cxf_tally theirs = cxf_tally_sheet(LENT(t)), mine = ref_tally_sheet(OWN(t));
+    judge(of_tally(theirs), of_tally(mine), sheet_altered(t));
+}
+
+static void try_take(rng *g, const tables *t, uint64_t row, const int64_t *figures, size_t figures_len) {
+    ask_sheet(TALLY_TAKE, t);
+    arg("row", row);
+    arg("figures_len", figures_len);
+    const int64_t *lent = lend_copy(&FIGURES, g, figures, figures_len * sizeof *figures, sizeof *figures);
+    const cxf_tally theirs = cxf_tally_take(lent, figures_len, LENT(t), row), mine = ref_tally_take(figures, figures_len, OWN(t), row);
+    judge(of_tally(theirs), of_tally(mine), holds(&FIGURES, figures) ? sheet_altered(t) : "the figures were altered, or what lies around them");
+}
+
+static void try_check(const tables *t, uint64_t row, uint64_t ring) {
+    ask_sheet(RING_CHECK, t);
+    arg("row", row);
+    arg("ring", ring);
+    const cxf_ring theirs = cxf_ring_check(LENT(t), row, ring), mine = ref_ring_check(OWN(t), row, ring);
+    judge(of_ring(theirs), of_ring(mine), sheet_altered(t));
+    if (mine.number != 0) return;
+    if (mine.simple == 1) rings_simple++;
+    else if (mine.first == mine.second) pairs_self++;
+    else if (mine.first + 1 == mine.second) pairs_next++;
+    else if (mine.first == 0) pairs_ends++; /* the last edge among them */
+    else pairs_other++;
+}
+
+/* ---- Cases ---- */
+
+static tables sheet, second;
+static bytes file, other;
+
+/* A fault of the reference or of the generator, found without the library. */
+static void own_fault(const char *what) {
+    printf("\nTHE REFERENCE CONTRADICTS ITSELF: %s\n", what);
+    now.src = file.at;
+    now.src_len = file.len;
+    now.sheet = &sheet;
+    describe();
+    fflush(stdout);
+    exit(1);
+}
+
+/* Just enough, one too few, more, or little. */
+static size_t some_room(rng *g, uint64_t need, size_t unit, bool short_of_it) {
+    const size_t n = (size_t)need * unit;
+    if (short_of_it) return n == 0 ? 0 : one_in(g, 3) ? below(g, n) : n - 1;
+    return one_in(g, 2) ? n : n + below(g, 30);
+}
+
+static rooms some_rooms(rng *g, const cxf_reading *need) {
+    const uint64_t which = one_in(g, 3) ? below(g, 4) : one_in(g, 8) ? 5 : 4; /* 0 to 3: that table is short; 5: each may be */
+    return (rooms){
+        some_room(g, need->rows, ROW_WIDTH, which == 0 || (which == 5 && one_in(g, 2))),
+        some_room(g, need->letters, 1, which == 1 || (which == 5 && one_in(g, 2))),
+        some_room(g, need->islands, 1, which == 2 || (which == 5 && one_in(g, 2))),
+        some_room(g, need->points, 2, which == 3 || (which == 5 && one_in(g, 2))),
+    };
+}
+
+static const rooms NO_TABLES = {0, 0, 0, 0};
+
+static cxf_reading needs_of(const bytes *src, uint64_t mode) {
+    return ref_read(src->at, src->len, mode, NULL, 0, NULL, 0, NULL, 0, NULL, 0);
+}
+
+static uint64_t some_mode(rng *g, bool exact) { return !exact ? 0 : one_in(g, 4) ? any(g) | 1 : one_in(g, 4) ? 1ull << below(g, 64) : 1; }
+
+enum { BORDO = 1, TESTO = 2 };
+
+/* Far off, or good in its low bits alone. */
+static uint64_t far_from(rng *g, uint64_t n) { return one_in(g, 2) ? any(g) : n | 1ull << between(g, 32, 63); }
+
+/* A row to ask about: one of that kind if there is one, else any, or one that is missing. */
+static uint64_t some_row(rng *g, const tables *t, int64_t kind) {
+    const uint64_t held = t->rows_len / ROW_WIDTH < t->count ? t->rows_len / ROW_WIDTH : t->count;
+    if (held > 0 && !one_in(g, 5)) {
+        const uint64_t start = below(g, held);
+        for (uint64_t i = 0; i < held; i++) {
+            const uint64_t row = (start + i) % held;
+            if (t->rows[ROW_WIDTH * row] == kind) return row;
+        }
+    }
+    return one_in(g, 6) ? far_from(g, below(g, t->count + 1)) : one_in(g, 3) ? t->count : below(g, t->count + 2);
+}
+
+static uint64_t some_ring(rng *g, const tables *t, uint64_t row) {
+    uint64_t islands = 0;
+    if (row < t->rows_len / ROW_WIDTH) islands = (uint64_t)t->rows[ROW_WIDTH * row + 10];
+    if (islands > 9999) islands = 0;
+    return one_in(g, 16) ? far_from(g, below(g, islands + 1)) : one_in(g, 12) ? islands + 1 : one_in(g, 3) ? 0 : below(g, islands + 1);
+}
+
+/* A running tally: empty, anything that keeps the limit, so near that this border just fits or just does not, or none. */
+static void take_once(rng *g, const tables *t, uint64_t row) {
+    int64_t figures[32] = {0};
+    size_t figures_len = 24;
+    for (int i = 0; i < 32; i++)
+        if (one_in(g, 3)) figures[i] = between(g, 0, TALLY_MOST);
+    if (one_in(g, 2)) {
+        const int64_t nothing[24] = {0};
+        const cxf_tally one = ref_tally_take(nothing, 24, OWN(t), row);
+        if (one.number == 0)
+            for (int i = 0; i < 24; i++)
+                if (one.figures[i] != 0) figures[i] = TALLY_MOST - one.figures[i] + (one_in(g, 6) ? 1 : -(int64_t)below(g, 2));
+    }
+    if (one_in(g, 6)) {
+        const int64_t bad[] = {-1, TALLY_MOST + 1, TALLY_MOST, INT64_MAX, INT64_MIN};
+        figures[below(g, 24)] = bad[below(g, 5)];
+    }
+    if (one_in(g, 12)) figures_len = one_in(g, 3) ? 0 : one_in(g, 2) ? 23 : 25;
+    try_take(g, t, row, figures, figures_len);
+}
+
+/* Questions on one sheet; `all` asks each, else some. */
+static void question_sheet(rng *g, const tables *t, bool all) {
+    lend_sheet(g, t);
+    if (all || one_in(g, 2)) {
+        const cxf_written need = ref_write(OWN(t), NULL, 0);
+        size_t out_len = (size_t)need.length;
+        if (one_in(g, 4) && out_len > 0) out_len -= one_in(g, 2) ? 1 : 1 + below(g, out_len);
+        else if (one_in(g, 2)) out_len += below(g, 50);
+        try_write(g, t, out_len);
+    }
+    if (all || one_in(g, 3)) try_border(t, some_row(g, t, BORDO));
+    if (all || one_in(g, 3)) try_text(t, some_row(g, t, TESTO));
+    if (all || one_in(g, 3)) {
+        const uint64_t row = some_row(g, t, BORDO);
+        try_area(t, row, some_ring(g, t, row));
+    }
+    if (all || one_in(g, 3)) try_net(t, some_row(g, t, BORDO));
+    if (all || one_in(g, 3)) try_tally(t);
+    if (all || one_in(g, 3)) take_once(g, t, some_row(g, t, BORDO));
+    if (all || one_in(g, 3)) {
+        const uint64_t row = some_row(g, t, BORDO);
+        try_check(t, row, some_ring(g, t, row));
+    }
+}
+
+/* The sheet that a reading left in the reference's copies, as tables to hand in. */
+static tables as_tables(const cxf_reading *r) {
+    tables t = {0};
+    t.kind = r->kind;
+    memcpy(t.name, r->name, 11);
+    t.name_len = 11;
+    t.scale = r->scale;
+    t.count = r->rows;
+    t.rows = rows_copy.at;
+    t.rows_len = t.rows_room = (size_t)r->rows * ROW_WIDTH;
+    t.letters = letters_copy.at;
+    t.letters_len = t.letters_room = (size_t)r->letters;
+    t.islands = islands_copy.at;
+    t.islands_len = t.islands_room = (size_t)r->islands;
+    t.points = points_copy.at;
+    t.points_len = t.points_room = (size_t)r->points * 2;
+    return t;
+}
+
+static bool same_tables(const tables *a, const tables *b) {
+    return a->kind == b->kind && memcmp(a->name, b->name, 11) == 0 && a->scale == b->scale && a->count == b->count &&
+           a->rows_len == b->rows_len && a->letters_len == b->letters_len && a->islands_len == b->islands_len &&
+           a->points_len == b->points_len && memcmp(a->rows, b->rows, a->rows_len * sizeof a->rows[0]) == 0 &&
+           memcmp(a->letters, b->letters, a->letters_len) == 0 &&
+           memcmp(a->islands, b->islands, a->islands_len * sizeof a->islands[0]) == 0 &&
+           memcmp(a->points, b->points, a->points_len * sizeof a->points[0]) == 0;
+}
+
+/* A file in both modes with rooms of all sizes, its records, its listing, and what was read handed in again. The sheet is
+   `whole` where it is well made. */
+static void file_case(rng *g, bool whole_sheet) {
+    const int faults = whole_sheet || one_in(g, 4) ? some_faults(g) : 0;
+    make_file(g, &sheet, faults, &file);
+    if (one_in(g, 100)) /* bytes after EOF up to the listing's limit, and past it */
+        for (size_t n = 8191 + below(g, 3); file.len < n;) add_byte(&file, ' ');
+    cxf_reading need[2];
+    for (int exact = 0; exact < 2; exact++) {
+        need[exact] = needs_of(&file, (uint64_t)exact);
+        const bool sound = need[exact].number == 0 || need[exact].number == 14;
+        try_read(g, &file, some_mode(g, exact), some_rooms(g, &need[exact]));
+        if (!sound && one_in(g, 2)) { /* tables that a refusal is to leave alone */
+            const rooms r = {below(g, 60), below(g, 60), below(g, 10), below(g, 40)};
+            try_read(g, &file, some_mode(g, exact), r);
+        }
+        if (one_in(g, 8)) try_read(g, &file, some_mode(g, exact), NO_TABLES);
+    }
+    try_listing(g, &file);
+    for (int i = 0; i < 2; i++)
+        try_record(g, &file, below(g, file.len + 2), some_mode(g, one_in(g, 2)), one_in(g, 2) ? 0 : some_mode(g, true));
+
+    const bool loose = need[0].number == 0 || need[0].number == 14, strict = need[1].number == 0 || need[1].number == 14;
+    if (faults == 0 && whole_sheet && !loose && file.at[file.len - 1] != ' ') own_fault("a file with no fault is refused in loose mode");
+    if (strict && !loose) own_fault("the exact mode takes what the loose mode refuses");
+    if (!loose) return;
+    const rooms enough = {(size_t)need[0].rows * ROW_WIDTH, (size_t)need[0].letters, (size_t)need[0].islands, (size_t)need[0].points * 2};
+    const cxf_reading whole = try_read(g, &file, 0, enough);
+    tables t = as_tables(&whole);
+    if (faults == 0) {
+        whole_files++;
+        if (!same_tables(&t, &sheet)) own_fault("the loose mode reads another sheet than the one the file was made from");
+    }
+    if (strict) { /* "Writing what the exact mode accepted, given room, gives its very bytes." */
+        lend_sheet(g, &t);
+        const cxf_written w = try_write(g, &t, file.len + below(g, 3));
+        if (w.number != 0 || w.length != file.len || memcmp(out_copy.at, file.at, file.len) != 0)
+            own_fault("what the exact mode accepted is not written as it was");
+        rewritten++;
+    }
+    question_sheet(g, &t, false);
+}
+
+/* A sheet handed in, well made or damaged. */
+static void sheet_case(rng *g, size_class size) {
+    if (one_in(g, 12)) make_odd(g, &sheet);
+    else make_sheet(g, size, &sheet);
+    if (!one_in(g, 4))
+        for (uint64_t n = one_in(g, 4) ? 2 : 1; n > 0; n--) damage_sheet(g, &sheet);
+    question_sheet(g, &sheet, size != LONG);
+}
+
+static void rings_case(rng *g, size_class size) {
+    make_rings(g, size, &sheet);
+    lend_sheet(g, &sheet);
+    for (int i = 0; i < (size == LONG ? 1 : 3); i++) {
+        const uint64_t row = some_row(g, &sheet, BORDO), ring = some_ring(g, &sheet, row);
+        try_check(&sheet, row, ring);
+        try_area(&sheet, row, ring);
+        try_net(&sheet, row);
+        take_once(g, &sheet, row);
+    }
+    try_tally(&sheet);
+}
+
+static void wound_case(rng *g) {
+    make_wound(g, &sheet);
+    lend_sheet(g, &sheet);
+    try_tally(&sheet);
+    const uint64_t row = some_row(g, &sheet, BORDO);
+    take_once(g, &sheet, row);
+    try_net(&sheet, row);
+    try_area(&sheet, row, some_ring(g, &sheet, row));
+}
+
+static void number_case(rng *g) {
+    for (int i = 0; i < 4; i++) {
+        file.len = 0;
+        make_number(g, &file);
+        for (int k = 0; k < 4; k++) try_number(g, &file, some_mode(g, k & 1), k & 2);
+    }
+}
+
+static void record_case(rng *g) {
+    file.len = 0;
+    make_records(g, &file);
+    for (int i = 0; i < 6; i++) {
+        const uint64_t at = one_in(g, 3) ? 0 : one_in(g, 6) ? far_from(g, below(g, file.len + 1)) : below(g, file.len + 2);
+        try_record(g, &file, at, some_mode(g, one_in(g, 2)), one_in(g, 3) ? 0 : some_mode(g, true));
+    }
+    /* raw bytes are also a file; one in three is said to begin well */
+    if (one_in(g, 3)) {
+        other.len = 0;
+        add_bytes(&other, "MAPPA\r\nZ999_000100\r\n    1000.000\r\n", 34);
+        add_bytes(&other, file.at, file.len);
+        try_read(g, &other, some_mode(g, one_in(g, 2)), NO_TABLES);
+        try_listing(g, &other);
+    } else {
+        try_read(g, &file, some_mode(g, one_in(g, 2)), NO_TABLES);
+    }
+}
+
+static void tile_case(rng *g) {
+    static const int64_t steps[] = {0, 0, 1, -1, 256, 512, 1000, 16777214, 16777215, 16777216};
+    static const int64_t ends[] = {-9999999999LL, 99999999999LL, 99999999999LL - 16777215, -9999999999LL + 16777215, 0, 5000000000LL};
+    for (int i = 0; i < 8; i++) {
+        const int64_t corner_x = one_in(g, 3) ? ends[below(g, 6)] + between(g, -1, 1) : between(g, -9999999999LL, 99999999999LL);
+        const int64_t corner_y = one_in(g, 3) ? ends[below(g, 6)] + between(g, -1, 1) : between(g, -9999999999LL, 99999999999LL);
+        int64_t east = steps[below(g, 10)], south = steps[below(g, 10)];
+        if (one_in(g, 2)) east = (int64_t)below(g, 16777216);
+        if (one_in(g, 2)) south = (int64_t)below(g, 16777216);
+        if (one_in(g, 8)) try_tile(edge_number(g), edge_number(g), edge_number(g), edge_number(g));
+        else try_tile(corner_x, corner_y, corner_x + east, corner_y - south);
+    }
+}
+
+/* Files and sheets at the length limit. */
+static void big_case(rng *g) {
+    static const size_t lengths[] = {FILE_LIMIT - 1, FILE_LIMIT, FILE_LIMIT, FILE_LIMIT + 1, FILE_LIMIT + 2, 1000000, 4000000};
+    size_t length = lengths[below(g, 7)];
+    make_full(g, length, &second);
+    lend_sheet(g, &second);
+    const cxf_written need = ref_write(OWN(&second), NULL, 0);
+    if (need.number != (length > FILE_LIMIT ? 1 : 14) || (need.number == 14 && need.length != length))
+        own_fault("a sheet made for one length has another");
+    const cxf_written w = try_write(g, &second, length);
+    if (w.number != 0) {
+        try_write(g, &second, 0);
+        return;
+    }
+    file.len = 0;
+    add_bytes(&file, out_copy.at, length);
+    if (one_in(g, 3)) /* bytes after EOF: the loose mode's limit, and past it */
+        while (file.len < FILE_LIMIT + below(g, 2)) add_byte(&file, 'x');
+    const bool exact = one_in(g, 2);
+    const cxf_reading r = needs_of(&file, exact);
+    if (r.number == 14) {
+        const rooms enough = {(size_t)r.rows * ROW_WIDTH, (size_t)r.letters, (size_t)r.islands, (size_t)r.points * 2};
+        try_read(g, &file, exact, enough);
+    }
+    try_read(g, &file, !exact, NO_TABLES);
+    try_record(g, &file, below(g, file.len), exact, 0);
+    try_record(g, &file, file.len, exact, 1);
+    try_listing(g, &file);
+    add_byte(&file, 'x');
+    try_read(g, &file, exact, NO_TABLES);
+    if (file.len > FILE_LIMIT) {
+        for (uint64_t mode = 0; mode < 2; mode++) try_record(g, &file, one_in(g, 2) ? any(g) : below(g, file.len), mode, 1);
+        try_listing(g, &file);
+    }
+}
+
+static void sheet_file_case(rng *g, size_class size) {
+    const bool whole = !one_in(g, 16);
+    if (whole) make_sheet(g, size, &sheet);
+    else make_odd(g, &sheet);
+    file_case(g, whole);
+}
+
+static void one_case(rng *g) {
+    const uint64_t draw = below(g, 100000);
+    if (draw < 20) big_case(g);
+    else if (draw < 300) wound_case(g);
+    else if (draw < 800) sheet_file_case(g, LONG);
+    else if (draw < 1200) sheet_case(g, LONG);
+    else if (draw < 1400) rings_case(g, LONG);
+    else if (draw < 42000) sheet_file_case(g, SHORT);
+    else if (draw < 55000) sheet_file_case(g, MIDDLE);
+    else if (draw < 74000) sheet_case(g, SHORT);
+    else if (draw < 81000) sheet_case(g, MIDDLE);
+    else if (draw < 87000) rings_case(g, one_in(g, 2) ? SHORT : MIDDLE);
+    else if (draw < 93000) number_case(g);
+    else if (draw < 97000) record_case(g);
+    else tile_case(g);
+}
+
+static void print_counts(void) {
+    printf("\nhow often the reference gave each number (0: answered)\n");
+    for (int e = 0; e < ENTRIES; e++)
+        for (int mode = 0; mode < 2; mode++) {
+            uint64_t all = 0;
+            for (int n = 0; n < NUMBERS; n++) all += given[e][mode][n];
+            if (all == 0) continue;
+            const bool has_mode = e == READ || e == RECORD_AT || e == INTEGER || e == REAL;
+            printf("  %-12s%-6s", NAMES[e], !has_mode ? "" : mode ? "exact" : "loose");
+            for (int n = 0; n < NUMBERS; n++)
+                if (given[e][mode][n] > 0) printf("  %d:%llu", n, (unsigned long long)given[e][mode][n]);
+            printf("\n");
+        }
+    printf("  the listing's text: whole %llu, REFUSED", (unsigned long long)lists_whole);
+    for (int n = 0; n < NUMBERS; n++)
+        if (listing_says[n] > 0) printf("  %d:%llu", n, (unsigned long long)listing_says[n]);
+    printf("\n  classes 1 to 6:");
+    for (int c = 1; c <= 6; c++) printf(" %llu", (unsigned long long)classes[c]);
+    printf("; texts: surface rights %llu, centroids %llu, both %llu\n", (unsigned long long)rights, (unsigned long long)centroids,
+           (unsigned long long)both_texts);
+    printf("  rings: simple %llu; first faulty pair an edge itself %llu, with the next %llu, of edge 0 with a later one %llu, other %llu\n",
+           (unsigned long long)rings_simple, (unsigned long long)pairs_self, (unsigned long long)pairs_next, (unsigned long long)pairs_ends,
+           (unsigned long long)pairs_other);
+    printf("  files with no fault read as they were made %llu, written again as they stood %llu\n", (unsigned long long)whole_files,
+           (unsigned long long)rewritten);
+}
+
+int main(int argc, char **argv) {
+    if (argc < 3) {
+        fprintf(stderr, "compare COUNT SEED [FIRST]\n");
+        return 2;
+    }
+    const uint64_t count = strtoull(argv[1], NULL, 10), seed = strtoull(argv[2], NULL, 10);
+    const uint64_t first = argc > 3 ? strtoull(argv[3], NULL, 10) : 0;
+    if (getenv("SHOW") != NULL) shown_most = strtoull(getenv("SHOW"), NULL, 10);
+    /* a table for each file up to the limit, loosely dressed: 28 bytes or more a row, 2 a letter, 12 a point */
+    build(&SRC, FILE_LIMIT + 4096);
+    build(&OUT, FILE_LIMIT + 4096);
+    build(&ROWS, FILE_LIMIT / 28 * ROW_WIDTH * 8 + 4096);
+    build(&LETTERS, FILE_LIMIT + 4096);
+    build(&ISLANDS, FILE_LIMIT + 4096);
+    build(&POINTS, FILE_LIMIT / 12 * 16 + 4096);
+    build(&NAME, 64);
+    build(&FIGURES, 4096);
+
+    const int stops[] = {SIGSEGV, SIGBUS, SIGFPE, SIGILL, SIGABRT, SIGTRAP, SIGVTALRM};
+    for (size_t i = 0; i < sizeof stops / sizeof stops[0]; i++) signal(stops[i], on_signal);
+
+    /* The processor's time and not the clock's: a run that is paused from outside has not failed. */
+    const struct itimerval patience = {{0, 0}, {600, 0}};
+    const uint64_t wrong = examples();
+    differences += wrong;
+    for (uint64_t i = first; i < first + count; i++) {
+        rng g = seeded(seed, i);
+        now.seed = seed;
+        now.which = i;
+        setitimer(ITIMER_VIRTUAL, &patience, NULL);
+        one_case(&g);
+    }
+    print_counts();
+    printf("\n%llu cases of seed %llu from case %llu: %llu answers compared, %llu differences\n", (unsigned long long)count,
+           (unsigned long long)seed, (unsigned long long)first, (unsigned long long)answers, (unsigned long long)differences);
+    return differences == 0 ? 0 : 1;
+}

@@ -1,0 +1,245 @@
+/* Answers that the papers themselves give: document 01's marked examples and listing, and the specification's own
+   examples, padded. They hold the reference to something that was not written with it. */
+#include "examples.h"
+#include "reference.h"
+
+#include <stdio.h>
+#include <string.h>
+
+/* One side: the library or the reference. */
+typedef struct {
+    const char *side;
+    cxf_reading (*read)(const uint8_t *, size_t, uint64_t, int64_t *, size_t, uint8_t *, size_t, uint16_t *, size_t, int64_t *, size_t);
+    cxf_border (*border_at)(CXF_SHEET, uint64_t);
+    cxf_text (*text_at)(CXF_SHEET, uint64_t);
+    cxf_area (*ring_area)(CXF_SHEET, uint64_t, uint64_t);
+    cxf_area (*net_area)(CXF_SHEET, uint64_t);
+    cxf_ring (*ring_check)(CXF_SHEET, uint64_t, uint64_t);
+    cxf_tile (*tile_point)(int64_t, int64_t, int64_t, int64_t);
+    cxf_record (*record_at)(const uint8_t *, size_t, uint64_t, uint64_t, uint64_t);
+    cxf_number (*integer)(const uint8_t *, size_t, uint64_t);
+    cxf_number (*real)(const uint8_t *, size_t, uint64_t);
+    cxf_listed (*listing)(const uint8_t *, size_t, uint8_t *, size_t);
+} interface;
+
+static uint64_t wrong;
+
+static void expect(const interface *i, const char *what, int good) {
+    if (good) return;
+    wrong++;
+    printf("EXAMPLE: the %s's answer to %s is not the papers'\n", i->side, what);
+}
+
+/* ---- Numbers ---- */
+
+static void number(const interface *i, int real, const char *text, uint64_t mode, uint64_t refusal, int64_t value) {
+    const cxf_number n = (real ? i->real : i->integer)((const uint8_t *)text, strlen(text), mode);
+    expect(i, text, n.number == refusal && n.value == value);
+}
+
+static void both_modes(const interface *i, int real, const char *text, uint64_t refusal, int64_t value) {
+    number(i, real, text, 0, refusal, value);
+    number(i, real, text, 1, refusal, value);
+}
+
+static void numbers(const interface *i) {
+    both_modes(i, 1, "      -0.005", 0, -5);
+    both_modes(i, 1, "-9999999.999", 0, -9999999999LL);
+    both_modes(i, 1, "99999999.999", 0, 99999999999LL);
+    both_modes(i, 1, "-10000000.000", 8, 0);
+    number(i, 1, "      -0.000", 0, 0, 0);
+    number(i, 1, "      -0.000", 1, 8, 0);
+    both_modes(i, 0, "   0", 0, 0);
+    number(i, 0, " 018", 0, 0, 18);
+    number(i, 0, " 018", 1, 8, 0);
+    number(i, 0, "   1          numero isole", 0, 0, 1);
+    number(i, 0, "00018", 0, 8, 0);
+    number(i, 0, "18x", 0, 8, 0);
+    number(i, 0, "1 234", 0, 0, 1);
+    number(i, 1, "-00000000.001", 0, 8, 0);
+    number(i, 1, "+10000000.000", 0, 8, 0);
+    both_modes(i, 1, "          .5", 8, 0);
+    both_modes(i, 1, "      1.2345", 8, 0);
+    both_modes(i, 1, "     - 1.000", 8, 0);
+    number(i, 1, "      00.005", 0, 0, 5);
+    number(i, 1, "      00.005", 1, 8, 0);
+}
+
+/* ---- Files ---- */
+
+/* A file with `,` for CR LF, as document 01 prints its listing's input. */
+static size_t file_of(const char *records, uint8_t *out) {
+    size_t n = 0;
+    for (; *records != 0; records++) {
+        if (*records == ',') {
+            out[n++] = '\r';
+            out[n++] = '\n';
+        } else {
+            out[n++] = (uint8_t)*records;
+        }
+    }
+    return n;
+}
+
+typedef struct {
+    cxf_reading r;
+    int64_t rows[20 * 12], points[200];
+    uint8_t letters[200];
+    uint16_t islands[20];
+} held;
+
+#define THE_SHEET(h)                                                                                                        \
+    (h)->r.kind, (h)->r.name, 11, (h)->r.scale, (h)->r.rows, (h)->rows, 20 * 12, (h)->letters, 200, (h)->islands, 20, (h)->points, 200
+
+static void read_into(const interface *i, const char *records, uint64_t mode, held *h) {
+    static uint8_t src[20000];
+    const size_t n = file_of(records, src);
+    memset(h, 0, sizeof *h);
+    h->r = i->read(src, n, mode, h->rows, 20 * 12, h->letters, 200, h->islands, 20, h->points, 200);
+}
+
+static void refused(const interface *i, const char *what, const char *records, uint64_t mode, uint64_t refusal, uint64_t record,
+                    uint64_t offset) {
+    held h;
+    read_into(i, records, mode, &h);
+    expect(i, what, h.r.number == refusal && h.r.record == record && h.r.offset == offset);
+}
+
+#define HEAD "MAPPA,Z999_000100,    1000.000,"
+#define HEAD2 "MAPPA FONDIARIO,Z999_000100,    1000.000,"
+#define PLACE "       0.000,       0.000,       0.000,       0.000,       0.000,"
+#define RING_OF_4 "       0.000,       0.000,       0.001,       0.000,       0.000,       0.001,       0.000,       0.000,"
+
+static void files(const interface *i) {
+    held h;
+    /* (h) vertices 8, one island: total passes; island 4 passes, 5 refused */
+    read_into(i, HEAD "BORDO,7,  18," PLACE "   1,   8,   4," RING_OF_4 RING_OF_4 "EOF,", 1, &h);
+    expect(i, "(h), island of 4", h.r.number == 0 && h.r.islands == 1 && h.islands[0] == 4 && h.r.points == 8);
+    refused(i, "(h), island of 5", HEAD "BORDO,7,  18," PLACE "   1,   8,   5," RING_OF_4 RING_OF_4 "EOF,", 1, 11, 14, 132);
+    refused(i, "(h), 7 vertices", HEAD "BORDO,7,  18," PLACE "   1,   7,   4," RING_OF_4 RING_OF_4 "EOF,", 1, 11, 13, 126);
+    refused(i, "an empty file", "", 0, 2, 1, 0);
+    refused(i, "a file of just EOF", "EOF", 0, 2, 1, 0);
+    refused(i, "a byte after EOF", HEAD "EOF,x", 1, 13, 5, 39);
+    refused(i, "EOF with no line end, exact", HEAD "EOF", 1, 2, 4, 34);
+    read_into(i, HEAD "EOF", 0, &h);
+    expect(i, "EOF with no line end, loose", h.r.number == 0 && h.r.rows == 0 && h.r.scale == 1000000 && h.r.kind == 1);
+    refused(i, "RIFERIMENTO_RASTER", HEAD "RIFERIMENTO_RASTER,", 0, 7, 4, 34);
+    refused(i, "two blanks in the first word", "MAPPA  FONDIARIO,", 0, 6, 1, 0);
+    refused(i, "a scale of minus zero, loose", "MAPPA,Z999_000100,-0.000,", 0, 6, 3, 20);
+    refused(i, "a scale of minus zero, exact", "MAPPA,Z999_000100,      -0.000,", 1, 8, 3, 20);
+    refused(i, "kind 3 without QU", "QUADRO D'UNIONE,Z999_000100,", 0, 6, 2, 17);
+
+    /* (i) ring (0,0),(10,10),(10,0),(0,10),(0,0): doubled area 0, faulty pair (0,2) */
+    read_into(i, HEAD "BORDO,7,18,0.000,0.000,0.000,0.000,0.000,0,5,0.000,0.000,0.010,0.010,0.010,0.000,0.000,0.010,0.000,0.000,EOF,", 0, &h);
+    cxf_area a = i->ring_area(THE_SHEET(&h), 0, 0);
+    cxf_ring c = i->ring_check(THE_SHEET(&h), 0, 0);
+    expect(i, "(i), area", h.r.number == 0 && a.number == 0 && a.doubled == 0);
+    expect(i, "(i), pair", c.number == 0 && c.simple == 0 && c.first == 0 && c.second == 2);
+
+    /* (j) square of side 10 with island of side 2: 200, 8, net 192 */
+    read_into(i,
+              HEAD "BORDO,7,18,0.000,0.000,0.000,0.000,0.000,1,10,5,"
+                   "0.000,0.000,0.010,0.000,0.010,0.010,0.000,0.010,0.000,0.000,"
+                   "0.004,0.004,0.006,0.004,0.006,0.006,0.004,0.006,0.004,0.004,EOF,", 0, &h);
+    a = i->ring_area(THE_SHEET(&h), 0, 0);
+    expect(i, "(j), outer", a.number == 0 && a.doubled == 200);
+    a = i->ring_area(THE_SHEET(&h), 0, 1);
+    expect(i, "(j), island", a.number == 0 && a.doubled == 8);
+    a = i->net_area(THE_SHEET(&h), 0);
+    expect(i, "(j), net", a.number == 0 && a.doubled == 192);
+    c = i->ring_check(THE_SHEET(&h), 0, 1);
+    expect(i, "(j), island simple", c.number == 0 && c.simple == 1 && c.first == 0 && c.second == 0);
+    expect(i, "(j), no second island", i->ring_area(THE_SHEET(&h), 0, 2).number == 19);
+
+    /* (k) `7+` BUILDING; `S7` ROAD in kind 2, PARCEL in kind 1. (l) letters `()` no surface right, `(7)` one */
+    read_into(i, HEAD "BORDO,7+,  18," PLACE "   0,   4," RING_OF_4 "BORDO,S7,  18," PLACE "   0,   4," RING_OF_4 "EOF,", 1, &h);
+    expect(i, "(k), 7+", i->border_at(THE_SHEET(&h), 0).class_of == 5);
+    expect(i, "(k), S7 in kind 1", i->border_at(THE_SHEET(&h), 1).class_of == 6);
+    read_into(i, HEAD2 "BORDO,S7,  18," PLACE "   0,   4," RING_OF_4 "EOF,", 1, &h);
+    expect(i, "(k), S7 in kind 2", i->border_at(THE_SHEET(&h), 0).class_of == 3);
+    read_into(i, HEAD "TESTO,(),18,0.000,0.000,0.000,TESTO\\,(7),0,0.000,0.000,0.000,EOF,", 0, &h);
+    cxf_text t = i->text_at(THE_SHEET(&h), 0);
+    expect(i, "(l), ()", t.number == 0 && t.surface_right == 0 && t.centroid == 0);
+    t = i->text_at(THE_SHEET(&h), 1);
+    expect(i, "(l), (7)", t.number == 0 && t.surface_right == 1 && t.centroid == 1);
+}
+
+/* The specification's own examples (000, 1.1.3 and 1.1.6 to 1.1.12), padded, one sheet. */
+static void specification(const interface *i) {
+    held h;
+    read_into(i,
+              "MAPPA,D458_021200,    2000.000,"
+              "BORDO,A019_004100,  18,       0.000,  -14364.252,   49599.871,  -14397.849,   49578.550,   0,   6,"
+              "   14941.747,  -29983.615,   14939.626,  -29987.401,   14936.901,  -29990.673,   14933.682,  -29988.247,"
+              "   14937.623,  -29980.518,   14941.747,  -29983.615,"
+              "TESTO,Corricioni,  40,       0.000,  -13763.925,   49312.319,"
+              "TESTO,(731),  18,       0.000,    9592.299,  -27610.764,"
+              "SIMBOLO,  14,       4.673,  -14497.567,   49620.796,"
+              "FIDUCIALE,5,  20,   15951.230,  -30505.861,   15959.230,  -30497.861,"
+              "LINEA,   6,   4,   15181.145,  -29700.213,   15179.456,  -29699.078,   15181.315,  -29698.258,   15181.145,  -29700.213,"
+              "EOF,",
+              1, &h);
+    static const int64_t rows[6][12] = {
+        {1, 0, 0, 18, 0, -14364252, 49599871, -14397849, 49578550, 11, 0, 6},
+        {2, 0, 0, 40, 0, -13763925, 49312319, 0, 0, 10, 0, 0},
+        {2, 0, 0, 18, 0, 9592299, -27610764, 0, 0, 5, 0, 0},
+        {3, 0, 14, 0, 4673, -14497567, 49620796, 0, 0, 0, 0, 0},
+        {4, 0, 20, 0, 0, 15951230, -30505861, 15959230, -30497861, 1, 0, 0},
+        {5, 0, 6, 0, 0, 0, 0, 0, 0, 0, 0, 4},
+    };
+    expect(i, "the specification's examples",
+           h.r.number == 0 && h.r.kind == 1 && memcmp(h.r.name, "D458_021200", 11) == 0 && h.r.scale == 2000000 && h.r.rows == 6 &&
+               memcmp(h.rows, rows, sizeof rows) == 0 && h.r.letters == 27 &&
+               memcmp(h.letters, "A019_004100Corricioni(731)5", 27) == 0 && h.r.points == 10 && h.points[0] == 14941747 &&
+               h.points[1] == -29983615 && h.points[12] == 15181145 && h.points[19] == -29700213);
+    expect(i, "the specification's border", i->border_at(THE_SHEET(&h), 0).class_of == 2);
+    expect(i, "the specification's surface right", i->text_at(THE_SHEET(&h), 2).surface_right == 1);
+}
+
+static void listing(const interface *i) {
+    static const char *const text = "MAP 1 Z999_000100 1000000\nCONFINE 0 0 0 0\nOTHER 0 0 0 0\nROAD 0 0 0 0\nWATER 0 0 0 0\n"
+                                    "BUILDING 0 0 0 0\nPARCEL 1 400000000 0 0\nROWS 2\n";
+    uint8_t src[2000], out[1000];
+    const size_t n = file_of("MAPPA,Z999_000100,1000.000,BORDO,7,18,0.000,1.000,1.000,1.000,1.000,0,5,0.000,0.000,10.000,0.000,"
+                             "10.000,20.000,0.000,20.000,0.000,0.000,TESTO\\,EOF,18,0.000,3.000,-0.005,EOF,", src);
+    cxf_listed l = i->listing(src, n, out, sizeof out);
+    expect(i, "the listing", l.number == 0 && l.length == strlen(text) && memcmp(out, text, strlen(text)) == 0);
+    l = i->listing(src, n, out, strlen(text) - 1);
+    expect(i, "the listing with no room", l.number == 14 && l.length == strlen(text));
+}
+
+static void tiles(const interface *i) {
+    cxf_tile t = i->tile_point(5000, 5000000000LL, 6000, 5000000000LL - 512);
+    expect(i, "the tile", t.number == 0 && t.east == 3.90625f && t.south == 2.0f);
+    t = i->tile_point(0, 0, 16777216, 0);
+    expect(i, "a tile point outside", t.number == 20 && t.east == 0.0f && t.south == 0.0f);
+}
+
+static void records(const interface *i) {
+    cxf_record r = i->record_at((const uint8_t *)" EOF", 4, 1, 0, 1);
+    expect(i, "EOF as the bytes left", r.number == 0 && r.start == 1 && r.length == 3 && r.next == 4);
+    expect(i, "blank and EOF as the bytes left", i->record_at((const uint8_t *)" EOF", 4, 0, 0, 1).number == 2);
+    expect(i, "EOF where none is due", i->record_at((const uint8_t *)"EOF", 3, 0, 0, 0).number == 2);
+    r = i->record_at((const uint8_t *)"\r\n", 2, 0, 1, 0);
+    expect(i, "an empty record", r.number == 0 && r.start == 0 && r.length == 0 && r.next == 2);
+    expect(i, "a CR of the record before", i->record_at((const uint8_t *)"\r\n", 2, 1, 1, 0).number == 3);
+    expect(i, "two CR", i->record_at((const uint8_t *)"a\r\r\n", 4, 0, 0, 0).number == 5);
+}
+
+#define SIDE(name, P)                                                                                                              \
+    {name, P##_read, P##_border_at, P##_text_at, P##_ring_area, P##_net_area, P##_ring_check, P##_tile_point, P##_record_at, P##_integer, \
+     P##_real, P##_listing}
+
+uint64_t examples(void) {
+    static const interface sides[2] = {SIDE("library", cxf), SIDE("reference", ref)};
+    wrong = 0;
+    for (int k = 0; k < 2; k++) {
+        numbers(&sides[k]);
+        files(&sides[k]);
+        specification(&sides[k]);
+        listing(&sides[k]);
+        tiles(&sides[k]);
+        records(&sides[k]);
+    }
+    return wrong;
+}

@@ -1,0 +1,1103 @@
+/* Inputs from a seed. A sheet is made first, as tables; a file is that sheet as a list of pieces, one a record, which
+   are dressed (blanks, tails, signs, line ends) and damaged one by one, so that a fault can be put at every place. */
+#include "generate.h"
+
+#include <stdio.h>
+#include <stdlib.h>
+#include <string.h>
+
+#define REAL_LOW (-9999999999LL)
+#define REAL_HIGH 99999999999LL
+#define REACH 20000000LL
+
+enum { KIND, OUTSIDE, CODE, SIZE, ANGLE, X, Y, SECOND_X, SECOND_Y, LETTERS, ISLANDS, VERTICES, WIDTH };
+enum { BORDO = 1, TESTO, SIMBOLO, FIDUCIALE, LINEA };
+
+/* ---- Chance ---- */
+
+rng seeded(uint64_t seed, uint64_t which) {
+    rng g = {seed * 0x9E3779B97F4A7C15u ^ (which + 1) * 0xD1B54A32D192ED03u};
+    any(&g);
+    return g;
+}
+
+/* splitmix64: every case has a generator of its own, so it must be good from the first number on */
+uint64_t any(rng *g) {
+    uint64_t z = g->state += 0x9E3779B97F4A7C15u;
+    z = (z ^ (z >> 30)) * 0xBF58476D1CE4E5B9u;
+    z = (z ^ (z >> 27)) * 0x94D049BB133111EBu;
+    return z ^ (z >> 31);
+}
+
+uint64_t below(rng *g, uint64_t n) { return n == 0 ? 0 : any(g) % n; }
+
+int64_t between(rng *g, int64_t low, int64_t high) {
+    return (int64_t)((uint64_t)low + below(g, (uint64_t)high - (uint64_t)low + 1));
+}
+
+bool one_in(rng *g, uint64_t n) { return below(g, n) == 0; }
+
+#define PICK(g, list) ((list)[below(g, sizeof(list) / sizeof((list)[0]))])
+
+int64_t edge_number(rng *g) {
+    static const int64_t edges[] = {
+        INT64_MIN, INT64_MIN + 1, INT64_MAX, INT64_MAX - 1, REAL_LOW, REAL_LOW - 1, REAL_LOW + 1, REAL_HIGH, REAL_HIGH + 1,
+        REAL_HIGH - 1, 0, 1, -1, 2, 3, 4, 5, 6, 7, 8, 12, 255, 256, 2498, 2499, 9998, 9999, 10000, 65535, 65536,
+        4294967295LL, 4294967296LL, -4294967296LL, 20000000, 20000001, -20000000, -20000001, 5000000000LL,
+    };
+    return one_in(g, 8) ? (int64_t)any(g) : PICK(g, edges);
+}
+
+/* ---- Growing ---- */
+
+static void *grown(void *at, size_t n, size_t unit) {
+    void *p = realloc(at, n * unit);
+    if (p == NULL) {
+        fprintf(stderr, "generate: out of memory\n");
+        exit(2);
+    }
+    return p;
+}
+
+void add_byte(bytes *b, uint8_t byte) {
+    if (b->len == b->room) {
+        b->room = b->room < 64 ? 64 : 2 * b->room;
+        b->at = grown(b->at, b->room, 1);
+    }
+    b->at[b->len++] = byte;
+}
+
+void add_bytes(bytes *b, const void *from, size_t n) {
+    for (size_t i = 0; i < n; i++) add_byte(b, ((const uint8_t *)from)[i]);
+}
+
+static void add_text(bytes *b, const char *text) { add_bytes(b, text, strlen(text)); }
+
+/* Garbage of up to this many elements can be shown past each table's used part. */
+enum { BEYOND = 32 };
+
+#define ROOM(t, table, n)                                                               \
+    do {                                                                                \
+        if ((t)->table##_len + (n) + BEYOND > (t)->table##_room) {                      \
+            (t)->table##_room = 2 * ((t)->table##_len + (n) + BEYOND);                  \
+            (t)->table = grown((t)->table, (t)->table##_room, sizeof((t)->table[0]));   \
+        }                                                                               \
+    } while (0)
+
+static void add_row(tables *t, const int64_t row[WIDTH]) {
+    ROOM(t, rows, WIDTH);
+    memcpy(t->rows + t->rows_len, row, WIDTH * sizeof row[0]);
+    t->rows_len += WIDTH;
+    t->count++;
+}
+
+static void add_letters(tables *t, const uint8_t *from, size_t n) {
+    ROOM(t, letters, n);
+    if (n > 0) memcpy(t->letters + t->letters_len, from, n);
+    t->letters_len += n;
+}
+
+static void add_island(tables *t, size_t n) {
+    ROOM(t, islands, 1);
+    t->islands[t->islands_len++] = (uint16_t)n;
+}
+
+static int64_t in_range(int64_t n) { return n < REAL_LOW ? REAL_LOW : n > REAL_HIGH ? REAL_HIGH : n; }
+
+static void add_point(tables *t, int64_t x, int64_t y) {
+    ROOM(t, points, 2);
+    t->points[t->points_len++] = in_range(x);
+    t->points[t->points_len++] = in_range(y);
+}
+
+/* ---- Rings ---- */
+
+typedef struct { int64_t x, y; } at;
+
+/* Where a sheet lies: the specification's own examples, a northing near 5,000,000,000 mm, both ends of the real range. */
+static at some_origin(rng *g) {
+    switch (below(g, 8)) {
+    case 0: return (at){0, 0};
+    case 1: return (at){1500000000LL + between(g, 0, 1000000), 5000000000LL + between(g, -1000000, 1000000)};
+    case 2: return (at){REAL_HIGH - (int64_t)below(g, 3), REAL_HIGH - (int64_t)below(g, 3)};
+    case 3: return (at){REAL_LOW + (int64_t)below(g, 3), REAL_LOW + (int64_t)below(g, 3)};
+    case 4: return (at){REAL_HIGH - 30000000, REAL_LOW + 30000000};
+    case 5: return (at){between(g, REAL_LOW, REAL_HIGH), between(g, REAL_LOW, REAL_HIGH)};
+    case 6: return (at){14941747, -29983615};
+    default: return (at){between(g, -1000, 1000), between(g, -1000, 1000)};
+    }
+}
+
+/* A simple ring of m vertices: one chain to the right above the axis, one back below it. */
+static void two_chains(rng *g, at *v, size_t m, int64_t width, int64_t height) {
+    const size_t upper = m / 2;
+    int64_t step = width / (int64_t)m;
+    if (step < 1) step = 1;
+    for (size_t i = 0; i < upper; i++) v[i] = (at){(int64_t)i * step, between(g, 1, height)};
+    for (size_t i = upper; i < m; i++) v[i] = (at){(int64_t)(m - 1 - i) * step, -between(g, 1, height)};
+}
+
+/* The vertices run once round a square, more of them than it has corners, so many edges lie on one line. */
+static void square(at *v, size_t m, int64_t side) {
+    for (size_t i = 0; i < m; i++) {
+        const int64_t way = (int64_t)(i * 4 * (uint64_t)side / m);
+        const int64_t rest = way % side;
+        switch (way / side) {
+        case 0: v[i] = (at){rest, 0}; break;
+        case 1: v[i] = (at){side, rest}; break;
+        case 2: v[i] = (at){side - rest, side}; break;
+        default: v[i] = (at){0, side - rest}; break;
+        }
+    }
+}
+
+/* From the middle of a square to its corners and on round: each edge between corners adds 2 * reach * reach * 2 to
+   the doubled area, and the way from the middle and back adds nothing. */
+static void winding(at *v, size_t m, int64_t reach) {
+    static const int corners[4][2] = {{1, 1}, {-1, 1}, {-1, -1}, {1, -1}};
+    v[0] = (at){0, 0};
+    for (size_t i = 1; i < m; i++) v[i] = (at){corners[i % 4][0] * reach, corners[i % 4][1] * reach};
+}
+
+/* One change to a ring that makes edges touch, overlap or stand still. */
+static void spoil_ring(rng *g, at *v, size_t m) {
+    const size_t i = below(g, m), j = below(g, m), next = (i + 1) % m, after = (i + 2) % m;
+    switch (below(g, 7)) {
+    case 0: v[next] = v[i]; break;                                                         /* an edge of no length */
+    case 1: v[i] = v[j]; break;                                                            /* two vertices in one place */
+    case 2: v[i] = (at){(v[j].x + v[(j + 1) % m].x) / 2, (v[j].y + v[(j + 1) % m].y) / 2}; break; /* on another edge */
+    case 3: v[after] = (at){(v[i].x + v[next].x) / 2, (v[i].y + v[next].y) / 2}; break;     /* back along an edge */
+    case 4: v[after] = (at){2 * v[next].x - v[i].x, 2 * v[next].y - v[i].y}; break;         /* straight on: no fault */
+    case 5: v[after] = v[i]; break;                                                        /* there and back */
+    default: v[i].x += between(g, -3, 3), v[i].y += between(g, -3, 3); break;
+    }
+}
+
+/* Appends a closed ring of n vertices (4 or more), the last equal to the first. */
+static void add_ring(rng *g, tables *t, size_t n, at origin) {
+    const size_t m = n - 1;
+    at *v = grown(NULL, m, sizeof *v);
+    static const int64_t widths[] = {3, 10, 100, 10000, 1000000, 9000000};
+    const int64_t width = PICK(g, widths);
+    switch (below(g, 12)) {
+    case 0:
+    case 1: two_chains(g, v, m, width, 1 + width / 2); break;
+    case 2: square(v, m, width); break;
+    case 3:
+        for (size_t i = 0; i < m; i++) v[i] = (at){between(g, 0, 4), between(g, 0, 4)};
+        break;
+    case 4:
+        for (size_t i = 0; i < m; i++) v[i] = (at){between(g, -width, width), between(g, -width, width)};
+        break;
+    case 5: /* a walk of small steps */
+        for (size_t i = 0; i < m; i++)
+            v[i] = i == 0 ? (at){0, 0} : (at){v[i - 1].x + between(g, -2, 2), v[i - 1].y + between(g, -2, 2)};
+        break;
+    case 6:
+        for (size_t i = 0; i < m; i++) v[i] = (at){0, 0};
+        break;
+    case 7: /* to the reach and just past it, in x or in y */
+        two_chains(g, v, m, 1000, 1000);
+        for (int k = 0; k < 2; k++) {
+            const int64_t far = (one_in(g, 2) ? REACH : REACH + 1) * (one_in(g, 2) ? 1 : -1);
+            const size_t i = 1 + below(g, m - 1);
+            if (one_in(g, 2)) v[i].x = v[0].x + far;
+            else v[i].y = v[0].y + far;
+        }
+        break;
+    case 8: winding(v, m, one_in(g, 2) ? REACH : width); break;
+    case 9: /* on one line */
+        for (size_t i = 0; i < m; i++) v[i] = (at){(int64_t)i * 2, (int64_t)i * 3};
+        break;
+    default:
+        two_chains(g, v, m, width, 1 + width / 2);
+        spoil_ring(g, v, m);
+        if (one_in(g, 3)) spoil_ring(g, v, m);
+        break;
+    }
+    /* Another beginning and another sense, so that the first and the last edge are as often faulty as others. */
+    const size_t first = one_in(g, 2) ? 0 : below(g, m);
+    const bool back = one_in(g, 2);
+    for (size_t i = 0; i <= m; i++) {
+        const size_t k = (first + i) % m;
+        const at p = v[back ? (m - k) % m : k];
+        add_point(t, origin.x + p.x, origin.y + p.y);
+    }
+    free(v);
+}
+
+/* ---- Sheets ---- */
+
+static uint8_t capital(rng *g) { return (uint8_t)('A' + below(g, 26)); }
+static uint8_t digit(rng *g) { return (uint8_t)('0' + below(g, 10)); }
+
+static void make_name(rng *g, uint8_t *name, uint64_t kind) {
+    name[0] = capital(g);
+    for (int i = 1; i < 4; i++) name[i] = digit(g);
+    name[4] = one_in(g, 2) ? '_' : capital(g);
+    for (int i = 5; i < 9; i++) name[i] = digit(g);
+    for (int i = 9; i < 11; i++) name[i] = one_in(g, 2) ? digit(g) : capital(g);
+    if (kind == 3 || one_in(g, 8)) name[9] = 'Q', name[10] = 'U';
+}
+
+/* Letters that a class or a text question turns on, words that are keywords elsewhere, and anything. */
+static size_t make_letters(rng *g, const tables *t, uint8_t out[255]) {
+    static const char *const words[] = {
+        "STRADA", "ACQUA", "STRADA+", "ACQUA1", "strada", "STRAD", "S7", "S7+", "S", "A", "A12", "A1+", "7+", "+", "++", "7 +",
+        "7", "123", "X0001", "(7)", "()", "(", ")", "( )", "(731", "731)", "((7))", ")7(", "(a) b", "EOF", "BORDO", "TESTO\\",
+        "Via  Roma  12", "ALLA", "SVIA", "\\", "~", "!", "0.000", "   4x",
+    };
+    size_t n = 0;
+    switch (below(g, 10)) {
+    case 0: memcpy(out, t->name, 11); return 11;
+    case 1:
+        memcpy(out, t->name, 11);
+        out[below(g, 11)] = digit(g);
+        return 11;
+    case 2: /* lengths next to the name's */
+        memcpy(out, t->name, 11);
+        out[11] = '1';
+        return one_in(g, 2) ? 10 : 12;
+    case 3: n = one_in(g, 2) ? 11 : 1 + below(g, 20); break;
+    case 4: n = one_in(g, 4) ? 255 - below(g, 3) : 1 + below(g, 60); break;
+    default: {
+        const char *word = PICK(g, words);
+        n = strlen(word);
+        memcpy(out, word, n);
+    }
+        goto trimmed;
+    }
+    for (size_t i = 0; i < n; i++) out[i] = (uint8_t)between(g, 32, 126);
+trimmed:
+    if (out[0] == ' ') out[0] = 'x';
+    if (out[n - 1] == ' ') out[n - 1] = one_in(g, 2) ? '+' : 'x';
+    return n;
+}
+
+static int64_t listed_code(rng *g, int64_t kind) {
+    static const int64_t symbols[] = {1, 2, 3, 4, 5, 6, 7, 8, 9, 10, 11, 13, 14, 15, 16, 20};
+    static const int64_t fiducials[] = {8, 20};
+    static const int64_t lines[] = {1, 5, 6, 11, 12, 29, 30, 31, 32, 33, 34, 35};
+    return kind == SIMBOLO ? PICK(g, symbols) : kind == FIDUCIALE ? PICK(g, fiducials) : PICK(g, lines);
+}
+
+/* Codes that a table lacks for some kind: next to the listed ones, 0, the ends. */
+static int64_t other_code(rng *g) {
+    static const int64_t codes[] = {0, 2, 4, 7, 9, 10, 12, 13, 17, 19, 21, 28, 36, 256 + 8, 9999};
+    return one_in(g, 4) ? (int64_t)below(g, 10000) : PICK(g, codes);
+}
+
+static int64_t some_real(rng *g, int64_t near) {
+    static const int64_t reals[] = {0, 1, -1, -5, 5, 999, 1000, -999, -1000, REAL_LOW, REAL_HIGH, 9999999999LL, 10000000000LL, 4673};
+    if (one_in(g, 3)) return PICK(g, reals);
+    if (one_in(g, 4)) return between(g, REAL_LOW, REAL_HIGH);
+    return in_range(near + between(g, -100000, 100000));
+}
+
+static void empty_sheet(rng *g, tables *t) {
+    static const int64_t scales[] = {1, 1000000, 2000000, REAL_HIGH, 999, 500000};
+    t->rows_len = t->letters_len = t->islands_len = t->points_len = 0;
+    t->count = 0;
+    ROOM(t, rows, 0);
+    ROOM(t, letters, 0);
+    ROOM(t, islands, 0);
+    ROOM(t, points, 0);
+    t->kind = 1 + below(g, 3);
+    t->name_len = 11;
+    memset(t->name, 0, sizeof t->name);
+    make_name(g, t->name, t->kind);
+    t->scale = one_in(g, 3) ? between(g, 1, REAL_HIGH) : PICK(g, scales);
+}
+
+/* The numbers and letters of a border; its counts and points come after. */
+static void begin_border(rng *g, tables *t, int64_t row[WIDTH], at origin) {
+    uint8_t text[255];
+    memset(row, 0, WIDTH * sizeof row[0]);
+    row[KIND] = BORDO;
+    row[LETTERS] = (int64_t)make_letters(g, t, text);
+    add_letters(t, text, (size_t)row[LETTERS]);
+    row[SIZE] = one_in(g, 4) ? 0 : one_in(g, 4) ? 9999 : (int64_t)below(g, 10000);
+    row[ANGLE] = some_real(g, 0);
+    row[X] = some_real(g, origin.x);
+    row[Y] = some_real(g, origin.y);
+    row[SECOND_X] = some_real(g, origin.x);
+    row[SECOND_Y] = some_real(g, origin.y);
+}
+
+static size_t ring_length(rng *g, size_class size) {
+    if (size == LONG && one_in(g, 2)) return 4 + below(g, one_in(g, 6) ? 3000 : 300);
+    if (size != SHORT) return 4 + below(g, 27);
+    return 4 + below(g, 4);
+}
+
+static void add_border(rng *g, tables *t, size_class size, at origin) {
+    int64_t row[WIDTH];
+    size_t lengths[64], total = 0;
+    begin_border(g, t, row, origin);
+    const size_t islands = one_in(g, 2) ? 0 : size == LONG ? below(g, 60) : 1 + below(g, 3);
+    size_t outer = ring_length(g, size);
+    if (size == LONG && one_in(g, 20)) outer = 9999;
+    for (size_t i = 0; i < islands; i++) {
+        lengths[i] = ring_length(g, i < 3 ? size : SHORT);
+        total += lengths[i];
+    }
+    if (outer + total > 9999) outer = total <= 9995 ? 9999 - total : 4;
+    add_ring(g, t, outer, origin);
+    size_t kept = 0, used = outer;
+    for (size_t i = 0; i < islands && used + lengths[i] <= 9999; i++) {
+        add_ring(g, t, lengths[i], origin);
+        add_island(t, lengths[i]);
+        used += lengths[i];
+        kept++;
+    }
+    row[ISLANDS] = (int64_t)kept;
+    row[VERTICES] = (int64_t)used;
+    add_row(t, row);
+}
+
+static void add_element(rng *g, tables *t, size_class size, at origin) {
+    int64_t row[WIDTH] = {0};
+    uint8_t text[255];
+    const int64_t kind = one_in(g, 3) ? BORDO : between(g, BORDO, LINEA);
+    if (kind == BORDO) {
+        add_border(g, t, size, origin);
+        return;
+    }
+    row[KIND] = kind;
+    row[OUTSIDE] = one_in(g, 3) ? 1 : 0;
+    if (kind == TESTO || kind == FIDUCIALE) {
+        row[LETTERS] = (int64_t)make_letters(g, t, text);
+        if (kind == TESTO && one_in(g, 3)) { /* a surface right, or nearly */
+            if (!one_in(g, 6)) text[0] = '(';
+            if (!one_in(g, 6)) text[row[LETTERS] - 1] = ')';
+        }
+        add_letters(t, text, (size_t)row[LETTERS]);
+    }
+    if (kind != TESTO) row[CODE] = one_in(g, 20) ? other_code(g) : listed_code(g, kind);
+    if (kind == TESTO) row[SIZE] = one_in(g, 3) ? 0 : (int64_t)below(g, 10000);
+    if (kind == TESTO || kind == SIMBOLO) row[ANGLE] = some_real(g, 0);
+    if (kind != LINEA) {
+        row[X] = some_real(g, origin.x);
+        row[Y] = some_real(g, origin.y);
+    }
+    if (kind == FIDUCIALE) {
+        row[SECOND_X] = some_real(g, origin.x);
+        row[SECOND_Y] = some_real(g, origin.y);
+    }
+    if (kind == LINEA) {
+        size_t n = 2 + below(g, size == SHORT ? 4 : 30);
+        if (size == LONG && one_in(g, 4)) n = one_in(g, 8) ? 9999 : 2 + below(g, 2000);
+        row[VERTICES] = (int64_t)n;
+        for (size_t i = 0; i < n; i++) add_point(t, some_real(g, origin.x), some_real(g, origin.y));
+    }
+    add_row(t, row);
+}
+
+void make_sheet(rng *g, size_class size, tables *t) {
+    empty_sheet(g, t);
+    const at origin = some_origin(g);
+    const size_t elements = size == SHORT ? below(g, 4) : size == MIDDLE ? below(g, 12) : 1 + below(g, 12);
+    for (size_t i = 0; i < elements; i++) add_element(g, t, size, origin);
+}
+
+void make_rings(rng *g, size_class size, tables *t) {
+    empty_sheet(g, t);
+    const at origin = some_origin(g);
+    if (one_in(g, 4)) add_element(g, t, SHORT, origin);
+    add_border(g, t, size, origin);
+    if (one_in(g, 8)) add_border(g, t, SHORT, origin);
+}
+
+/* n points, the last equal to the first. */
+static void add_points(rng *g, tables *t, size_t n, at origin) {
+    const size_t first = t->points_len;
+    for (size_t i = 0; i < n; i++) {
+        if (i > 0 && i + 1 == n) add_point(t, t->points[first], t->points[first + 1]);
+        else add_point(t, origin.x + between(g, -50, 50), origin.y + between(g, -50, 50));
+    }
+}
+
+void make_odd(rng *g, tables *t) {
+    static const size_t few[] = {0, 1, 2, 3, 4, 5};
+    static const size_t many[] = {9998, 9999, 10000, 10001};
+    make_sheet(g, SHORT, t);
+    const at origin = some_origin(g);
+    int64_t row[WIDTH] = {0};
+    switch (below(g, 5)) {
+    case 0: /* letters: none, 255, 256 */
+        begin_border(g, t, row, origin);
+        t->letters_len -= (size_t)row[LETTERS];
+        row[LETTERS] = one_in(g, 4) ? 0 : between(g, 254, 257);
+        for (int64_t i = 0; i < row[LETTERS]; i++) add_letters(t, (const uint8_t *)"l", 1);
+        row[VERTICES] = 4;
+        add_points(g, t, 4, origin);
+        break;
+    case 1: /* a line's vertices */
+        row[KIND] = LINEA;
+        row[CODE] = listed_code(g, LINEA);
+        row[VERTICES] = (int64_t)(one_in(g, 10) ? PICK(g, many) : PICK(g, few));
+        add_points(g, t, (size_t)row[VERTICES], origin);
+        break;
+    case 2: /* a border's vertices */
+        begin_border(g, t, row, origin);
+        row[VERTICES] = (int64_t)(one_in(g, 10) ? PICK(g, many) : PICK(g, few));
+        add_points(g, t, (size_t)row[VERTICES], origin);
+        break;
+    default: { /* rings of 3, 4 and 5; or of so many that all together are just too many */
+        begin_border(g, t, row, origin);
+        const size_t islands = 1 + below(g, 3);
+        size_t ring = one_in(g, 12) ? 9990 - 4 * islands + below(g, 14) : 3 + below(g, 3);
+        row[ISLANDS] = (int64_t)islands;
+        for (size_t i = 0; i <= islands; i++) {
+            if (i > 0) {
+                ring = one_in(g, 2) ? 4 : 3 + below(g, 3);
+                add_island(t, ring);
+            }
+            add_points(g, t, ring, origin);
+            row[VERTICES] += (int64_t)ring;
+        }
+        break;
+    }
+    }
+    add_row(t, row);
+    if (one_in(g, 2)) add_element(g, t, SHORT, origin);
+}
+
+/* A border whose ring `wound` (0 is the outer one, else its only island) has this many edges between corners. */
+static void add_wound(rng *g, tables *t, size_t edges, bool island, const char *word, at origin) {
+    int64_t row[WIDTH];
+    const size_t n = edges + 3;
+    at *v = grown(NULL, n, sizeof *v);
+    begin_border(g, t, row, origin);
+    t->letters_len -= (size_t)row[LETTERS];
+    row[LETTERS] = (int64_t)strlen(word);
+    add_letters(t, (const uint8_t *)word, strlen(word));
+    if (island)
+        for (int i = 0; i < 4; i++) add_point(t, origin.x, origin.y);
+    winding(v, n - 1, REACH);
+    for (size_t i = 0; i < n; i++) add_point(t, origin.x + v[i % (n - 1)].x, origin.y + v[i % (n - 1)].y);
+    if (island) add_island(t, n);
+    row[ISLANDS] = island ? 1 : 0;
+    row[VERTICES] = (int64_t)(n + (island ? 4 : 0));
+    add_row(t, row);
+    free(v);
+}
+
+void make_wound(rng *g, tables *t) {
+    /* 11,250 edges of 800,000,000,000,000 are 9,000,000,000,000,000,000 */
+    const size_t edges = 11249 + below(g, 3), first = 1300 + below(g, 8600);
+    const at origin = {between(g, REAL_LOW + REACH, REAL_HIGH - REACH), between(g, REAL_LOW + REACH, REAL_HIGH - REACH)};
+    const bool island = one_in(g, 2);
+    static const char *const words[] = {"7", "7+", "STRADA", "ACQUA", "Z999Z999999"};
+    empty_sheet(g, t);
+    const char *word = one_in(g, 6) ? (const char *)t->name : PICK(g, words); /* the name is followed by zeros */
+    if (one_in(g, 3)) add_element(g, t, SHORT, origin);
+    add_wound(g, t, first, island, word, origin);
+    /* one time in six the second border is another class's, and its total keeps the limit */
+    add_wound(g, t, edges - first, island, one_in(g, 6) ? "8" : word, origin);
+    if (one_in(g, 3)) add_wound(g, t, 1, island, word, origin);
+    if (one_in(g, 3)) { /* too wide in a later row: 18 comes first if the limit was passed before */
+        add_wound(g, t, 4, false, word, origin);
+        t->points[t->points_len - 4] = in_range(origin.x + REACH + 1);
+    }
+}
+
+void make_full(rng *g, size_t length, tables *t) {
+    empty_sheet(g, t);
+    const at origin = some_origin(g);
+    size_t left = length - (t->kind == 1 ? 7 : 17) - 13 - 14 - 5;
+    const bool many = one_in(g, 2); /* many small rows, or few long lines */
+    while (left > 700) {
+        int64_t row[WIDTH] = {0};
+        if (many && !one_in(g, 50)) {
+            row[KIND] = SIMBOLO;
+            row[CODE] = listed_code(g, SIMBOLO);
+            row[X] = some_real(g, origin.x);
+            row[Y] = some_real(g, origin.y);
+            left -= 57;
+        } else {
+            size_t n = many ? 2 + below(g, 4) : 9999;
+            if (19 + 28 * n + 200 > left) n = (left - 19 - 200) / 28;
+            row[KIND] = LINEA;
+            row[CODE] = listed_code(g, LINEA);
+            row[VERTICES] = (int64_t)n;
+            for (size_t i = 0; i < n; i++) add_point(t, origin.x + between(g, -9999, 9999), some_real(g, origin.y));
+            left -= 19 + 28 * n;
+        }
+        add_row(t, row);
+    }
+    while (left > 0) { /* a text of n letters takes 57 + n bytes, n 1 to 255 */
+        int64_t row[WIDTH] = {0};
+        const size_t n = left <= 312 ? left - 57 : left <= 500 ? 100 : 255;
+        row[KIND] = TESTO;
+        row[LETTERS] = (int64_t)n;
+        for (size_t i = 0; i < n; i++) add_letters(t, (const uint8_t *)"t", 1);
+        add_row(t, row);
+        left -= 57 + n;
+    }
+}
+
+/* ---- Sheets damaged ---- */
+
+static void stretch(rng *g, size_t *len, size_t room) {
+    const size_t by[] = {1, 2, 11, 12};
+    if (one_in(g, 3)) {
+        const size_t more = 1 + below(g, BEYOND);
+        *len = *len + more <= room ? *len + more : room;
+    } else if (one_in(g, 12)) {
+        *len = 0;
+    } else {
+        const size_t less = PICK(g, by);
+        *len = *len >= less ? *len - less : 0;
+    }
+}
+
+static void damage_header(rng *g, tables *t) {
+    static const uint8_t in_names[] = {'A', 'Z', '@', '[', 'a', '0', '9', '/', ':', '_', ' ', 'Q', 'U', 0, 255};
+    switch (below(g, 4)) {
+    case 0: /* also kinds that are good in their low bits alone */
+        t->kind = one_in(g, 4) ? t->kind | 1ull << between(g, 8, 63) : one_in(g, 3) ? any(g) : one_in(g, 2) ? 1 + below(g, 3) : one_in(g, 2) ? 0 : 4;
+        break;
+    case 1: t->name[below(g, 11)] = PICK(g, in_names); break;
+    case 2: t->name_len = one_in(g, 3) ? 0 : one_in(g, 2) ? 10 : 12; break;
+    default: t->scale = one_in(g, 2) ? edge_number(g) : one_in(g, 2) ? 0 : REAL_HIGH + 1; break;
+    }
+}
+
+void damage_sheet(rng *g, tables *t) {
+    static const uint8_t in_letters[] = {' ', ' ', ' ', 31, 127, 126, 0, 255, '+', '(', ')', 'S', 'A', 10, 13};
+    static const uint16_t in_islands[] = {0, 3, 4, 5, 9995, 9999, 10000, 65535, 65532};
+    /* What stands past the used part is never to matter: garbage, made new each time. */
+    for (size_t i = t->rows_len; i < t->rows_len + BEYOND && i < t->rows_room; i++) t->rows[i] = edge_number(g);
+    for (size_t i = t->letters_len; i < t->letters_len + BEYOND && i < t->letters_room; i++) t->letters[i] = (uint8_t)any(g);
+    for (size_t i = t->islands_len; i < t->islands_len + BEYOND && i < t->islands_room; i++) t->islands[i] = (uint16_t)any(g);
+    for (size_t i = t->points_len; i < t->points_len + BEYOND && i < t->points_room; i++) t->points[i] = edge_number(g);
+    switch (below(g, 12)) {
+    case 0: damage_header(g, t); break;
+    case 1:
+        t->count = one_in(g, 3) ? t->count + 1 : one_in(g, 3) ? (one_in(g, 2) ? any(g) : t->count | 1ull << between(g, 32, 63)) : one_in(g, 3) && t->count > 0 ? t->count - 1 : below(g, t->count + 3);
+        break;
+    case 2:
+    case 3: /* any number of any row */
+        if (t->rows_len > 0) {
+            int64_t *n = t->rows + below(g, t->rows_len);
+            /* also numbers that are good in their low bits alone */
+            *n = one_in(g, 4) ? (int64_t)((uint64_t)*n ^ 1ull << between(g, 8, 63)) : edge_number(g);
+        }
+        break;
+    case 4: /* a count, a kind, an outside mark, a code or a size off by little */
+        if (t->count > 0 && t->rows_len >= WIDTH) {
+            static const size_t places[] = {KIND, OUTSIDE, CODE, SIZE, LETTERS, ISLANDS, VERTICES, ISLANDS, VERTICES};
+            int64_t *n = t->rows + WIDTH * below(g, t->rows_len / WIDTH) + PICK(g, places);
+            *n = one_in(g, 2) ? *n + 1 : *n - 1;
+        }
+        break;
+    case 5: /* a letter: at an end of some row's letters every other time */
+        if (t->letters_len > 0) {
+            size_t i = below(g, t->letters_len);
+            if (one_in(g, 2) && t->rows_len >= WIDTH) {
+                const size_t row = below(g, t->rows_len / WIDTH);
+                size_t first = 0;
+                for (size_t k = 0; k < row; k++) first += (size_t)t->rows[WIDTH * k + LETTERS];
+                const size_t n = (size_t)t->rows[WIDTH * row + LETTERS];
+                if (n > 0 && first < t->letters_len && n <= t->letters_len - first) i = one_in(g, 2) ? first : first + n - 1;
+            }
+            t->letters[i] = PICK(g, in_letters);
+        }
+        break;
+    case 6: /* an island's count */
+        if (t->islands_len > 0) {
+            uint16_t *n = t->islands + below(g, t->islands_len);
+            *n = one_in(g, 3) ? PICK(g, in_islands) : one_in(g, 2) ? (uint16_t)(*n + 1) : (uint16_t)(*n - 1);
+        }
+        break;
+    case 7: /* a coordinate: a ring opened, or out of range */
+        if (t->points_len > 0) {
+            int64_t *n = t->points + below(g, t->points_len);
+            *n = one_in(g, 2) ? edge_number(g) : one_in(g, 2) ? *n + 1 : *n - 1;
+        }
+        break;
+    case 8: stretch(g, &t->rows_len, t->rows_room); break;
+    case 9: stretch(g, &t->letters_len, t->letters_room); break;
+    case 10: stretch(g, &t->islands_len, t->islands_room); break;
+    default: stretch(g, &t->points_len, t->points_room); break;
+    }
+    if (one_in(g, 3) && t->count > 0 && t->rows_len >= WIDTH) /* a code that is well made but unlisted */
+        for (size_t k = 0; k < t->rows_len / WIDTH; k++)
+            if (t->rows[WIDTH * k + KIND] >= SIMBOLO && t->rows[WIDTH * k + KIND] <= LINEA && one_in(g, 4))
+                t->rows[WIDTH * k + CODE] = other_code(g);
+}
+
+/* ---- Files ---- */
+
+/* What a record is for. RAW is given as text; the others are text or a number that is dressed when it is written. */
+typedef enum {
+    FIRST, NAME, SCALE, KEYWORD, TEXT, SIZE_OF, CODE_OF, ISLANDS_OF, VERTICES_OF, ISLAND, REAL, VERTEX, LAST_X, LAST_Y, END, RAW, ROLES
+} role;
+
+typedef enum { CRLF, LF, NOTHING, CR, CR_CR_LF, LF_CR, CR_BLANK_LF } ending;
+
+typedef struct {
+    role what;
+    bool loose;
+    ending end;
+    size_t text, length; /* in the pool */
+    int64_t value;
+} piece;
+
+/* The file being made. Kept from one to the next, so that nothing is allocated for most. */
+static piece *pieces;
+static size_t piece_count, piece_room;
+static bytes pool;
+
+static piece *insert_piece(size_t where, piece p) {
+    if (piece_count == piece_room) {
+        piece_room = piece_room < 64 ? 64 : 2 * piece_room;
+        pieces = grown(pieces, piece_room, sizeof *pieces);
+    }
+    memmove(pieces + where + 1, pieces + where, (piece_count - where) * sizeof *pieces);
+    pieces[where] = p;
+    piece_count++;
+    return pieces + where;
+}
+
+static void add_word(role what, const void *text, size_t n) {
+    insert_piece(piece_count, (piece){what, false, CRLF, pool.len, n, 0});
+    add_bytes(&pool, text, n);
+}
+
+static void add_value(role what, int64_t value) { insert_piece(piece_count, (piece){what, false, CRLF, 0, 0, value}); }
+
+static void set_text(piece *p, role what, const void *text, size_t n) {
+    p->what = what;
+    p->text = pool.len;
+    p->length = n;
+    add_bytes(&pool, text, n);
+}
+
+static bool is_integer(role what) { return what >= SIZE_OF && what <= ISLAND; }
+static bool is_real(role what) { return what == SCALE || (what >= REAL && what <= LAST_Y); }
+
+static void sheet_pieces(const tables *t) {
+    static const char *const firsts[] = {"", "MAPPA", "MAPPA FONDIARIO", "QUADRO D'UNIONE"};
+    static const char *const words[] = {"", "BORDO", "TESTO", "SIMBOLO", "FIDUCIALE", "LINEA"};
+    size_t letters = 0, islands = 0, points = 0;
+    piece_count = 0;
+    pool.len = 0;
+    add_word(FIRST, firsts[t->kind], strlen(firsts[t->kind]));
+    add_word(NAME, t->name, 11);
+    add_value(SCALE, t->scale);
+    for (uint64_t r = 0; r < t->count; r++) {
+        const int64_t *n = t->rows + WIDTH * r;
+        add_word(KEYWORD, words[n[KIND]], strlen(words[n[KIND]]));
+        if (n[OUTSIDE] == 1) {
+            add_byte(&pool, '\\');
+            pieces[piece_count - 1].length++;
+        }
+        if (n[KIND] == BORDO || n[KIND] == TESTO || n[KIND] == FIDUCIALE) add_word(TEXT, t->letters + letters, (size_t)n[LETTERS]);
+        letters += (size_t)n[LETTERS];
+        if (n[KIND] == BORDO || n[KIND] == TESTO) add_value(SIZE_OF, n[SIZE]);
+        else add_value(CODE_OF, n[CODE]);
+        if (n[KIND] <= SIMBOLO) add_value(REAL, n[ANGLE]);
+        if (n[KIND] != LINEA) add_value(REAL, n[X]), add_value(REAL, n[Y]);
+        if (n[KIND] == BORDO || n[KIND] == FIDUCIALE) add_value(REAL, n[SECOND_X]), add_value(REAL, n[SECOND_Y]);
+        if (n[KIND] == BORDO) add_value(ISLANDS_OF, n[ISLANDS]);
+        if (n[KIND] == BORDO || n[KIND] == LINEA) add_value(VERTICES_OF, n[VERTICES]);
+        size_t outer = (size_t)n[VERTICES];
+        for (int64_t i = 0; i < n[ISLANDS]; i++) {
+            add_value(ISLAND, t->islands[islands + (size_t)i]);
+            outer -= t->islands[islands + (size_t)i];
+        }
+        for (int64_t ring = 0; ring <= n[ISLANDS]; ring++) {
+            const size_t v = ring == 0 ? outer : t->islands[islands + (size_t)ring - 1];
+            for (size_t i = 0; i < v; i++) {
+                const bool last = n[KIND] == BORDO && i + 1 == v;
+                add_value(last ? LAST_X : VERTEX, t->points[2 * points]);
+                add_value(last ? LAST_Y : VERTEX, t->points[2 * points + 1]);
+                points++;
+            }
+        }
+        islands += (size_t)n[ISLANDS];
+    }
+    add_word(END, "EOF", 3);
+}
+
+static void blanks(rng *g, bytes *out, size_t most) {
+    for (size_t n = below(g, most + 1); n > 0; n--) add_byte(out, ' ');
+}
+
+static void tail(rng *g, bytes *out) {
+    static const char *const tails[] = {
+        " ", "  ", " numero di isole", "          numero totale di vertici", " 7", " -1.000", " \\", "     \t", " EOF", " x",
+    };
+    if (one_in(g, 3)) {
+        const char *text = PICK(g, tails);
+        for (; *text != 0; text++)
+            if (*text != '\t') add_byte(out, (uint8_t)*text);
+    }
+}
+
+static void integer_text(rng *g, int64_t value, bool loose, bytes *out) {
+    char text[40];
+    if (!loose) {
+        snprintf(text, sizeof text, "%4lld", (long long)value);
+        add_text(out, text);
+        return;
+    }
+    blanks(g, out, one_in(g, 2) ? 0 : 6);
+    snprintf(text, sizeof text, "%0*lld", (int)(one_in(g, 2) ? 1 : 1 + below(g, 4)), (long long)value);
+    add_text(out, text);
+    tail(g, out);
+}
+
+static void real_text(rng *g, int64_t value, bool loose, bytes *out) {
+    char token[48], text[64], padded[80];
+    const bool minus = value < 0 || (loose && value == 0 && one_in(g, 3));
+    const uint64_t size = value < 0 ? 0 - (uint64_t)value : (uint64_t)value;
+    int width = 1;
+    if (loose && one_in(g, 4)) width = 1 + (int)below(g, minus ? 7 : 8);
+    snprintf(token, sizeof token, "%0*llu.%03llu", width, (unsigned long long)(size / 1000), (unsigned long long)(size % 1000));
+    const bool plus = loose && !minus && strlen(token) < 12 && one_in(g, 3);
+    snprintf(text, sizeof text, "%s%s", minus ? "-" : plus ? "+" : "", token);
+    if (!loose) {
+        snprintf(padded, sizeof padded, "%12s", text);
+        add_text(out, padded);
+        return;
+    }
+    blanks(g, out, one_in(g, 2) ? 0 : 14);
+    add_text(out, text);
+    tail(g, out);
+}
+
+static void write_piece(rng *g, const piece *p, bytes *out) {
+    if (is_integer(p->what)) {
+        integer_text(g, p->value, p->loose, out);
+    } else if (is_real(p->what)) {
+        real_text(g, p->value, p->loose, out);
+    } else {
+        /* a record may be 255 long with its blanks and no longer */
+        const size_t most = p->length <= 249 ? 3 : 0;
+        if (p->loose && p->what != RAW) blanks(g, out, most);
+        add_bytes(out, pool.at + p->text, p->length);
+        if (p->loose && p->what != RAW) blanks(g, out, most);
+    }
+    switch (p->end) {
+    case CRLF: add_text(out, "\r\n"); break;
+    case LF: add_byte(out, '\n'); break;
+    case NOTHING: break;
+    case CR: add_byte(out, '\r'); break;
+    case CR_CR_LF: add_text(out, "\r\r\n"); break;
+    case LF_CR: add_text(out, "\n\r"); break;
+    case CR_BLANK_LF: add_text(out, "\r \n"); break;
+    }
+}
+
+/* Any record: first what it is for is drawn, then one of that use, so that the few header records, counts and codes are
+   met as often as the many coordinates. */
+static size_t some_piece(rng *g, unsigned roles) {
+    const size_t start = below(g, piece_count);
+    role what = (role)below(g, ROLES);
+    while ((roles >> what & 1) == 0) what = (role)below(g, ROLES);
+    for (size_t i = 0; i < piece_count; i++)
+        if (pieces[(start + i) % piece_count].what == what) return (start + i) % piece_count;
+    return start;
+}
+
+#define ALL_ROLES (~0u)
+
+/* A record is made wrong, or only other, by one byte. */
+static void scratch(rng *g, bytes *b, size_t from) {
+    static const uint8_t likely[] = {' ', ' ', '0', '1', '9', '.', '-', '+', ',', 'x', '\\', '_', 'A', 'E', 0, 9, 10, 13, 31, 126, 127, 128, 255};
+    const uint8_t byte = PICK(g, likely);
+    const size_t n = b->len - from;
+    if (n == 0) {
+        add_byte(b, byte);
+        return;
+    }
+    const size_t i = from + below(g, n);
+    switch (below(g, 4)) {
+    case 0: b->at[i] = byte; break;
+    case 1: /* insert */
+        add_byte(b, 0);
+        memmove(b->at + i + 1, b->at + i, b->len - 1 - i);
+        b->at[i] = byte;
+        break;
+    case 2: /* delete */
+        memmove(b->at + i, b->at + i + 1, b->len - 1 - i);
+        b->len--;
+        break;
+    default: b->at[i] ^= (uint8_t)(1u << below(g, 8)); break;
+    }
+}
+
+static void damage_keyword(rng *g, piece *p) {
+    static const char *const wrong[] = {
+        "", " ", "BORDO\\", "BORDO ", " TESTO", "TESTO\\ ", "TESTO \\", "TESTO\\\\", "\\", "testo", "EOF\\", "EOF note", "EOF ", " EOF",
+        "EOFF", "EO", "LIBRETTO", "RIFERIMENTO_RASTER", "BORD", "BORDOX", "LINEE", "SIMBOLO\\x", "FIDUCIALI", "TESTI\\", "EOF",
+        "BORDO", "TESTO", "LINEA", "SIMBOLO\\", "FIDUCIALE", "MAPPA", "LINEA\\",
+    };
+    const char *text = PICK(g, wrong);
+    set_text(p, KEYWORD, text, strlen(text));
+}
+
+static void damage_first(rng *g, piece *p) {
+    static const char *const wrong[] = {
+        "", "MAPPA ", " MAPPA", "MAPPA FONDIARIO", "MAPPA  FONDIARIO", "MAPPA FONDIARIO ", "QUADRO D'UNIONE", "QUADRO D UNIONE",
+        "QUADRO", "mappa", "MAPP", "MAPPAX", "EOF", "MAPPA",
+    };
+    const char *text = PICK(g, wrong);
+    set_text(p, FIRST, text, strlen(text));
+}
+
+static void damage_name(rng *g, piece *p) {
+    static const uint8_t in_names[] = {'A', 'Z', '@', '[', 'a', '0', '9', '/', ':', '_', ' ', 'Q', 'U'};
+    bytes b = {0};
+    add_bytes(&b, pool.at + p->text, p->length);
+    switch (below(g, 5)) {
+    case 0: b.at[below(g, b.len)] = PICK(g, in_names); break;
+    case 1: b.len -= 1; break;
+    case 2: add_byte(&b, '0'); break;
+    case 3: add_byte(&b, ' '); break;
+    default:
+        if (b.len == 11) b.at[9] = 'Q', b.at[10] = one_in(g, 2) ? 'U' : 'V';
+        break;
+    }
+    set_text(p, NAME, b.at, b.len);
+    free(b.at);
+}
+
+static void damage_letters(rng *g, piece *p) {
+    bytes b = {0};
+    switch (below(g, 7)) {
+    case 0: break;
+    case 1: blanks(g, &b, 5); break;
+    case 2:
+        add_byte(&b, ' ');
+        add_bytes(&b, pool.at + p->text, p->length);
+        break;
+    case 3:
+        add_bytes(&b, pool.at + p->text, p->length);
+        add_byte(&b, ' ');
+        break;
+    case 4: /* 255 letters and a blank are 256 */
+        for (size_t n = 254 + below(g, 4); n > 0; n--) add_byte(&b, 'x');
+        if (one_in(g, 2)) b.at[one_in(g, 2) ? 0 : b.len - 1] = ' ';
+        break;
+    case 5:
+        for (size_t n = below(g, 700); n > 0; n--) add_byte(&b, 'y');
+        break;
+    default:
+        add_bytes(&b, pool.at + p->text, p->length);
+        scratch(g, &b, 0);
+        break;
+    }
+    set_text(p, TEXT, b.at, b.len);
+    free(b.at);
+}
+
+/* A number's record as text, with one byte wrong, or too long. */
+static void damage_number(rng *g, piece *p) {
+    bytes b = {0};
+    static const char *const near[] = {"      -0.000", "       0.000", "      +1.000", "      -1.000", "      01.000", "     -01.000", "      -0.001",
+                                       "      00.000", "00000001.000", "-0000001.000", "       1.000 ", "        1.000", "      1.000"};
+    static const char *const near_integers[] = {"   0", "  00", "0000", "  01", "0012", " 012", "  -0", "  +1", "  1 ", "1   ", "    1", "  1"};
+    if (one_in(g, 5)) { /* nearly the exact form, or just it */
+        const char *text = is_integer(p->what) ? PICK(g, near_integers) : PICK(g, near);
+        add_text(&b, text);
+    } else if (one_in(g, 8)) { /* the tail makes a long record */
+        add_text(&b, is_integer(p->what) ? "12 " : "1.000 ");
+        for (size_t n = 245 + below(g, 12); n > 0; n--) add_byte(&b, 't');
+    } else if (one_in(g, 4)) {
+        make_number(g, &b);
+    } else {
+        if (is_integer(p->what)) integer_text(g, p->value, one_in(g, 3), &b);
+        else real_text(g, p->value, one_in(g, 3), &b);
+        scratch(g, &b, 0);
+    }
+    set_text(p, RAW, b.at, b.len);
+    free(b.at);
+}
+
+static void damage_value(rng *g, piece *p) {
+    static const int64_t scales[] = {0, 0, -1, 1, -1000};
+    if (p->what == SCALE) p->value = PICK(g, scales);
+    else if (p->what == CODE_OF) p->value = other_code(g);
+    else if (is_integer(p->what) && one_in(g, 4)) p->value = (int64_t)below(g, 9);
+    else if (is_integer(p->what)) p->value = one_in(g, 4) ? (int64_t)below(g, 10001) : p->value + (one_in(g, 2) ? 1 : -1);
+    else p->value = one_in(g, 3) ? some_real(g, 0) : p->value + (one_in(g, 2) ? 1 : -1);
+}
+
+/* One fault among the records; some leave the file good, and that too is worth comparing. */
+static void damage_pieces(rng *g) {
+    const unsigned counts = 1u << ISLANDS_OF | 1u << VERTICES_OF | 1u << ISLAND | 1u << CODE_OF;
+    const unsigned numbers = counts | 1u << SCALE | 1u << SIZE_OF | 1u << REAL | 1u << VERTEX | 1u << LAST_X | 1u << LAST_Y;
+    size_t i = some_piece(g, ALL_ROLES);
+    switch (below(g, 16)) {
+    case 0: /* dropped */
+        memmove(pieces + i, pieces + i + 1, (piece_count - i - 1) * sizeof *pieces);
+        piece_count--;
+        break;
+    case 1: insert_piece(i, pieces[i]); break; /* twice */
+    case 2: /* two records exchanged */
+        if (i + 1 < piece_count) {
+            const piece p = pieces[i];
+            pieces[i] = pieces[i + 1];
+            pieces[i + 1] = p;
+        }
+        break;
+    case 3:
+    case 4:
+        i = some_piece(g, counts);
+        if (is_integer(pieces[i].what)) damage_value(g, pieces + i);
+        break;
+    case 5:
+        i = some_piece(g, numbers);
+        if (is_integer(pieces[i].what) || is_real(pieces[i].what)) damage_value(g, pieces + i);
+        break;
+    case 6: /* a ring is opened */
+        i = some_piece(g, 1u << LAST_X | 1u << LAST_Y);
+        if (is_real(pieces[i].what)) damage_value(g, pieces + i);
+        break;
+    case 7:
+    case 8:
+        i = some_piece(g, numbers);
+        if (is_integer(pieces[i].what) || is_real(pieces[i].what)) damage_number(g, pieces + i);
+        break;
+    case 9:
+        i = some_piece(g, 1u << TEXT);
+        if (pieces[i].what == TEXT) damage_letters(g, pieces + i);
+        break;
+    case 10:
+        i = some_piece(g, 1u << KEYWORD | 1u << END);
+        if (pieces[i].what == KEYWORD || pieces[i].what == END) damage_keyword(g, pieces + i);
+        break;
+    case 11:
+        i = some_piece(g, 1u << FIRST | 1u << NAME | 1u << SCALE);
+        if (pieces[i].what == FIRST) damage_first(g, pieces + i);
+        else if (pieces[i].what == NAME && pieces[i].length > 0) damage_name(g, pieces + i);
+        else if (pieces[i].what == SCALE) damage_value(g, pieces + i);
+        break;
+    case 12:
+    case 13: pieces[i].end = (ending)(1 + below(g, 6)); break;
+    case 14: pieces[i].loose = !pieces[i].loose; break;
+    default: { /* a bad byte */
+        bytes b = {0};
+        static const uint8_t bad[] = {0, 9, 13, 31, 127, 128, 255};
+        if (is_integer(pieces[i].what)) integer_text(g, pieces[i].value, pieces[i].loose, &b);
+        else if (is_real(pieces[i].what)) real_text(g, pieces[i].value, pieces[i].loose, &b);
+        else add_bytes(&b, pool.at + pieces[i].text, pieces[i].length);
+        if (one_in(g, 2) || b.len == 0) add_byte(&b, PICK(g, bad));
+        else b.at[below(g, b.len)] = PICK(g, bad);
+        if (one_in(g, 4)) /* of a record that is too long as well */
+            while (b.len < 250 + below(g, 10)) add_byte(&b, 'z');
+        set_text(pieces + i, RAW, b.at, b.len);
+        free(b.at);
+        break;
+    }
+    }
+}
+
+/* One fault among the bytes: changed, inserted, deleted, cut, a stretch twice or gone. */
+static void damage_bytes(rng *g, bytes *b) {
+    if (b->len == 0) return;
+    switch (below(g, 6)) {
+    case 0: b->len = below(g, b->len); break;
+    case 1: b->len -= 1 + below(g, b->len < 8 ? b->len : 8); break;
+    case 2: { /* a stretch is gone */
+        const size_t i = below(g, b->len), n = 1 + below(g, 20);
+        const size_t k = i + n <= b->len ? n : b->len - i;
+        memmove(b->at + i, b->at + i + k, b->len - i - k);
+        b->len -= k;
+        break;
+    }
+    default: scratch(g, b, 0); break;
+    }
+}
+
+int some_faults(rng *g) { return one_in(g, 2) ? 0 : one_in(g, 4) ? 2 + (int)below(g, 3) : 1; }
+
+void make_file(rng *g, const tables *t, int faults, bytes *out) {
+    sheet_pieces(t);
+    const int style = (int)below(g, 12); /* 0 to 5: exact */
+    for (size_t i = 0; i < piece_count; i++) {
+        if (style == 6) pieces[i].loose = one_in(g, 8), pieces[i].end = one_in(g, 8) ? LF : CRLF;
+        if (style == 7 || style == 8) pieces[i].loose = true, pieces[i].end = one_in(g, 2) ? LF : CRLF;
+        if (style == 9) pieces[i].end = LF;
+    }
+    if (style > 9) { /* exact but for one record */
+        const size_t i = some_piece(g, ALL_ROLES);
+        if (one_in(g, 2)) pieces[i].loose = true;
+        else pieces[i].end = LF;
+    }
+    int in_bytes = 0;
+    for (int k = 0; k < faults; k++) {
+        if (piece_count > 0 && !one_in(g, 4)) damage_pieces(g);
+        else in_bytes++;
+    }
+    /* The loose EOF with no line end; not where it would be dressed, as then it is a cut record. */
+    if (piece_count > 0 && one_in(g, 10) && (faults > 0 || !pieces[piece_count - 1].loose)) pieces[piece_count - 1].end = NOTHING;
+    const bool closed = piece_count > 0 && pieces[piece_count - 1].end != NOTHING;
+    out->len = 0;
+    for (size_t i = 0; i < piece_count; i++) write_piece(g, pieces + i, out);
+    if (one_in(g, 10) && (closed || faults > 0)) { /* something after EOF */
+        static const char *const after[] = {"\n", "\r\n", "x", "EOF\r\n", "TESTO\r\n", "\x1a", " "};
+        const char *text = PICK(g, after);
+        if (one_in(g, 3)) make_records(g, out);
+        else add_text(out, text);
+    }
+    for (int k = 0; k < in_bytes; k++) damage_bytes(g, out);
+}
+
+/* ---- Numbers and records ---- */
+
+void make_number(rng *g, bytes *out) {
+    static const uint8_t alphabet[] = "   0011299.+-x";
+    const size_t from = out->len;
+    int64_t value;
+    if (one_in(g, 12)) { /* a sign before zeros, in a record of 11 to 13 characters */
+        for (size_t n = 5 + below(g, 3); n > 0; n--) add_byte(out, ' ');
+        add_text(out, one_in(g, 2) ? "-0.00" : one_in(g, 2) ? " 0.00" : "+0.00");
+        add_byte(out, one_in(g, 2) ? '0' : digit(g));
+        return;
+    }
+    switch (below(g, 8)) {
+    case 0:
+    case 1: integer_text(g, (int64_t)below(g, one_in(g, 2) ? 10 : 10002), one_in(g, 2), out); break;
+    case 2:
+    case 3:
+    case 4:
+        value = one_in(g, 2) ? some_real(g, 0) : one_in(g, 2) ? between(g, -12000, 12000) : between(g, REAL_LOW - 5, REAL_HIGH + 5);
+        real_text(g, value, one_in(g, 2), out);
+        break;
+    case 5:
+        for (size_t n = below(g, 16); n > 0; n--) add_byte(out, alphabet[below(g, sizeof alphabet - 1)]);
+        return;
+    case 6: /* zeros in front, a sign, and a token of 11 to 13 characters */
+        if (one_in(g, 2)) add_byte(out, one_in(g, 2) ? '-' : '+');
+        for (size_t n = 5 + below(g, 5); n > 0; n--) add_byte(out, one_in(g, 2) ? '0' : digit(g));
+        add_byte(out, '.');
+        for (size_t n = one_in(g, 8) ? below(g, 5) : 3; n > 0; n--) add_byte(out, one_in(g, 2) ? '0' : digit(g));
+        break;
+    default:
+        for (size_t n = below(g, one_in(g, 10) ? 400 : 14); n > 0; n--) add_byte(out, ' ');
+        if (one_in(g, 2)) add_byte(out, digit(g));
+        if (one_in(g, 2)) add_text(out, ".000");
+        for (size_t n = below(g, 6); n > 0; n--) add_byte(out, (uint8_t)any(g)); /* a tail of any bytes */
+        break;
+    }
+    for (size_t n = one_in(g, 2) ? 0 : 1 + below(g, 2); n > 0; n--) scratch(g, out, from);
+}
+
+void make_records(rng *g, bytes *out) {
+    static const char *const bits[] = {"\n", "\r\n", "\r", " ", "EOF", "EOF", "EOF\n", "EOF\r\n", "TESTO", "7", "~", "\x1f", "\x7f", "\x80", "\xff", "\t"};
+    for (size_t n = below(g, 8); n > 0; n--) {
+        if (one_in(g, 6)) {
+            for (size_t k = 250 + below(g, 10); k > 0; k--) add_byte(out, one_in(g, 300) ? 7 : 'r');
+        } else if (one_in(g, 12)) {
+            add_byte(out, 0);
+        } else {
+            const char *text = PICK(g, bits);
+            add_text(out, text);
+        }
+    }
+}

@@ -1,0 +1,61 @@
+/* The C interface, declared anew from its paper and not taken from include/cxf.h, so that a slip there shows here.
+   The same functions twice: cxf_* is the library under test, ref_* the reference in reference.c. */
+#ifndef REFERENCE_H
+#define REFERENCE_H
+
+#include <stddef.h>
+#include <stdint.h>
+
+typedef struct {
+    uint64_t number;
+    uint64_t record, offset;                 /* the refusal's place; 0 and 0 with 1 and 14 */
+    uint64_t rows, letters, islands, points; /* used where number is 0, needed where it is 14 */
+    uint64_t kind;                           /* the header, where number is 0 */
+    int64_t scale;
+    uint8_t name[11];
+} cxf_reading;
+
+/* A sheet that is handed in: its header, how many rows it has, and its four tables. */
+#define CXF_SHEET                                                                                        \
+    uint64_t kind, const uint8_t *name, size_t name_len, int64_t scale, uint64_t count,                  \
+    const int64_t *rows, size_t rows_len, const uint8_t *letters, size_t letters_len,                    \
+    const uint16_t *islands, size_t islands_len, const int64_t *points, size_t points_len
+
+typedef struct { uint64_t number, row, length; } cxf_written;
+typedef struct {
+    uint64_t number, row, class_of; /* 1 CONFINE, 2 OTHER, 3 ROAD, 4 WATER, 5 BUILDING, 6 PARCEL */
+    int64_t size, angle, x, y, inner_x, inner_y;
+    uint64_t letters, islands, vertices;
+} cxf_border;
+typedef struct { uint64_t number, row, surface_right, centroid; } cxf_text;
+typedef struct { uint64_t number, row; int64_t doubled; } cxf_area;
+typedef struct { uint64_t number, row; int64_t figures[24]; } cxf_tally;
+typedef struct { uint64_t number, row, simple, first, second; } cxf_ring;
+typedef struct { uint64_t number; float east, south; } cxf_tile;
+typedef struct { uint64_t number, start, length, next; } cxf_record;
+typedef struct { uint64_t number; int64_t value; } cxf_number;
+typedef struct { uint64_t number, length; } cxf_listed;
+
+#define DECLARE_INTERFACE(P)                                                                             \
+    cxf_reading P##_read(const uint8_t *src, size_t src_len, uint64_t mode, int64_t *rows,               \
+                         size_t rows_len, uint8_t *letters, size_t letters_len, uint16_t *islands,       \
+                         size_t islands_len, int64_t *points, size_t points_len);                        \
+    cxf_written P##_write(CXF_SHEET, uint8_t *out, size_t out_len);                                      \
+    cxf_border P##_border_at(CXF_SHEET, uint64_t row);                                                   \
+    cxf_text P##_text_at(CXF_SHEET, uint64_t row);                                                       \
+    cxf_area P##_ring_area(CXF_SHEET, uint64_t row, uint64_t ring);                                      \
+    cxf_area P##_net_area(CXF_SHEET, uint64_t row);                                                      \
+    cxf_tally P##_tally_sheet(CXF_SHEET);                                                                \
+    cxf_tally P##_tally_take(const int64_t *figures, size_t figures_len, CXF_SHEET, uint64_t row);       \
+    cxf_ring P##_ring_check(CXF_SHEET, uint64_t row, uint64_t ring);                                     \
+    cxf_tile P##_tile_point(int64_t corner_x, int64_t corner_y, int64_t x, int64_t y);                   \
+    cxf_record P##_record_at(const uint8_t *src, size_t src_len, uint64_t at, uint64_t mode,             \
+                             uint64_t keyword_due);                                                      \
+    cxf_number P##_integer(const uint8_t *content, size_t content_len, uint64_t mode);                   \
+    cxf_number P##_real(const uint8_t *content, size_t content_len, uint64_t mode);                      \
+    cxf_listed P##_listing(const uint8_t *src, size_t src_len, uint8_t *out, size_t out_len);
+
+DECLARE_INTERFACE(cxf)
+DECLARE_INTERFACE(ref)
+
+#endif
