@@ -113,15 +113,21 @@ square low high = pos low ∷ pos low ∷ pos high ∷ pos low ∷ pos high ∷ 
 cases : List (Question × Answer)
 unfolding bowtie
 cases =
-    -- (a) to (e)
+    -- (a) to (d), in both modes
     (real Exact "      -0.005", numbers (negℤ (pos 5) ∷ [])) ∷
+    (real Loose "      -0.005", numbers (negℤ (pos 5) ∷ [])) ∷
     (real Exact "-9999999.999", numbers (negℤ (pos 9999999999) ∷ [])) ∷
+    (real Loose "-9999999.999", numbers (negℤ (pos 9999999999) ∷ [])) ∷
     (real Exact "99999999.999", numbers (pos 99999999999 ∷ [])) ∷
+    (real Loose "99999999.999", numbers (pos 99999999999 ∷ [])) ∷
+    (real Exact "-10000000.000", refused malformed) ∷
     (real Loose "-10000000.000", refused malformed) ∷
+    -- (e)
     (real Loose "      -0.000", numbers (pos 0 ∷ [])) ∷
     (real Exact "      -0.000", refused malformed) ∷
     -- (f), (g)
     (integer Exact "   0", numbers (pos 0 ∷ [])) ∷
+    (integer Loose "   0", numbers (pos 0 ∷ [])) ∷
     (integer Loose " 018", numbers (pos 18 ∷ [])) ∷
     (integer Exact " 018", refused malformed) ∷
     -- (h)
