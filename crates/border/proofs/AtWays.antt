@@ -11,7 +11,7 @@ use mir.Val.{Fits}
 use borrow.Author.Tests.{not-true, not-false}
 use Rattle.laws.specs.Lists.{tail}
 use Rattle.laws.proofs.ListLaws.{rest-is}
-use Rattle.header.specs.declared.Header.{Header}
+use Rattle.heading.specs.declared.Header.{Header}
 use Rattle.sheet.specs.Tables.{Tables}
 use Rattle.made.specs.declared.Verdict.{Verdict}
 use Rattle.made.specs.Made.{tablesOf}
@@ -21,7 +21,7 @@ use Rattle.row.specs.declared.Sought.the-variants as Sought
 use Rattle.row.specs.Walk.{leftAt}
 use Rattle.row.specs.Seek.{soughtOf}
 use Rattle.row.proofs.SeekLaws.{stood}
-use Rattle.border.specs.Classes.{isBorder, borderOf, textOf}
+use Rattle.border.specs.Borders.{isBorder, borderOf, textOf}
 use Rattle.border.specs.BorderAt.{borderFound, borderAt}
 use Rattle.border.specs.TextAt.{textFound, textAt}
 use Rattle.border.specs.declared.Border.{Border}

@@ -6,12 +6,12 @@ use native.Mathlib.Omega.{arith}
 use lib.ListN.{length, take, List·getD-append}
 use lib.Seq.{take-append-le, take-take, length-take-le, getD-take}
 use lib.IntN.{pos}
-use Rattle.machine.specs.Rows.{rowWidth, sizePlace, anglePlace, xPlace, yPlace, x2Place, y2Place, lettersPlace, islandsPlace, verticesPlace}
-use Rattle.header.specs.declared.Header.{Header}
+use Rattle.kinds.specs.Kinds.{rowWidth, sizePlace, anglePlace, xPlace, yPlace, x2Place, y2Place, lettersPlace, islandsPlace, verticesPlace}
+use Rattle.heading.specs.declared.Header.{Header}
 use Rattle.sheet.specs.Tables.{Tables, _then_}
 use Rattle.made.specs.Made.{tablesOf, natOf, cellAt, countAt, lettersOf, firstOf}
 use Rattle.made.proofs.RowWays.{Held}
-use Rattle.border.specs.Classes.{borderOf}
+use Rattle.border.specs.Borders.{borderOf}
 
 -- islands and points play no part
 pub border-lists : (h : Header) (t : Tables) → borderOf h (tablesOf (t .rows) (t .letters) [] []) ≡ borderOf h t

@@ -1,5 +1,4 @@
 -- The ways through the functions, and the laws that others cite.
-pub mod ClassWays
 pub mod RowWays
 pub mod BorderLaws
 pub mod AtWays

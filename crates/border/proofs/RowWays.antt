@@ -12,11 +12,12 @@ use mir.Syntax.{w64}
 use mir.Val.{toZ, ofZ}
 use borrow.Author.Tests.{eq-eqb, ne-eqb}
 use Rattle.laws.proofs.Bits.{back, bits-yes, bits-no}
-use Rattle.header.specs.declared.Header.{Header}
-use Rattle.machine.specs.Rows.{sizePlace, anglePlace, xPlace, yPlace, x2Place, y2Place, lettersPlace, islandsPlace, verticesPlace}
+use Rattle.heading.specs.declared.Header.{Header}
+use Rattle.kinds.specs.Kinds.{sizePlace, anglePlace, xPlace, yPlace, x2Place, y2Place, lettersPlace, islandsPlace, verticesPlace}
 use Rattle.made.specs.Made.{tablesOf, natOf}
-use Rattle.border.specs.Classes.{classOf, isBorder, borderOf, isSurface, textOf}
-use Rattle.border.specs.declared.Class.{Class}
+use Rattle.classes.specs.Classes.{classOf, isSurface}
+use Rattle.border.specs.Borders.{isBorder, borderOf, textOf}
+use Rattle.classes.specs.declared.Class.{Class}
 
 -- ---- a number, and how many letters are held
 

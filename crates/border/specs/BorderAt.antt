@@ -2,13 +2,13 @@
 use Prim.Native.Nat.{ℕ}
 use mathlib.Core.Bool.{cond}
 use Rattle.record.specs.Refusals.{noSuch}
-use Rattle.header.specs.declared.Header.{Header}
+use Rattle.heading.specs.declared.Header.{Header}
 use Rattle.sheet.specs.Tables.{Tables}
 use Rattle.row.specs.declared.Sought.{Sought}
 use Rattle.row.specs.declared.Sought.the-variants as Sought
 use Rattle.row.specs.Walk.{leftAt}
 use Rattle.row.specs.Seek.{soughtOf}
-use Rattle.border.specs.Classes.{isBorder, borderOf}
+use Rattle.border.specs.Borders.{isBorder, borderOf}
 use Rattle.border.specs.declared.BorderAnswer.{BorderAnswer}
 use Rattle.border.specs.declared.BorderAnswer.the-variants.{Is, Missing, Refused}
 

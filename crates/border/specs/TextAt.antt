@@ -1,13 +1,13 @@
 -- What a row of a sheet that is handed in says as a text: document 01, "Border classes". Assumes nothing: these are definitions.
 use Prim.Native.Nat.{ℕ}
 use Rattle.record.specs.Refusals.{noSuch}
-use Rattle.header.specs.declared.Header.{Header}
+use Rattle.heading.specs.declared.Header.{Header}
 use Rattle.sheet.specs.Tables.{Tables}
 use Rattle.row.specs.declared.Sought.{Sought}
 use Rattle.row.specs.declared.Sought.the-variants as Sought
 use Rattle.row.specs.Walk.{leftAt}
 use Rattle.row.specs.Seek.{soughtOf}
-use Rattle.border.specs.Classes.{textOf}
+use Rattle.border.specs.Borders.{textOf}
 use Rattle.border.specs.declared.TextAnswer.{TextAnswer}
 use Rattle.border.specs.declared.TextAnswer.the-variants.{Is, Missing, Refused}
 

@@ -6,25 +6,17 @@ ghost use mathlib.Core.List.{[]};
 ghost use lib.ListN.{length, getD};
 ghost use lib.IntN.{pos};
 ghost use Rattle.made.specs.Made.{tablesOf, lettersOf};
-ghost use Rattle.border.specs.Classes.{beginsWith, endsIn, isMarked, isRoad, isWater, classOf, indexOf, isBorder, borderOf, isSurface, textOf};
+ghost use Rattle.border.specs.Borders.{isBorder, borderOf, textOf};
 ghost use Rattle.border.specs.BorderAt.{borderAt};
 ghost use Rattle.border.specs.TextAt.{textAt};
-use header::Header;
+use classes::Class;
+use classes::class_of;
+use classes::is_surface;
+use heading::Header;
 use made::Verdict;
 use made::count_at;
-use record::is_same;
 use row::Sought;
 use row::seek;
-
-// In the paper's order.
-pub enum Class {
-    Confine,
-    Other,
-    Road,
-    Water,
-    Building,
-    Parcel,
-}
 
 // A border row: its class, size and angle, its text's point and its inner point, and how many letters, islands and vertices it has.
 pub struct Border {
@@ -78,96 +70,6 @@ const ISLANDS_PLACE: usize = 10;
 
 const VERTICES_PLACE: usize = 11;
 
-// How many letters a sheet's name has.
-const NAME_LETTERS: usize = 11;
-
-// The fewest letters of a surface right.
-const SURFACE_LETTERS: usize = 3;
-
-fn begins_with(byte: u8, s: &[u8]) -> bool
-    ensures { λ r. ⌜ r ≡ beginsWith byte (now (s .entry)) ⌝ }
-{
-    if s.len() < 1 {
-        return false;
-    }
-    if s[0] == byte { true } else { false }
-}
-
-fn ends_in(byte: u8, s: &[u8]) -> bool
-    ensures { λ r. ⌜ r ≡ endsIn byte (now (s .entry)) ⌝ }
-{
-    if s.len() < 1 {
-        return false;
-    }
-    if s[s.len() - 1] == byte { true } else { false }
-}
-
-// Letters that begin with a byte, in kind 2.
-fn is_marked(byte: u8, kind: usize, s: &[u8]) -> bool
-    ensures { λ r. ⌜ r ≡ isMarked byte kind (now (s .entry)) ⌝ }
-{
-    if kind != 2 {
-        return false;
-    }
-    begins_with(byte, s)
-}
-
-fn is_road(kind: usize, s: &[u8]) -> bool
-    ensures { λ r. ⌜ r ≡ isRoad kind (now (s .entry)) ⌝ }
-{
-    if is_same(s, b"STRADA") {
-        return true;
-    }
-    is_marked(b'S', kind, s)
-}
-
-fn is_water(kind: usize, s: &[u8]) -> bool
-    ensures { λ r. ⌜ r ≡ isWater kind (now (s .entry)) ⌝ }
-{
-    if is_same(s, b"ACQUA") {
-        return true;
-    }
-    is_marked(b'A', kind, s)
-}
-
-// The class of a border with these letters: the first rule that holds.
-pub fn class_of(header: Header, s: &[u8]) -> Class
-    ensures { λ r. ⌜ r ≡ classOf (header .kind) (header .name) (now (s .entry)) ⌝ }
-{
-    let name = header.name;
-    if is_same(s, &name) {
-        return Class::Confine;
-    }
-    if s.len() == NAME_LETTERS {
-        return Class::Other;
-    }
-    let kind = header.kind;
-    if is_road(kind, s) {
-        return Class::Road;
-    }
-    if is_water(kind, s) {
-        return Class::Water;
-    }
-    if ends_in(b'+', s) {
-        return Class::Building;
-    }
-    Class::Parcel
-}
-
-// A class's place in the paper's order, from 0.
-pub fn index_of(class: Class) -> usize
-    ensures { λ r. ⌜ r ≡ indexOf class ⌝ }
-{
-    match class {
-        Class::Confine => 0,
-        Class::Other => 1,
-        Class::Road => 2,
-        Class::Water => 3,
-        Class::Building => 4,
-        Class::Parcel => 5,
-    }
-}
-
 // The number at a place of the first row; past the end it is 0.
 fn cell_at(rows: &[i64], place: usize) -> i64
     ensures { λ r. ⌜ r ≡ getD (now (rows .entry)) place (pos 0) ⌝ }
@@ -213,19 +115,6 @@ pub fn border_of(header: Header, rows: &[i64], letters: &[u8]) -> Border
         islands: count_at(rows, ISLANDS_PLACE),
         vertices: count_at(rows, VERTICES_PLACE),
     }
-}
-
-// At least three letters, from `(` to `)`.
-fn is_surface(s: &[u8]) -> bool
-    ensures { λ r. ⌜ r ≡ isSurface (now (s .entry)) ⌝ }
-{
-    if s.len() < SURFACE_LETTERS {
-        return false;
-    }
-    if !begins_with(b'(', s) {
-        return false;
-    }
-    ends_in(b')', s)
 }
 
 // What the first row says as a text, its letters at the front of `letters`.

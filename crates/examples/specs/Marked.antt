@@ -31,9 +31,9 @@ use Rattle.made.specs.Made.{sum}
 use Rattle.area.specs.declared.Areas.{Areas}
 use Rattle.area.specs.declared.Areas.the-variants as Areas
 use Rattle.area.specs.BorderRings.{totalFrom, areasOf, netOf}
-use Rattle.border.specs.declared.Class.{Class}
-use Rattle.border.specs.declared.Class.the-variants.{Building, Road, Parcel}
-use Rattle.border.specs.Classes.{beginsWith, endsIn, isMarked, isRoad, isWater, classOf, isSurface}
+use Rattle.classes.specs.declared.Class.{Class}
+use Rattle.classes.specs.declared.Class.the-variants.{Building, Road, Parcel}
+use Rattle.classes.specs.Classes.{beginsWith, endsIn, isMarked, isRoad, isWater, classOf, isSurface}
 
 -- what is asked
 data Question : Type 0 where

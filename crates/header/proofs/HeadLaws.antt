@@ -1,17 +1,17 @@
 -- The theorems on headers: what a header is by its bytes, what makes one, and how the modes relate. Assumes nothing.
 use mathlib.Core.Path.{_≡_, refl, sym, _∙_, ap, subst}
-use mathlib.Core.List.{List, [], _∷_, _++_, append-assoc}
-use mathlib.Core.Bool.{Bool, true, false, cond, not, _&&_, _||_}
-use Prim.Native.Nat.{ℕ, _+_, _-_, _≤_, _<_}
+use mathlib.Core.List.{List, _++_, append-assoc}
+use mathlib.Core.Bool.{Bool, true, false, cond}
+use Prim.Native.Nat.{ℕ, _+_, _-_, _≤_}
 use native.Mathlib.Omega.{arith}
 use lib.ListN.{length, take, drop, length-append}
 use lib.Seq.{take-append-seam, drop-append-seam, drop-append-add}
 use lib.Dec.{eqb}
-use lib.IntN.{ℤ, pos}
+use lib.IntN.{pos}
 use lib.Signed.{ltZ}
 use borrow.Author.Tests.{eqb-false, ne-eqb}
 use Rattle.laws.specs.Lists.{all, place}
-use Rattle.laws.proofs.Choice.{and-left, and-right, cond-elim, cond-first}
+use Rattle.laws.proofs.Choice.{and-left, and-right, cond-elim}
 use Rattle.record.specs.declared.Mode.{Mode}
 use Rattle.record.specs.declared.Mode.the-variants.{Loose, Exact}
 use Rattle.record.specs.declared.Line.{Line}
@@ -27,11 +27,12 @@ use Rattle.number.specs.Words.{wordOf, trimmed}
 use Rattle.number.specs.Number.{realOf}
 use Rattle.number.proofs.NumberLaws.{real-widens}
 use Rattle.number.proofs.WordLaws.{word-widens}
-use Rattle.header.specs.declared.Header.{Header}
+use Rattle.heading.specs.declared.Header.{Header}
 use Rattle.header.specs.declared.Headed.{Headed}
 use Rattle.header.specs.declared.Ahead.{Ahead}
 use Rattle.header.specs.declared.Ahead.the-variants.{Sections, Refused}
-use Rattle.header.specs.Header.{firstWords, isName, isWord, kindOf, isNamed, scaled, scaleLine, headScale, nameLine, headName, firstLine, headed}
+use Rattle.header.specs.Header.{firstWords, isWord, kindOf, isNamed, scaled, scaleLine, headScale, nameLine, headName, firstLine, headed}
+use Rattle.heading.specs.Heading.{isName}
 
 -- a content and the line end behind it
 pub record Whole (mode : Mode) (c e : List ℕ) : Type 0 where

@@ -12,10 +12,11 @@ use Rattle.record.specs.Refusals.{badHeader, malformed}
 use Rattle.record.specs.Record.{endsCR, content, contentIs, lineIs, lineOf}
 use Rattle.number.specs.Words.{unled, trimmed, wordOf}
 use Rattle.number.specs.Number.{value, ended, lean, signOf, signs, signed, thousandths, isToken, isNeat, realIs, realAt, realSigned, realOf}
-use Rattle.header.specs.declared.Header.{Header}
+use Rattle.heading.specs.declared.Header.{Header}
 use Rattle.header.specs.declared.Headed.{Headed}
 use Rattle.header.specs.declared.Ahead.the-variants.{Sections}
-use Rattle.header.specs.Header.{firstWords, nameByte, isName, isHeader, stopped, kindOf, isNamed, headScale, headName, headed}
+use Rattle.header.specs.Header.{firstWords, stopped, kindOf, isNamed, headScale, headName, headed}
+use Rattle.heading.specs.Heading.{nameByte, isName, isHeader}
 
 -- the header of a text
 read : Mode → String → Headed

@@ -1,12 +1,12 @@
 -- The three records of the header: document 01, "Header and EOF". Assumes nothing: these are definitions.
 use Prim.Native.Nat.{ℕ, _+_}
 use mathlib.Core.List.{List, [], _∷_}
-use mathlib.Core.Bool.{Bool, true, false, cond, not, _&&_, _||_}
-use lib.ListN.{length, take, drop, replicate}
-use lib.Dec.{leb, eqb}
-use lib.IntN.{ℤ, pos}
-use lib.Signed.{ltZ, leZ}
-use Rattle.laws.specs.Lists.{same, allAt, place}
+use mathlib.Core.Bool.{Bool, true, false, cond, _&&_}
+use lib.ListN.{take, drop}
+use lib.Dec.{eqb}
+use lib.IntN.{pos}
+use lib.Signed.{ltZ}
+use Rattle.laws.specs.Lists.{place}
 use Rattle.laws.specs.Text.{text}
 use Rattle.record.specs.declared.Mode.{Mode}
 use Rattle.record.specs.declared.Line.{Line}
@@ -18,38 +18,14 @@ use Rattle.number.specs.declared.Word.the-variants as Word
 use Rattle.number.specs.declared.Decimal.{Decimal}
 use Rattle.number.specs.declared.Decimal.the-variants as Decimal
 use Rattle.number.specs.Words.{wordOf, trimmed}
-use Rattle.number.specs.Number.{digit, realOf, realMost}
-use Rattle.header.specs.declared.Header.{Header}
+use Rattle.number.specs.Number.{realOf}
+use Rattle.heading.specs.Heading.{noHeader, isName}
 use Rattle.header.specs.declared.Headed.{Headed}
-use Rattle.header.specs.declared.Ahead.{Ahead}
 use Rattle.header.specs.declared.Ahead.the-variants.{Sections, Refused}
-
--- ---- the values
 
 -- kinds 1, 2 and 3 by the first word
 unfoldable pub firstWords : List (List ℕ)
 firstWords = text "MAPPA" ∷ text "MAPPA FONDIARIO" ∷ text "QUADRO D'UNIONE" ∷ []
-
-abbrev pub capital : ℕ → Bool
-capital b = leb 65 b && leb b 90
-
--- a capital letter, three digits, a capital letter or `_`, four digits, then two of 0-9 or A-Z
-unfoldable pub nameByte : ℕ → ℕ → Bool
-nameByte i b =
-    cond (eqb i 0) (capital b) (cond (leb i 3) (digit b) (cond (eqb i 4) (capital b || eqb b 95) (cond (leb i 8) (digit b) (digit b || capital b))))
-
--- a name of that form; for kind 3 the last two are `QU`
-unfoldable pub isName : ℕ → List ℕ → Bool
-isName kind s = eqb (length s) 11 && allAt nameByte 0 s && (not (eqb kind 3) || same (drop 9 s) (text "QU"))
-
--- a header that is handed in: kind 1 to 3, a name of its form, a scale above 0 and within the real range
-unfoldable pub isHeader : Header → Bool
-isHeader h = leb 1 (h .kind) && leb (h .kind) 3 && isName (h .kind) (h .name) && ltZ (pos 0) (h .scale) && leZ (h .scale) realMost
-
--- ---- the records
-
-abbrev pub noHeader : Header
-noHeader = record { kind = 0; name = replicate 11 0; scale = pos 0 }
 
 abbrev pub stopped : ℕ → ℕ → ℕ → Headed
 stopped number record′ offset = record { ahead = Refused number record′ offset; header = noHeader }

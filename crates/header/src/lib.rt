@@ -1,11 +1,12 @@
-// The header of a file (document 01, "Header and EOF"): its three records, and the check of a header that is handed in.
+// The header of a file (document 01, "Header and EOF"): its three records.
 // All of it is proved, and no public function has a `requires`.
 ghost use mathlib.Core.Path.{_≡_};
 ghost use Prim.Native.Nat.{_≤_};
 ghost use lib.ListN.{length, drop};
-ghost use Rattle.number.specs.Number.{digit};
-ghost use Rattle.laws.specs.Lists.{allAt, place};
-ghost use Rattle.header.specs.Header.{firstWords, capital, stopped, nameByte, isName, isHeader, kindOf, headScale, headName, headed};
+ghost use Rattle.laws.specs.Lists.{place};
+ghost use Rattle.header.specs.Header.{firstWords, stopped, kindOf, headScale, headName, headed};
+use heading::Header;
+use heading::is_name;
 use number::Decimal;
 use number::Word;
 use number::real;
@@ -16,12 +17,6 @@ use record::is_same;
 use record::line_at;
 use record::refusal::HEADER;
 use record::refusal::NUMBER;
-
-pub struct Header {
-    pub kind: usize,
-    pub name: [u8; 11],
-    pub scale: i64,
-}
 
 // Where the sections begin, or the refusal with its record's number and place.
 pub enum Ahead {
@@ -39,104 +34,6 @@ pub enum Ahead {
 pub struct Headed {
     pub ahead: Ahead,
     pub header: Header,
-}
-
-// The largest scale.
-const REAL_MOST: i64 = 99_999_999_999;
-
-fn is_capital(b: u8) -> bool
-    ensures { λ r. ⌜ r ≡ capital b ⌝ }
-{
-    if b < b'A' {
-        return false;
-    }
-    if b > b'Z' { false } else { true }
-}
-
-fn is_digit(b: u8) -> bool
-    ensures { λ r. ⌜ r ≡ digit b ⌝ }
-{
-    if b < b'0' {
-        return false;
-    }
-    if b > b'9' { false } else { true }
-}
-
-// A byte that a name may have at a place.
-fn is_name_byte(i: usize, b: u8) -> bool
-    ensures { λ r. ⌜ r ≡ nameByte i b ⌝ }
-{
-    if i == 0 {
-        return is_capital(b);
-    }
-    if i <= 3 {
-        return is_digit(b);
-    }
-    if i == 4 {
-        if is_capital(b) {
-            return true;
-        }
-        return b == b'_';
-    }
-    if i <= 8 {
-        return is_digit(b);
-    }
-    if is_digit(b) {
-        return true;
-    }
-    is_capital(b)
-}
-
-// Every byte is one that a name may have at its place.
-fn is_formed(s: &[u8]) -> bool
-    ensures { λ r. ⌜ r ≡ allAt nameByte 0 (now (s .entry)) ⌝ }
-{
-    let mut i = 0;
-    while i < s.len() {
-        if !is_name_byte(i, s[i]) {
-            return false;
-        }
-        i += 1;
-    }
-    true
-}
-
-// A name; for kind 3 its last two are `QU`.
-pub fn is_name(kind: usize, s: &[u8]) -> bool
-    ensures { λ r. ⌜ r ≡ isName kind (now (s .entry)) ⌝ }
-{
-    if s.len() != 11 {
-        return false;
-    }
-    if !is_formed(s) {
-        return false;
-    }
-    if kind != 3 {
-        return true;
-    }
-    is_same(&s[9..], b"QU")
-}
-
-// A header that is handed in.
-pub fn is_header(h: Header) -> bool
-    ensures { λ r. ⌜ r ≡ isHeader h ⌝ }
-{
-    let kind = h.kind;
-    if kind < 1 {
-        return false;
-    }
-    if kind > 3 {
-        return false;
-    }
-    let name = h.name;
-    if !is_name(kind, &name) {
-        return false;
-    }
-    let scale = h.scale;
-    if scale <= 0 {
-        return false;
-    }
-    if scale > REAL_MOST { false } else { true }
 }
 
 // The kind that a first word says, or 0.

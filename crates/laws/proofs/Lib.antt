@@ -1,3 +1,4 @@
+-- The laws of `laws`; `pub mod` lets other crates cite a file.
 pub mod Choice
 pub mod ListLaws
 pub mod Packed

@@ -1,2 +1,2 @@
-pub mod RowLaws
+-- The laws of `machine` and the ways through its code; `pub mod` lets other crates cite a file.
 pub mod MachineWays

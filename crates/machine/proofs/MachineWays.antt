@@ -17,37 +17,17 @@ use Rattle.token.specs.Lex.{lexOf}
 use Rattle.token.specs.declared.Token.{Token}
 use Rattle.token.specs.declared.Token.the-variants.{Say, Bad}
 use Rattle.token.specs.declared.Want.{Want}
-use Rattle.token.specs.declared.Want.the-variants.{Key, Text, Int, Real}
+use Rattle.token.specs.declared.Want.the-variants.{Key, Int, Real}
 use Rattle.machine.specs.declared.Ring.{Ring}
 use Rattle.machine.specs.declared.State.{State}
 use Rattle.machine.specs.declared.State.the-variants.{Due, Field, Island, X, Y}
 use Rattle.machine.specs.declared.Step.{Step}
 use Rattle.machine.specs.declared.Step.the-variants.{Go, No, End}
 use Rattle.machine.specs.declared.One.{One}
-use Rattle.machine.specs.Rows.{codePlace, anglePlace, y2Place, lettersPlace, islandsPlace, verticesPlace, nextOf, isListed}
-use Rattle.machine.specs.Machine.{wantAt, wantOf, isDue, ringOf, verticesOf, fieldOf, islandOf, isShut, ringStep, vertexOf, keyStep, stepOf, ofStep, ofToken, ofLine, oneOf}
+use Rattle.kinds.specs.Kinds.{codePlace, islandsPlace, verticesPlace, nextOf, isListed, wantAt}
+use Rattle.machine.specs.Machine.{wantOf, isDue, ringOf, verticesOf, fieldOf, islandOf, isShut, ringStep, vertexOf, keyStep, stepOf, ofStep, ofToken, ofLine, oneOf}
 
 -- ---- what a record must be
-
-module _ (p : ℕ) where
-  pub want-letters : p ≡ lettersPlace → Text ≡ wantAt p
-  unfolding wantAt
-  want-letters e = rw (eq-eqb p lettersPlace e)
-
-  module _ (n : p ≡ lettersPlace → ⊥) where
-    pub want-before : p < anglePlace → Int ≡ wantAt p
-    unfolding wantAt
-    want-before h = rw (ne-eqb p lettersPlace n, lt-leb anglePlace p h)
-
-    pub want-behind : anglePlace ≤ p → y2Place < p → Int ≡ wantAt p
-    unfolding wantAt
-    want-behind h k = rw (ne-eqb p lettersPlace n, le-leb anglePlace p h, lt-leb p y2Place k)
-
-    pub want-real : anglePlace ≤ p → p ≤ y2Place → Real ≡ wantAt p
-    unfolding wantAt
-    want-real h k = rw (ne-eqb p lettersPlace n, le-leb anglePlace p h, le-leb p y2Place k)
-
-pub ruleset want-at-ways = (want-letters, want-before, want-behind, want-real)
 
 module _ (st : State) where
   pub want-key : st ≡ Due → Key ≡ wantOf st

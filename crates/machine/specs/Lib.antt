@@ -1,2 +1,2 @@
-pub mod Rows
+-- The definitions of `machine`, in the order to read them.
 pub mod Machine

@@ -8,11 +8,11 @@ use Rattle.record.specs.declared.Mode.{Mode}
 use Rattle.record.specs.declared.Line.{Line}
 use Rattle.record.specs.Record.{isLoose, lineOf}
 use Rattle.record.specs.Refusals.{notKeyword, unlistedCode, badCount, openRing}
-use Rattle.machine.specs.Rows.{nextOf, isListed, codePlace, lettersPlace, islandsPlace, verticesPlace, anglePlace, y2Place}
+use Rattle.kinds.specs.Kinds.{wantAt, nextOf, isListed, codePlace, islandsPlace, verticesPlace}
 use Rattle.token.specs.Lex.{lexOf}
 use Rattle.token.specs.declared.Token.{Token}
 use Rattle.token.specs.declared.Want.{Want}
-use Rattle.token.specs.declared.Want.the-variants.{Key, Text, Int, Real}
+use Rattle.token.specs.declared.Want.the-variants.{Key, Int, Real}
 use Rattle.machine.specs.declared.Ring.{Ring}
 use Rattle.machine.specs.declared.State.{State}
 use Rattle.machine.specs.declared.State.the-variants.{Due, Field, Island, X, Y}
@@ -21,10 +21,6 @@ use Rattle.machine.specs.declared.Step.the-variants.{Go, No, End}
 use Rattle.machine.specs.declared.One.{One}
 
 -- ---- what a record must be
-
--- angle, x, y and the second x, y are reals
-unfoldable pub wantAt : ℕ → Want
-wantAt p = cond (eqb p lettersPlace) Text (cond (leb anglePlace p && leb p y2Place) Real Int)
 
 unfoldable pub wantOf : State → Want
 wantOf Due = Key

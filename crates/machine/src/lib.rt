@@ -1,15 +1,16 @@
 // The machine over records (document 01, "Sections"): its state says what the next record must be, and a token moves it.
-// All of it is proved, and no public function has a `requires`. A kind of section is a row of the tables below.
+// All of it is proved, and no public function has a `requires`.
 ghost use mathlib.Core.Path.{_≡_};
 ghost use mathlib.Core.Bool.{not, _&&_};
-ghost use mathlib.Core.List.{[]};
-ghost use lib.ListN.{length, getD};
+ghost use lib.ListN.{length};
 ghost use lib.Dec.{eqb};
-ghost use Rattle.laws.specs.Lists.{holds};
 ghost use Rattle.record.specs.Record.{isLoose};
 ghost use Rattle.token.specs.Lex.{lexOf};
-ghost use Rattle.machine.specs.Rows.{codePlace, schedule, nextOf, isListed};
-ghost use Rattle.machine.specs.Machine.{wantAt, wantOf, isDue, ringOf, verticesOf, fieldOf, islandOf, isShut, ringStep, vertexOf, keyStep, stepOf, ofToken, oneOf};
+ghost use Rattle.kinds.specs.Kinds.{codePlace, isListed};
+ghost use Rattle.machine.specs.Machine.{wantOf, isDue, ringOf, verticesOf, fieldOf, islandOf, isShut, ringStep, vertexOf, keyStep, stepOf, ofToken, oneOf};
+use kinds::is_listed;
+use kinds::next_field;
+use kinds::want_at;
 use record::Line;
 use record::Mode;
 use record::line_at;
@@ -69,187 +70,12 @@ pub enum One {
     End(usize),
 }
 
-const KINDS: usize = 5;
-
-const PLACES: usize = 12;
-
 // The places of a row that the machine goes by.
 const CODE_PLACE: usize = 2;
-
-const ANGLE_PLACE: usize = 4;
-
-const SECOND_Y_PLACE: usize = 8;
-
-const LETTERS_PLACE: usize = 9;
 
 const ISLANDS_PLACE: usize = 10;
 
 const VERTICES_PLACE: usize = 11;
-
-// The listed codes by kind, from 0, and where each kind's begin.
-const CODES: [u8; 30] = [
-    1,
-    2,
-    3,
-    4,
-    5,
-    6,
-    7,
-    8,
-    9,
-    10,
-    11,
-    13,
-    14,
-    15,
-    16,
-    20,
-    8,
-    20,
-    1,
-    5,
-    6,
-    11,
-    12,
-    29,
-    30,
-    31,
-    32,
-    33,
-    34,
-    35,
-];
-
-const CODE_STARTS: [usize; 7] = [0, 0, 0, 0, 16, 18, 30];
-
-// The fields of each kind as places of its row, in the file's order, from 0, and where each kind's begin.
-const FIELDS: [u8; 26] = [
-    9,
-    3,
-    4,
-    5,
-    6,
-    7,
-    8,
-    10,
-    11,
-    9,
-    3,
-    4,
-    5,
-    6,
-    2,
-    4,
-    5,
-    6,
-    9,
-    2,
-    5,
-    6,
-    7,
-    8,
-    2,
-    11,
-];
-
-const FIELD_STARTS: [usize; 7] = [0, 0, 9, 14, 18, 24, 26];
-
-// By kind, from 0, the place that follows each place of a row in the file; at 0 the first, and 0 after the last.
-const NEXT: [[u8; PLACES]; 6] = [
-    [0, 0, 0, 0, 0, 0, 0, 0, 0, 0, 0, 0],
-    [9, 0, 0, 4, 5, 6, 7, 8, 10, 3, 11, 0],
-    [9, 0, 0, 4, 5, 6, 0, 0, 0, 3, 0, 0],
-    [2, 0, 4, 0, 5, 6, 0, 0, 0, 0, 0, 0],
-    [9, 0, 5, 0, 0, 6, 7, 8, 0, 2, 0, 0],
-    [2, 0, 11, 0, 0, 0, 0, 0, 0, 0, 0, 0],
-];
-
-fn wide(b: u8) -> usize
-    ensures { λ r. ⌜ r ≡ b ⌝ }
-{
-    b as usize
-}
-
-// The field of a kind after the one at a place, or 0.
-fn next_field(kind: usize, place: usize) -> usize
-    ensures { λ r. ⌜ r ≡ nextOf kind place ⌝ }
-{
-    if kind > KINDS {
-        return 0;
-    }
-    if place >= PLACES {
-        return 0;
-    }
-    wide(NEXT[kind][place])
-}
-
-// One of the bytes is n.
-fn is_in(list: &[u8], n: usize) -> bool
-    ensures { λ r. ⌜ r ≡ holds (now (list .entry)) n ⌝ }
-{
-    let mut i = 0;
-    while i < list.len() {
-        if wide(list[i]) == n {
-            return true;
-        }
-        i += 1;
-    }
-    false
-}
-
-// A code that is listed for a kind.
-pub fn is_listed(kind: usize, code: usize) -> bool
-    ensures { λ r. ⌜ r ≡ isListed kind code ⌝ }
-{
-    if kind > KINDS {
-        return false;
-    }
-    let start = CODE_STARTS[kind];
-    let end = CODE_STARTS[kind + 1];
-    is_in(&CODES[start..end], code)
-}
-
-// The rows of a kind have a field at a place.
-pub fn has_field(kind: usize, place: usize) -> bool
-    ensures { λ r. ⌜ r ≡ holds (getD schedule kind []) place ⌝ }
-{
-    if kind > KINDS {
-        return false;
-    }
-    let start = FIELD_STARTS[kind];
-    let end = FIELD_STARTS[kind + 1];
-    is_in(&FIELDS[start..end], place)
-}
-
-// The place of field j of a kind, from 0; 0 past the last.
-pub fn field_at(kind: usize, j: usize) -> usize
-    ensures { λ r. ⌜ r ≡ getD (getD schedule kind []) j 0 ⌝ }
-{
-    if kind > KINDS {
-        return 0;
-    }
-    let start = FIELD_STARTS[kind];
-    let end = FIELD_STARTS[kind + 1];
-    if j >= end - start {
-        return 0;
-    }
-    wide(FIELDS[start + j])
-}
-
-pub fn want_at(place: usize) -> Want
-    ensures { λ r. ⌜ r ≡ wantAt place ⌝ }
-{
-    if place == LETTERS_PLACE {
-        return Want::Text;
-    }
-    if place < ANGLE_PLACE {
-        return Want::Int;
-    }
-    if place > SECOND_Y_PLACE {
-        return Want::Int;
-    }
-    Want::Real
-}
 
 // What a content at a state is to be read as.
 pub fn wanted(st: State) -> Want
@@ -346,7 +172,7 @@ fn is_refused_code(mode: Mode, kind: usize, place: usize, n: usize) -> bool
 }
 
 // After a field of a row.
-fn field_step(mode: Mode, kind: usize, place: usize, islands: usize, n: usize) -> Step
+pub fn field_step(mode: Mode, kind: usize, place: usize, islands: usize, n: usize) -> Step
     ensures { λ r. ⌜ r ≡ fieldOf mode kind place islands n ⌝ }
 {
     if is_refused_code(mode, kind, place, n) {
@@ -397,7 +223,7 @@ fn island_step(left: usize, spare: usize, rings: usize, n: usize) -> Step
 }
 
 // The last vertex of a ring is its first.
-fn is_shut(closed: bool, fx: usize, fy: usize, x: usize, y: usize) -> bool
+pub fn is_shut(closed: bool, fx: usize, fy: usize, x: usize, y: usize) -> bool
     ensures { λ r. ⌜ r ≡ isShut closed fx fy x y ⌝ }
 {
     if !closed {

@@ -22,9 +22,9 @@ use Rattle.number.specs.Words.{wordOf}
 use Rattle.number.specs.Number.{integerOf, realOf}
 use Rattle.number.proofs.NumberLaws.{integer-widens, real-widens}
 use Rattle.number.proofs.WordLaws.{word-widens}
-use Rattle.header.specs.declared.Header.{Header}
+use Rattle.heading.specs.declared.Header.{Header}
 use Rattle.header.proofs.HeadLaws.{head-widens}
-use Rattle.machine.specs.Rows.{nextOf, isListed}
+use Rattle.kinds.specs.Kinds.{nextOf, isListed}
 use Rattle.token.specs.Lex.{ofKey, ofText, ofWhole, ofDecimal, lexOf}
 use Rattle.machine.specs.Machine.{wantOf, isDue, verticesOf, fieldOf, stepOf, ofToken, oneOf}
 use Rattle.sheet.specs.Tables.{Tables, empty}

@@ -8,7 +8,7 @@ use lib.ListN.{length, take, drop, length-append}
 use lib.Seq.{take-at, drop-at, take-append-seam, drop-append-seam}
 use Rattle.record.specs.declared.Mode.{Mode}
 use Rattle.record.specs.Refusals.{fileMost}
-use Rattle.header.specs.declared.Header.{Header}
+use Rattle.heading.specs.declared.Header.{Header}
 use Rattle.sheet.specs.Tables.{Tables, empty, put, ringAfter, _then_}
 use Rattle.sheet.specs.Reading.{Reading, sheet, meaning, reading, sectionsAt, eofAt, sectionBytes, joined}
 use Rattle.machine.specs.declared.State.{State}

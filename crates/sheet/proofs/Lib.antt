@@ -1,3 +1,4 @@
+-- The laws of `sheet`; `pub mod` lets other crates cite a file.
 pub mod Okay
 pub mod Pass
 pub mod Meaning

@@ -9,7 +9,7 @@ use lib.Dec.{leb}
 use borrow.Author.Tests.{leb-true, le-leb, lt-leb}
 use Rattle.record.specs.declared.Mode.{Mode}
 use Rattle.record.specs.Refusals.{fileMost}
-use Rattle.header.specs.declared.Header.{Header}
+use Rattle.heading.specs.declared.Header.{Header}
 use Rattle.header.specs.declared.Headed.{Headed}
 use Rattle.header.specs.declared.Ahead.{Ahead}
 use Rattle.header.specs.declared.Ahead.the-variants as Ahead

@@ -32,7 +32,7 @@ use Rattle.header.specs.declared.Headed.{Headed}
 use Rattle.header.specs.declared.Ahead.{Ahead}
 use Rattle.header.specs.declared.Ahead.the-variants as Ahead
 use Rattle.header.specs.Header.{kindOf, isNamed, scaled, scaleLine, headScale, nameLine, headName, firstLine, headed}
-use Rattle.machine.specs.Rows.{nextOf, isListed}
+use Rattle.kinds.specs.Kinds.{nextOf, isListed}
 use Rattle.machine.specs.Machine.{wantOf, isDue, verticesOf, fieldOf, islandOf, isShut, ringStep, vertexOf, keyStep, stepOf, ofStep, ofToken, ofLine, oneOf}
 use Rattle.machine.specs.declared.Ring.{Ring}
 use Rattle.machine.specs.declared.State.{State}

@@ -12,15 +12,15 @@ use borrow.Author.Tests.{leb-true, leb-false}
 use Rattle.record.specs.declared.Mode.{Mode}
 use Rattle.record.specs.Record.{isLoose}
 use Rattle.laws.proofs.Choice.{cond-elim}
-use Rattle.machine.specs.Rows.{nextOf, isListed}
-use Rattle.machine.specs.Machine.{wantAt, verticesOf, fieldOf, islandOf, isShut, ringStep, vertexOf, keyStep, stepOf}
+use Rattle.kinds.specs.Kinds.{nextOf, isListed, wantAt}
+use Rattle.machine.specs.Machine.{verticesOf, fieldOf, islandOf, isShut, ringStep, vertexOf, keyStep, stepOf}
 use Rattle.sheet.specs.Tables.{Tables, newRow, cellOf, setLast, put, ringsOf, ringAfter, _then_}
 use Rattle.machine.specs.declared.Ring.{Ring}
 use Rattle.machine.specs.declared.State.{State}
 use Rattle.machine.specs.declared.State.the-variants.{Due, Field, Island, X, Y}
 use Rattle.machine.specs.declared.Step.{Step}
 use Rattle.machine.specs.declared.Step.the-variants.{Go, No, End}
-use Rattle.machine.proofs.RowLaws.{next-most}
+use Rattle.kinds.proofs.KindLaws.{next-most}
 
 -- a field has a row, and stands inside it; the islands that are to come are in the table
 abbrev pub Okay : State → Tables → Type 0

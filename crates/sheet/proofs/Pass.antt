@@ -16,7 +16,7 @@ use Rattle.record.specs.Record.{isLoose, plain, wordEOF, lineOf}
 use Rattle.record.specs.RecordView.{LineEnd, crlf, lf, Ending, ended, bare, IsLine}
 use Rattle.record.proofs.RecordLaws.{line-view, line-make}
 use Rattle.number.specs.Words.{unled, trimmed, wordOf}
-use Rattle.machine.specs.Rows.{nextOf, isListed}
+use Rattle.kinds.specs.Kinds.{nextOf, isListed}
 use Rattle.token.specs.Lex.{keyOf, lexOf}
 use Rattle.machine.specs.Machine.{wantOf, isDue, verticesOf, fieldOf, islandOf, isShut, ringStep, vertexOf, keyStep, stepOf, ofStep, ofToken, ofLine, oneOf}
 use Rattle.sheet.specs.Tables.{Tables, put, ringAfter}

@@ -11,10 +11,11 @@ use Rattle.record.specs.declared.Mode.the-variants.{Loose, Exact}
 use Rattle.record.specs.Record.{endsCR, content, contentIs, lineIs, lineOf}
 use Rattle.number.specs.Words.{unled, trimmed, wordOf}
 use Rattle.number.specs.Number as Number
-use Rattle.header.specs.Header.{firstWords, nameByte, isName, kindOf, isNamed, headScale, headName, headed}
+use Rattle.header.specs.Header.{firstWords, kindOf, isNamed, headScale, headName, headed}
+use Rattle.heading.specs.Heading.{nameByte, isName}
 use Rattle.token.specs.Lex.{keywords, mayLieOutside, lift, unlift, unmarked, isMarked, keyOf, lexOf}
-use Rattle.machine.specs.Rows.{schedule, nextIn, nextOf, codes, isListed}
-use Rattle.machine.specs.Machine.{wantAt, wantOf, verticesOf, fieldOf, islandOf, isShut, ringStep, vertexOf, keyStep, stepOf, oneOf}
+use Rattle.kinds.specs.Kinds.{schedule, nextIn, nextOf, codes, isListed, wantAt}
+use Rattle.machine.specs.Machine.{wantOf, verticesOf, fieldOf, islandOf, isShut, ringStep, vertexOf, keyStep, stepOf, oneOf}
 use Rattle.sheet.specs.Tables.{Tables, empty, setLast, put, ringAfter}
 use Rattle.sheet.specs.Reading.{Reading, sheet, refused, walk, walkFrom, sectionsOf, meaning, reading, sectionsAt, eofAt, sectionBytes, joined}
 

@@ -9,7 +9,7 @@ use Rattle.record.specs.declared.Mode.the-variants.{Loose, Exact}
 use Rattle.laws.specs.Lists.{run}
 use Rattle.record.specs.Record.{notLF}
 use Rattle.record.specs.Refusals.{tooLong, cut, afterEOF, fileMost}
-use Rattle.header.specs.declared.Header.{Header}
+use Rattle.heading.specs.declared.Header.{Header}
 use Rattle.header.specs.declared.Headed.{Headed}
 use Rattle.header.specs.declared.Ahead.{Ahead}
 use Rattle.header.specs.declared.Ahead.the-variants as Ahead

@@ -6,9 +6,8 @@ use lib.ListN.{length, getD, set, replicate}
 use lib.Dec.{eqb}
 use lib.IntN.{ℤ, pos}
 use Rattle.number.specs.Words.{trimmed}
-use Rattle.machine.specs.Rows.{rowWidth, lettersPlace}
+use Rattle.kinds.specs.Kinds.{rowWidth, lettersPlace, wantAt}
 use Rattle.token.specs.Lex.{unlift}
-use Rattle.machine.specs.Machine.{wantAt}
 use Rattle.token.specs.declared.Want.{Want}
 use Rattle.token.specs.declared.Want.the-variants.{Key, Text, Int, Real}
 use Rattle.machine.specs.declared.State.{State}

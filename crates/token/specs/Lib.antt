@@ -1,1 +1,2 @@
+-- The definitions of `token`, in the order to read them.
 pub mod Lex

@@ -1,6 +1,7 @@
 -- `name_at` meets its contract: the ways are in `HeadWays`. Assumes nothing.
 use borrow.Author.Needs.{needs}
-use Rattle.header.proofs.HeadWays.{name-long, word-ends, line-ways, named-ways}
+use Rattle.heading.proofs.HeadingWays.{name-held}
+use Rattle.header.proofs.HeadWays.{word-ends, line-ways, named-ways}
 use Rattle.header.proofs.name_at.Statement.{statement}
 use Rattle.header.proofs.name_at.Tie as tie
 
@@ -90,7 +91,7 @@ part-copied-end : tie.Need-part-copied-end
 part-copied-end c = part-is-name-end (c .before .before .before)
 
 copied-requires : tie.Need-copied-requires
-copied-requires c κs = name-long _ _ _ (c .before .before .is-name .ensures) (c .before .if1 .left)
+copied-requires c κs = name-held _ _ _ (c .before .before .is-name .ensures) (c .before .if1 .left)
 
 scale-at-requires : tie.Need-scale-at-requires
 scale-at-requires c κs = search (line-ways, named-ways, needs)

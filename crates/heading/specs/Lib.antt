@@ -1,0 +1,2 @@
+-- The definitions of `heading`, in the order to read them.
+pub mod Heading

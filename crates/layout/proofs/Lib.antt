@@ -1,0 +1,15 @@
+-- The laws of `layout`; `pub mod` lets other crates cite a file.
+mod Contents
+mod RingPass
+mod FieldPass
+pub mod RowPass
+pub mod WrittenLaws
+mod ScheduleLaws
+mod TokenSays
+mod Tails
+mod RingTails
+mod FieldTails
+mod MadeRows
+mod PassRows
+pub mod ReadMade
+pub mod ReadWritten

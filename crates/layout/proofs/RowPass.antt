@@ -1,0 +1,249 @@
+-- A well made row that is written is read back as itself, and rows one after the other. Assumes nothing.
+use Prim.Native.Nat.{ℕ, zero, suc, _+_, _*_, _/_, _%_, _≤_, _<_}
+use mathlib.Core.Path.{_≡_, refl, sym, _∙_, ap, subst}
+use mathlib.Core.List.{List, [], _∷_, _++_}
+use mathlib.Core.Bool.{Bool, true, false, cond, not, _&&_, _||_}
+use native.Mathlib.Omega.{arith}
+use lib.ListN.{length, getD, take, getD-replicate}
+use lib.Seq.{length-take-le, getD-take}
+use lib.Dec.{leb, eqb}
+use lib.IntN.{ℤ, pos}
+use borrow.Author.Tests.{leb-true, le-leb, ne-eqb, eqb-true, not-true}
+use Rattle.laws.specs.Lists.{below, holds}
+use Rattle.laws.specs.Whole.{eqZ}
+use Rattle.laws.proofs.Choice.{and-left, and-right, true≢false, cond-first}
+use Rattle.laws.proofs.Bits.{eqZ-same}
+use Rattle.laws.proofs.ListLaws.{below-at, values-are}
+use Rattle.record.specs.declared.Mode.{Mode}
+use Rattle.token.specs.Lex.{mayLieOutside, isKey, keyText}
+use Rattle.machine.specs.declared.State.the-variants.{Due, Field, Island, X}
+use Rattle.machine.specs.declared.Step.the-variants.{Go}
+use Rattle.kinds.specs.Kinds.{codePlace, schedule, wantAt}
+use Rattle.machine.specs.Machine.{wantOf, ringOf, keyStep, stepOf}
+use Rattle.sheet.specs.Tables.{Tables, empty, newRow, put}
+use Rattle.sheet.proofs.Pass.{Pass, done}
+use Rattle.sheet.proofs.Join.{pass-join, pass-append, then-empty}
+use Rattle.made.specs.declared.Verdict.the-variants.{Fine, Faulty, Unlisted}
+use Rattle.made.specs.Made.{cellAt, natOf, countAt, kindOf, lettersOf, islandsOf, pointsOf, firstOf, restOf, inRange, hasField, isOutside, isCell, cellTest, areNumbers, areLetters, areCounts, areReals, areClosed, ringSizes, arePoints, isMade, isCoded, judgeRows, usedOf}
+use Rattle.layout.specs.Sheet.{fieldsText, integersText, realsText, rowText, rowsText}
+use Rattle.layout.proofs.Contents.{key-reads, line-pass}
+use Rattle.layout.proofs.RingPass.{line-points-pass, border-pass}
+use Rattle.layout.proofs.FieldPass.{partly, islandsDue, stateAt, Scheduled, scheduled, counted, border-is, line-is, field-in, field-none, fields-pass}
+
+-- ---- what a well made row is
+
+record Row (t : Tables) : Type 0 where
+  pub held : 12 ≤ length (t .rows)
+  pub cells : (p : ℕ) → p < 12 → isCell (kindOf t) p (cellAt t p) ≡ true
+  pub letters : areLetters (countAt t 9) (t .letters) ≡ true
+  pub counts : areCounts (kindOf t) (countAt t 10) (countAt t 11) (t .islands) ≡ true
+  pub points : arePoints (kindOf t) (countAt t 11) (islandsOf t) (t .points) ≡ true
+
+row-is : (t : Tables) → isMade t ≡ true → Row t
+unfolding isMade areNumbers
+row-is t e =
+    let a = leb 12 (length (t .rows)) in
+    let b = below 12 (cellTest (t .rows)) in
+    let c = areLetters (countAt t 9) (t .letters) in
+    let d = areCounts (kindOf t) (countAt t 10) (countAt t 11) (t .islands) in
+    let f = arePoints (kindOf t) (countAt t 11) (islandsOf t) (t .points) in
+    let e₃ = and-left (a && b && c && d) f e in
+    let e₂ = and-left (a && b && c) d e₃ in
+    let e₁ = and-left (a && b) c e₂ in
+    record {
+      held = leb-true 12 (length (t .rows)) (and-left a b e₁);
+      cells = λ p h. below-at 12 (cellTest (t .rows)) p (and-right a b e₁) h;
+      letters = and-right (a && b) c e₂;
+      counts = and-right (a && b && c) d e₃;
+      points = and-right (a && b && c && d) f e;
+    }
+
+record Points (kind v : ℕ) (ns : List ℕ) (s : List ℤ) : Type 0 where
+  pub held : 2 * v ≤ length s
+  pub real : areReals (take (2 * v) s) ≡ true
+  pub closed : eqb kind 1 ≡ true → areClosed (ringSizes v ns) s ≡ true
+
+points-are : (kind v : ℕ) (ns : List ℕ) (s : List ℤ) → arePoints kind v ns s ≡ true → Points kind v ns s
+unfolding arePoints
+points-are kind v ns s e =
+    let a = leb (2 * v) (length s) in
+    let b = areReals (take (2 * v) s) in
+    let c = not (eqb kind 1) || areClosed (ringSizes v ns) s in
+    let e₁ = and-left (a && b) c e in
+    record { held = leb-true (2 * v) (length s) (and-left a b e₁); real = and-right a b e₁; closed = λ q. rw q at (and-right (a && b) c e) }
+
+-- ---- its keyword
+
+none-due : {A : Type 0} (b : Bool) (x y : A) → (b ≡ false → y ≡ x) → cond b x y ≡ x
+none-due true x y f = refl
+none-due false x y f = f refl
+
+record Outside (kind : ℕ) (z : ℤ) : Type 0 where
+  pub is : z ≡ pos (natOf z)
+  pub most : natOf z ≤ 1
+  pub key : isKey (2 * kind + natOf z) ≡ true
+
+outside-is : (kind : ℕ) (z : ℤ) → 1 ≤ kind → kind ≤ 5 → isOutside kind z ≡ true → Outside kind z
+unfolding isOutside isKey
+outside-is kind z l h e = go (eqZ z (pos 0)) refl e
+  where
+    at-0 : Outside kind (pos 0)
+    at-0 =
+        let a : (2 * kind + 0) / 2 ≡ kind = omega arith in
+        let b : (2 * kind + 0) % 2 ≡ 0 = omega arith in
+        record { is = refl; most = omega arith; key = rw (ne-eqb (2 * kind + 0) 0 (λ q. omega arith), a, b, le-leb 1 kind l, le-leb kind 5 h) }
+
+    at-1 : mayLieOutside kind ≡ true → Outside kind (pos 1)
+    at-1 m =
+        let a : (2 * kind + 1) / 2 ≡ kind = omega arith in
+        let b : (2 * kind + 1) % 2 ≡ 1 = omega arith in
+        record { is = refl; most = omega arith; key = rw (ne-eqb (2 * kind + 1) 0 (λ q. omega arith), a, b, le-leb 1 kind l, le-leb kind 5 h, m) }
+
+    go : (x : Bool) → eqZ z (pos 0) ≡ x → (x || eqZ z (pos 1) && mayLieOutside kind) ≡ true → Outside kind z
+    go true q f = subst (Outside kind) (sym (eqZ-same z (pos 0) q)) at-0
+    go false q f = subst (Outside kind) (sym (eqZ-same z (pos 1) (and-left (eqZ z (pos 1)) (mayLieOutside kind) f))) (at-1 (and-right (eqZ z (pos 1)) (mayLieOutside kind) f))
+
+module _ (mode : Mode) (t : Tables) (r : Row t) (coded : isCoded mode (kindOf t) (countAt t 2) ≡ true) where
+  kind-in : (cellAt t 0 ≡ pos (kindOf t)) × (1 ≤ kindOf t) × (kindOf t ≤ 5)
+  unfolding isCell
+  kind-in = counted 1 5 (cellAt t 0) (r .cells 0 (omega arith))
+
+  walk : Scheduled (kindOf t) (getD schedule (kindOf t) [])
+  walk = scheduled (kindOf t) (kind-in .1) (kind-in .2)
+
+  outside : Outside (kindOf t) (cellAt t 1)
+  unfolding isCell
+  outside = outside-is (kindOf t) (cellAt t 1) (kind-in .1) (kind-in .2) (r .cells 1 (omega arith))
+
+  abbrev keyToken : ℕ
+  keyToken = 2 * kindOf t + countAt t 1
+
+  half : keyToken / 2 ≡ kindOf t
+  half = omega (arith, outside .most)
+
+  -- a field that the kind lacks is 0
+  lacks : (p : ℕ) → 2 ≤ p → p ≤ 11 → holds (getD schedule (kindOf t) []) p ≡ false → cellAt t p ≡ pos 0
+  unfolding hasField
+  lacks = field-none mode t (r .cells) (r .letters) (r .counts) coded
+
+  -- it leads to the first field
+  key-on : keyStep keyToken ≡ Go (stateAt t (getD schedule (kindOf t) []))
+  unfolding keyStep
+  key-on =
+      let ps = getD schedule (kindOf t) [] in
+      let none : islandsDue t ps ≡ 0 = none-due (holds ps 10) 0 (countAt t 10) (λ e. ap natOf (lacks 10 (omega arith) (omega arith) e)) in
+      rw (ne-eqb keyToken 0 (λ q. omega (arith, kind-in .1)), half, walk .first, ne-eqb (getD ps 0 0) 0 (walk .some)) (go ps (walk .some) none)
+    where
+      go : (ps : List ℕ) → (getD ps 0 0 ≡ 0 → ⊥) → islandsDue t ps ≡ 0 → Go (Field (kindOf t) (getD ps 0 0) 0) ≡ Go (stateAt t ps)
+      go [] f e = absurd (f refl)
+      go (p ∷ ps) f e = rw e
+
+  row-new : newRow keyToken ≡ partly t (getD schedule (kindOf t) []) .rows
+  unfolding hasField
+  row-new = values-are (newRow keyToken) (λ q. cond (holds ps q) (pos 0) (cellAt t q)) 12 (pos 0) refl cell
+    where
+      ps : List ℕ
+      ps = getD schedule (kindOf t) []
+
+      cell : (q : ℕ) → q < 12 → getD (newRow keyToken) q (pos 0) ≡ cond (holds ps q) (pos 0) (cellAt t q)
+      cell zero h = rw (half, walk .noKind) (sym (kind-in .0))
+      cell (suc zero) h =
+          let odd : keyToken % 2 ≡ countAt t 1 = omega (arith, outside .most) in
+          rw (odd, walk .noOutside) (sym (outside .is))
+      cell (suc (suc q)) h =
+          getD-replicate 10 q (pos 0) (pos 0) (omega arith)
+          ∙ sym (none-due (holds ps (suc (suc q))) (pos 0) (cellAt t (suc (suc q))) (lacks (suc (suc q)) (omega arith) (omega arith)))
+
+  key-put : put Due keyToken (keyText keyToken) empty ≡ partly t (getD schedule (kindOf t) [])
+  unfolding put
+  key-put =
+      let ps = getD schedule (kindOf t) [] in
+      let none : cond (holds ps 9) [] (lettersOf t) ≡ [] =
+      none-due (holds ps 9) [] (lettersOf t) (λ e. ap (λ (z : ℤ). take (natOf z) (t .letters)) (lacks 9 (omega arith) (omega arith) e)) in
+      rw (row-new, none)
+
+  -- ---- its points
+
+  -- the tables behind the fields
+  abbrev whole : Tables
+  whole = record { rows = take 12 (t .rows); letters = lettersOf t; islands = []; points = [] }
+
+  row-whole : partly t [] ≡ whole
+  unfolding holds
+  row-whole =
+      rw (sym (values-are (take 12 (t .rows)) (cellAt t) 12 (pos 0) (length-take-le 12 (t .rows) (r .held)) (λ q h. getD-take 12 (t .rows) q (pos 0) h)))
+
+  no-islands : eqb (kindOf t) 1 ≡ false → countAt t 10 ≡ 0
+  unfolding hasField
+  no-islands q = ap natOf (lacks 10 (omega arith) (omega arith) (not-true (hasField (kindOf t) 10) (rw q at (walk .border))))
+
+  no-vertices : hasField (kindOf t) 11 ≡ false → countAt t 11 ≡ 0
+  unfolding hasField
+  no-vertices e = ap natOf (lacks 11 (omega arith) (omega arith) e)
+
+  vertices-most : hasField (kindOf t) 11 ≡ true → countAt t 11 ≤ 9999
+  unfolding wantAt inRange
+  vertices-most e = counted 0 9999 (cellAt t 11) (field-in mode t (r .cells) (r .letters) (r .counts) coded 11 (omega arith) (omega arith) e) .2
+
+  of-border : hasField (kindOf t) 11 ≡ true → eqb (kindOf t) 1 ≡ true
+      → Pass mode (cond (eqb (countAt t 10) 0) (X (ringOf true 0 (countAt t 11))) (Island (countAt t 10) (countAt t 11) (countAt t 10))) whole
+      (integersText (islandsOf t) ++ realsText (pointsOf t)) Due (firstOf t)
+  of-border e q =
+      let b = border-is (kindOf t) (countAt t 10) (countAt t 11) (t .islands) q (r .counts) in
+      let s = points-are (kindOf t) (countAt t 11) (islandsOf t) (t .points) (r .points) in
+      let n : length (islandsOf t) ≡ countAt t 10 = length-take-le (countAt t 10) (t .islands) (b .held) in
+      rw n at (border-pass {mode = mode} (islandsOf t) (countAt t 11) (t .points) whole (b .fours) (b .spare) (vertices-most e) (s .held) (s .real) (s .closed q))
+
+  of-line : hasField (kindOf t) 11 ≡ true → eqb (kindOf t) 1 ≡ false
+      → Pass mode (X (ringOf false 0 (countAt t 11))) whole (integersText (islandsOf t) ++ realsText (pointsOf t)) Due (firstOf t)
+  unfolding integersText
+  of-line e q =
+      let s = points-are (kindOf t) (countAt t 11) (islandsOf t) (t .points) (r .points) in
+      let l = line-is (kindOf t) (countAt t 10) (countAt t 11) (t .islands) q e (r .counts) in
+      rw (no-islands q) (line-points-pass (countAt t 11) (pointsOf t) whole (omega arith) (length-take-le (2 * countAt t 11) (t .points) (s .held)) (s .real))
+
+  of-none : hasField (kindOf t) 11 ≡ false → eqb (kindOf t) 1 ≡ false → Pass mode Due whole (integersText (islandsOf t) ++ realsText (pointsOf t)) Due (firstOf t)
+  unfolding integersText realsText
+  of-none e q = rw (no-islands q, no-vertices e) done
+
+  -- a border has vertices
+  no-border : hasField (kindOf t) 11 ≡ false → eqb (kindOf t) 1 ≡ true → ⊥
+  unfolding hasField schedule holds
+  no-border e q = true≢false (rw (eqb-true (kindOf t) 1 q) at e)
+
+  points-pass : Pass mode (stateAt t []) (partly t []) (integersText (islandsOf t) ++ realsText (pointsOf t)) Due (firstOf t)
+  points-pass = rw row-whole (by-vertices (hasField (kindOf t) 11) refl (eqb (kindOf t) 1) refl)
+    where
+      by-vertices : (x : Bool) → hasField (kindOf t) 11 ≡ x → (y : Bool) → eqb (kindOf t) 1 ≡ y
+          → Pass mode (cond x (cond y (cond (eqb (countAt t 10) 0) (X (ringOf true 0 (countAt t 11))) (Island (countAt t 10) (countAt t 11) (countAt t 10))) (X (ringOf false 0 (countAt t 11)))) Due) whole
+          (integersText (islandsOf t) ++ realsText (pointsOf t)) Due (firstOf t)
+      by-vertices true e true q = of-border e q
+      by-vertices true e false q = of-line e q
+      by-vertices false e true q = absurd (no-border e q)
+      by-vertices false e false q = of-none e q
+
+  -- ---- all of it
+
+  row-whole-pass : Pass mode Due empty (rowText t) Due (firstOf t)
+  unfolding rowText wantOf stepOf
+  row-whole-pass =
+      let ps = getD schedule (kindOf t) [] in
+      let rest = pass-append (fields-pass mode t (r .cells) (r .letters) (r .counts) coded ps (walk .walked)) points-pass in
+      line-pass {t = keyToken} (key-reads keyToken (omega (arith, kind-in .2, outside .most)) (outside .key)) key-on
+      (subst (λ (o : Tables). Pass mode (stateAt t ps) o (fieldsText t ps ++ (integersText (islandsOf t) ++ realsText (pointsOf t))) Due (firstOf t)) (sym key-put) rest)
+
+-- **a row**: what is written of a well made row is read as that row, with its own letters, island counts and points
+pub row-pass : (mode : Mode) (t : Tables) → isMade t ≡ true → isCoded mode (kindOf t) (countAt t codePlace) ≡ true → Pass mode Due empty (rowText t) Due (firstOf t)
+row-pass mode t made coded = row-whole-pass mode t (row-is t made) coded
+
+-- **rows**: what is written of rows in order is read as the part of the tables that they use
+pub rows-pass : (mode : Mode) (n k : ℕ) (t : Tables) → judgeRows mode n k t ≡ Fine → Pass mode Due empty (rowsText n t) Due (usedOf n t)
+unfolding judgeRows rowsText usedOf
+rows-pass mode zero k t e = done
+rows-pass mode (suc n) k t e =
+    let code = isCoded mode (kindOf t) (countAt t 2) in
+    let rest = judgeRows mode n (k + 1) (restOf t) in
+    let a = cond-first (isMade t) (cond code rest (Unlisted k)) (Faulty k) Fine (λ z. let y : _≡_ {A = ℕ} 0 1 = cc in omega arith) e in
+    let b = cond-first code rest (Unlisted k) Fine (λ z. let y : _≡_ {A = ℕ} 0 1 = cc in omega arith) (a .1) in
+    let p = pass-join (firstOf t) tt (rows-pass mode n (k + 1) (restOf t) (b .1)) in
+    pass-append (row-pass mode t (a .0) (b .0)) (rw (then-empty (firstOf t)) at p)

@@ -1,0 +1,2 @@
+-- The definitions of `layout`, in the order to read them.
+pub mod Sheet
