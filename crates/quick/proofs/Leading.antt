@@ -1,15 +1,14 @@
 -- The ways of the functions that read loose mode's form of a real, from the left. Assumes nothing.
-use Prim.Native.Nat.{ℕ, zero, suc, _+_, _-_, _*_, _/_, _%_, _^_, _≤_, _<_}
+use Prim.Native.Nat.{ℕ, zero, suc, _+_, _-_, _*_, _≤_, _<_}
 use mathlib.Core.Path.{_≡_, refl, sym, _∙_, ap}
 use mathlib.Core.List.{List, [], _∷_, _++_}
-use mathlib.Core.Bool.{Bool, true, false, cond, _&&_}
+use mathlib.Core.Bool.{Bool, true, false, cond}
 use native.Mathlib.Numerals.{add-one}
 use native.Mathlib.Nat.{pow-suc}
 use native.Mathlib.Omega.{arith}
 use lib.ListN.{length, getD, take, drop, length-take, length-drop}
 use lib.Seq.{take-suc, take-add, drop-at, take-all, take-take, getD-drop, getD-take, drop-drop, length-take-le}
-use lib.IntN.{ℤ, pos, negsuc}
-use borrow.Author.Tests.{eq-eqb, ne-eqb, le-leb, leb-true}
+use borrow.Author.Tests.{eq-eqb, ne-eqb, le-leb}
 use Rattle.laws.specs.Lists.{run, all, tail}
 use Rattle.laws.proofs.Choice.{and-left, and-right}
 use Rattle.laws.proofs.ListLaws.{left, left-none, rest-is, run-stop, run-from, all-run, all-weaken}
@@ -18,7 +17,7 @@ use Rattle.record.specs.Record.{plain}
 use Rattle.record.specs.RecordView.{LineEnd, crlf, lf}
 use Rattle.number.specs.declared.Decimal.the-variants as Decimal
 use Rattle.number.specs.Words.{blank, unled}
-use Rattle.number.specs.Number.{digit, value, ended, signOf, signs, signed, thousandths, isToken, realIs, realAt, realSigned, realOf, isReal}
+use Rattle.number.specs.Number.{digit, value, ended, signOf, signs, signed, thousandths, isToken, realIs, realAt, realSigned, realOf}
 use Rattle.number.proofs.IntegerWays.{eight, digit-is, digit-from}
 use Rattle.number.proofs.NumberLaws.{real-in}
 use Rattle.spelling.proofs.DigitLaws.{value-last}
@@ -28,7 +27,7 @@ use Rattle.quick.specs.Brisk.{Leads, Worthy, Briskly}
 use Rattle.quick.specs.Seen.{RealAt}
 use Rattle.quick.proofs.Twelve.{Figure}
 use Rattle.quick.proofs.Tokens.{all-join, digit-plain, blank-plain, plus-most, minus-most, lift-plus}
-use Rattle.quick.proofs.Places.{line-at, real-most}
+use Rattle.quick.proofs.Places.{line-at}
 
 all-snoc : (p : ℕ → Bool) (s : List ℕ) (b : ℕ) → all p s ≡ true → p b ≡ true → all p (s ++ (b ∷ [])) ≡ true
 unfolding all
@@ -98,9 +97,6 @@ run-take p (suc e) (b ∷ s) h = go (p b) refl h (λ k. run-take p e s k)
 
 -- a token that ends its content
 module _ (u : List ℕ) (n m : ℕ) (w : Worthy u n m) where
-  abbrev cut : List ℕ
-  cut = take (n + 4) u
-
   cut-length : length (take (n + 4) u) ≡ n + 4
   cut-length = let k = w .inside in length-take-le (n + 4) u (omega arith)
 
@@ -222,11 +218,6 @@ unfolding lift signed
 lift-minus-all zero h = refl
 lift-minus-all (suc m) h = omega arith
 
-lift-most : (z : ℤ) → isReal z ≡ true → lift z ≤ 109999999999
-unfolding lift isReal
-lift-most (pos n) r = omega (arith, leb-true n 99999999999 r)
-lift-most (negsuc n) r = omega arith
-
 -- the ways of `brisk`
 module _ (t : List ℕ) (k g len m : ℕ) (q : k ≡ run blank t) (h : k < length t) (s : (g ≤ 1) × (0 < g → getD t k 0 ≡ 45))
     (b : 0 < len → Worthy (tail t (k + g)) (len - 4) m) (o : 1 ≤ len) where
@@ -289,7 +280,7 @@ module _ (t : List ℕ) (k g len m : ℕ) (q : k ≡ run blank t) (h : k < lengt
         })
 
 -- the ways of `bare`
-module _ (s : List ℕ) (at : ℕ) (h : at < length s) (e v : ℕ) (b : 0 < e → Briskly (tail s at) e v) (o : 1 ≤ e) (l : e ≤ 13) where
+module _ (s : List ℕ) (at : ℕ) (h : at < length s) (e v : ℕ) (b : 0 < e → Briskly (tail s at) e v) (o : 1 ≤ e) (l : e ≤ 255) where
   here : Briskly (drop at s) e v
   here = rw (rest-is s at) at (b o)
 
@@ -302,9 +293,6 @@ module _ (s : List ℕ) (at : ℕ) (h : at < length s) (e v : ℕ) (b : 0 < e �
   byte-at : (i : ℕ) → getD (tail s at) i 0 ≡ getD s (at + i) 0
   byte-at i = rw (rest-is s at) (getD-drop at s i 0)
 
-  pub bare-most : v ≤ 109999999999
-  bare-most = rw (here .lifted) (lift-most (here .z) (real-in Loose (take e (drop at s)) (here .z) (here .real)))
-
   real : (w : ℕ) (n : List ℕ) → w ≡ e + length n → LineEnd Loose n → drop (at + e) s ≡ n ++ drop (at + e + length n) s → RealAt Loose s at w v
   unfolding lexOf
   real w n q k d =
@@ -314,22 +302,13 @@ module _ (s : List ℕ) (at : ℕ) (h : at < length s) (e v : ℕ) (b : 0 < e �
         says = rw (here .real) (ap Say (sym (here .lifted)));
       })
 
-  pack : (w : ℕ) → w < 16 → RealAt Loose s at w v → RealAt Loose s at ((v * 16 + w) % 16) ((v * 16 + w) / 16)
-  pack w m r =
-      let x : (v * 16 + w) % 16 ≡ w = omega arith in
-      let y : (v * 16 + w) / 16 ≡ v = omega arith in
-      rw (x, y) r
+  pub bare-lf : getD (tail s at) e 0 ≡ 10 → 0 < e + 1 → RealAt Loose s at (e + 1) v
+  bare-lf x _ = real (e + 1) (10 ∷ []) refl (lf refl refl) (left s (at + e) 0 inside ∙ rw (sym (byte-at e) ∙ x))
 
-  pub bare-lf : getD (tail s at) e 0 ≡ 10 → 0 < v * 16 + (e + 1) → RealAt Loose s at ((v * 16 + (e + 1)) % 16) ((v * 16 + (e + 1)) / 16)
-  bare-lf x _ =
-      pack (e + 1) (omega arith) (real (e + 1) (10 ∷ []) refl (lf refl refl) (left s (at + e) 0 inside ∙ rw (sym (byte-at e) ∙ x)))
-
-  pub bare-cr : getD (tail s at) e 0 ≡ 13 → e + 1 < length (tail s at) → getD (tail s at) (e + 1) 0 ≡ 10 → 0 < v * 16 + (e + 2)
-      → RealAt Loose s at ((v * 16 + (e + 2)) % 16) ((v * 16 + (e + 2)) / 16)
+  pub bare-cr : getD (tail s at) e 0 ≡ 13 → e + 1 < length (tail s at) → getD (tail s at) (e + 1) 0 ≡ 10 → 0 < e + 2 → RealAt Loose s at (e + 2) v
   bare-cr x k y _ =
       let z : at + e + 1 < length s = omega (arith, length-drop at s, ap length (rest-is s at)) in
       let a : at + (e + 1) ≡ at + e + 1 = omega arith in
       let b : at + e + 1 + 1 ≡ at + e + 2 = omega arith in
       let f : getD s (at + e + 1) 0 ≡ 10 = rw a at (sym (byte-at (e + 1)) ∙ y) in
-      pack (e + 2) (omega arith) (real (e + 2) (13 ∷ 10 ∷ []) refl (crlf refl)
-      (left s (at + e) 0 inside ∙ rw (sym (byte-at e) ∙ x, left s (at + e + 1) 0 z, f, b)))
+      real (e + 2) (13 ∷ 10 ∷ []) refl (crlf refl) (left s (at + e) 0 inside ∙ rw (sym (byte-at e) ∙ x, left s (at + e + 1) 0 z, f, b))

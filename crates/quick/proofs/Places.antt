@@ -1,5 +1,5 @@
 -- Twelve bytes and a line end are a real's record, in either mode. Assumes nothing.
-use Prim.Native.Nat.{ℕ, _+_, _-_, _*_, _/_, _%_, _≤_, _<_}
+use Prim.Native.Nat.{ℕ, _+_, _-_, _≤_, _<_}
 use mathlib.Core.Path.{_≡_, refl, sym, _∙_, ap}
 use mathlib.Core.List.{List, [], _∷_, _++_}
 use mathlib.Core.Bool.{Bool, true, false}
@@ -20,11 +20,11 @@ use Rattle.number.specs.declared.Decimal.the-variants as Decimal
 use Rattle.number.specs.Number.{realOf}
 use Rattle.number.proofs.NumberLaws.{real-widens}
 use Rattle.token.specs.Lex.{lexOf}
-use Rattle.token.specs.declared.Token.the-variants.{Say}
 use Rattle.token.specs.declared.Want.the-variants.{Real}
 use Rattle.token.proofs.TokenLaws.{says-most}
+use Rattle.quick.specs.declared.Taken.{Taken}
 use Rattle.quick.specs.Neat.{Neat, Sound}
-use Rattle.quick.specs.Seen.{RealAt, SomeReal, Ends, Vertices, more}
+use Rattle.quick.specs.Seen.{RealAt, SomeReal, Padded, Ends, Vertices, more}
 
 either : (c : List ℕ) (z : ℤ) (mode : Mode) → realOf Exact c ≡ Decimal.Is z → realOf mode c ≡ Decimal.Is z
 either c z Exact e = e
@@ -56,10 +56,13 @@ module _ (mode : Mode) (s : List ℕ) (at : ℕ) (h : 14 ≤ length s) (k : at �
         line = λ p. line-at mode s at 12 (10 ∷ []) (omega arith) (omega arith) p (lf m refl) (left s (at + 12) 0 (omega arith) ∙ rw x);
       }
 
-real-of : (mode : Mode) (s : List ℕ) (at w v : ℕ) → Ends mode s at w → Neat (take 12 (drop at s)) v → RealAt mode s at w v
+real-of : (mode : Mode) (s : List ℕ) (at w v : ℕ) → Ends mode s at w → Neat (take 12 (drop at s)) v → Padded mode s at w v
 unfolding lexOf
 real-of mode s at w v e n =
-    record { len = 12; line = e .line (n .bytes); says = rw (either (take 12 (drop at s)) (n .z) mode (n .real), n .lifted) }
+    record { line = e .line (n .bytes); says = rw (either (take 12 (drop at s)) (n .z) mode (n .real), n .lifted) }
+
+pub padded-real : {mode : Mode} {s : List ℕ} {at w v : ℕ} → Padded mode s at w v → RealAt mode s at w v
+padded-real p = record { len = 12; line = p .line; says = p .says }
 
 -- ---- a real's record in a file
 
@@ -83,31 +86,27 @@ module _ (mode : Mode) (s : List ℕ) (at w : ℕ) (f : 0 < w → Ends mode s at
   twelve-in = omega (arith, f (omega arith) .inside)
 
   module _ (v : ℕ) (g : 0 < v → Neat (take (at + 12 - at) (drop at s)) v) (n : v ≡ 0 → ⊥) where
-    real : RealAt mode s at w v
+    real : Padded mode s at w v
     real =
         let p : 0 < v = omega arith in
         real-of mode s at w v (f (omega arith)) (rw (add-sub-cancel-left at 12) at (g p))
 
-    pub padded-most : (v ≤ 109999999999) × (w ≤ 14)
-    padded-most = (real-most real, f (omega arith) .few)
-
-    pub padded-is : RealAt mode s at ((v * 16 + w) % 16) ((v * 16 + w) / 16)
-    padded-is =
-        let k = f (omega arith) .few in
-        let a : (v * 16 + w) % 16 ≡ w = omega arith in
-        let b : (v * 16 + w) / 16 ≡ v = omega arith in
-        rw (a, b) real
+    pub padded-is : 0 < w → Padded mode s at w v
+    padded-is _ = real
 
   pub width-is : (b : Bool) → (b ≡ true → Sound (take (at + 12 - at) (drop at s))) → b ≡ true → SomeReal mode s at w
   width-is b g t =
       let p : Sound (take 12 (drop at s)) = rw (add-sub-cancel-left at 12) at (g t) in
-      record { v = p .v; real = real-of mode s at w (p .v) (f (omega arith)) (p .neat) }
+      record { v = p .v; real = padded-real (real-of mode s at w (p .v) (f (omega arith)) (p .neat)) }
 
-pub loose-real : (mode : Mode) (s : List ℕ) (at r : ℕ) → mode ≡ Loose → (0 < r → RealAt Loose s at (r % 16) (r / 16)) → 0 < r → RealAt mode s at (r % 16) (r / 16)
+pub quick-real : (mode : Mode) (s : List ℕ) (at : ℕ) (r : Taken) → (0 < r .width → Padded mode s at (r .width) (r .value)) → 0 < r .width → RealAt mode s at (r .width) (r .value)
+quick-real mode s at r f o = padded-real (f o)
+
+pub loose-real : (mode : Mode) (s : List ℕ) (at : ℕ) (r : Taken) → mode ≡ Loose → (0 < r .width → RealAt Loose s at (r .width) (r .value)) → 0 < r .width → RealAt mode s at (r .width) (r .value)
 loose-real mode s at r e f o = rw e (f o)
 
-pub loose-width : (mode : Mode) (s : List ℕ) (at r : ℕ) → mode ≡ Loose → (0 < r → RealAt Loose s at (r % 16) (r / 16)) → 0 < r % 16 → SomeReal mode s at (r % 16)
-loose-width mode s at r e f o = record { v = r / 16; real = loose-real mode s at r e f (omega arith) }
+pub loose-width : (mode : Mode) (s : List ℕ) (at : ℕ) (r : Taken) → mode ≡ Loose → (0 < r .width → RealAt Loose s at (r .width) (r .value)) → 0 < r .width → SomeReal mode s at (r .width)
+loose-width mode s at r e f o = record { v = r .value; real = loose-real mode s at r e f o }
 
 -- the ways of `vertices`
 module _ (mode : Mode) (s : List ℕ) (at k here x y : ℕ) (v : Vertices mode s at k here) (f : 0 < x → SomeReal mode s here x) (n : x ≡ 0 → ⊥) where

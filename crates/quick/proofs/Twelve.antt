@@ -1,22 +1,21 @@
 -- The ways through the functions that read twelve bytes. Assumes nothing.
 use Prim.Native.Nat.{ℕ, zero, suc, _+_, _-_, _*_, _%_, _^_, _≤_, _<_}
 use mathlib.Core.Path.{_≡_, refl, sym, _∙_, ap}
-use mathlib.Core.List.{List, [], _∷_, _++_}
-use mathlib.Core.Bool.{Bool, true, false, cond, not, _&&_, _||_}
-use native.Mathlib.Numerals.{add-one}
+use mathlib.Core.List.{List, [], _∷_}
+use mathlib.Core.Bool.{Bool, true, false, not}
 use native.Mathlib.Nat.{pow-suc, add-mul, mul-assoc, mul-comm, mul-le-mul-right}
 use native.Mathlib.Omega.{arith}
 use lib.ListN.{length, getD, take, drop, length-take, length-drop}
-use lib.Seq.{drop-cons, getD-drop, drop-drop}
-use lib.Dec.{eqb, leb}
-use borrow.Author.Tests.{eq-eqb, ne-eqb, le-leb, lt-leb, leb-true, eqb-true, not-false}
+use lib.Seq.{getD-drop, drop-drop}
+use lib.Dec.{eqb}
+use borrow.Author.Tests.{eq-eqb, ne-eqb, eqb-true, not-false}
 use Rattle.laws.specs.Lists.{run, all}
-use Rattle.laws.proofs.Choice.{and-left, and-right, false≢true}
+use Rattle.laws.proofs.Choice.{false≢true}
 use Rattle.laws.proofs.ListLaws.{left, left-none, run-on, run-stop, run-from}
 use Rattle.number.specs.Words.{blank}
 use Rattle.number.specs.Number.{digit, value, lean}
 use Rattle.number.proofs.WordWays.{blank-is, blank-not}
-use Rattle.number.proofs.IntegerWays.{eight, digit-is, digit-to}
+use Rattle.number.proofs.IntegerWays.{eight, digit-is}
 use Rattle.spelling.proofs.DigitLaws.{value-below}
 use Rattle.quick.specs.Neat.{span, Front, Figures, Figured}
 
@@ -38,9 +37,6 @@ module _ (c : List ℕ) (i : ℕ) (h : 8 < length c) (p : getD c 8 0 ≡ 46) (k 
 -- what `figure` tells
 abbrev pub Figure : ℕ → ℕ → Type 0
 Figure b r = r ≤ 9 → (48 ≤ b) × (b ≤ 57) × (r ≡ b - 48)
-
-pub figure-is : (b r : ℕ) → b < 256 → (r + 48) % 2 ^ 8 ≡ b → r < 256 → r ≤ 9 → (48 ≤ b) × (b ≤ 57) × (r ≡ b - 48)
-figure-is b r h e l k = let z : (r + 48) % 256 ≡ b = e in omega arith
 
 -- digits from the right
 span-on : (c : List ℕ) (i : ℕ) → 8 ≤ length c → 0 < i → i ≤ 8 → span c (i - 1) ≡ getD c (i - 1) 0 ∷ span c i
@@ -74,9 +70,6 @@ module _ (c : List ℕ) (i v p : ℕ) (h : 8 ≤ length c) (k : i ≤ 8) (pw : p
 
   pub front-is : Front c i v
   front-is = record { within = k; digits = al; number = nu; small = omega (arith, front-below, front-most) }
-
-  pub front-low : getD c (i - 1) 0 < 48 → Front c i v
-  front-low e = front-is
 
   module _ (o : 0 < i) (w : ℕ) (fig : Figure (getD c (i - 1) 0) w) (nine : w ≤ 9) where
     a : 48 ≤ getD c (i - 1) 0
@@ -165,9 +158,7 @@ module _ (c : List ℕ) (d v n : ℕ) (r : Bool) (h : length c ≡ 12) (p : getD
         worth = let y : n - 1 ≡ v * 1000 + value 0 (take 3 (drop 9 c)) = omega (arith, x .1) in y ∙ rw (f .number);
       }
 
-pub ruleset quick = (blanks-stop, blanks-step, blanks-short)
-
-pub ruleset leans = (lean-last, lean-not, lean-yes)
+pub ruleset blank-ways = (blanks-stop, blanks-step, blanks-short)
 
 pub never : {X : Type 0} → 0 < 0 → X
 never h = absurd (omega arith)

@@ -23,6 +23,11 @@ pub record SomeReal (mode : Mode) (s : List ℕ) (at width : ℕ) : Type 0 where
   pub v : ℕ
   pub real : RealAt mode s at width v
 
+-- its content is 12 characters
+pub record Padded (mode : Mode) (s : List ℕ) (at width v : ℕ) : Type 0 where
+  pub line : lineOf mode false (drop at s) ≡ Got 12 width
+  pub says : lexOf mode Real (take 12 (drop at s)) ≡ Say v
+
 -- a line end stands behind 12 characters
 pub record Ends (mode : Mode) (s : List ℕ) (at width : ℕ) : Type 0 where
   pub few : width ≤ 14

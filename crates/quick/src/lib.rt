@@ -1,8 +1,8 @@
-// The quick way for the usual form of a real's record, which is most of a file (document 01, "Records"): it answers one number, or 0
-// for "ask the slow way", and never refuses. All of it is proved, and no public function has a `requires`.
+// The quick way for the usual form of a real's record, which is most of a file (document 01, "Records"): it answers for what it has seen, or
+// with 0 bytes for "ask the slow way", and never refuses. All of it is proved, and no public function has a `requires`.
 ghost use mathlib.Core.Path.{_≡_};
 ghost use mathlib.Core.Bool.{true};
-ghost use Prim.Native.Nat.{_+_, _-_, _*_, _/_, _%_, _<_, _≤_};
+ghost use Prim.Native.Nat.{_+_, _-_, _*_, _<_, _≤_};
 ghost use lib.ListN.{length, getD, take, drop};
 ghost use Rattle.laws.specs.Lists.{run, all};
 ghost use Rattle.record.specs.declared.Mode.the-variants.{Loose};
@@ -10,13 +10,20 @@ ghost use Rattle.number.specs.Words.{blank};
 ghost use Rattle.number.specs.Number.{digit, value, lean};
 ghost use Rattle.quick.specs.Neat.{span, Front, Figures, Figured, Neat, Sound};
 ghost use Rattle.quick.specs.Brisk.{Leads, Worthy, Briskly};
-ghost use Rattle.quick.specs.Seen.{RealAt, SomeReal, Ends, Vertices};
+ghost use Rattle.quick.specs.Seen.{RealAt, SomeReal, Padded, Ends, Vertices};
 use record::Mode;
 
 // Vertices that were read: how many, and the place behind them.
 pub struct Run {
     pub count: usize,
     pub next: usize,
+}
+
+// A real that was read: lifted, and its record's bytes, 0 where none was read. The place of the next record hangs on the
+// bytes alone, so that it is known before the real is.
+pub struct Taken {
+    pub value: usize,
+    pub width: usize,
 }
 
 fn wide(b: u8) -> usize
@@ -252,20 +259,20 @@ fn ending(s: &[u8], at: usize, mode: Mode) -> usize
     }
 }
 
-// A real's record of 12 characters: 16 times the real, lifted, and the record's bytes; or 0.
-fn padded(s: &[u8], at: usize, mode: Mode) -> usize
-    ensures { λ r. ⌜ (0 < r → RealAt mode (now (s .entry)) at (r % 16) (r / 16)) ⌝ }
+// A real's record of 12 characters.
+pub fn padded(s: &[u8], at: usize, mode: Mode) -> Taken
+    ensures { λ r. ⌜ (0 < r .width → Padded mode (now (s .entry)) at (r .width) (r .value)) ⌝ }
 {
     let w = ending(s, at, mode);
     if w == 0 {
-        return 0;
+        return Taken { value: 0, width: 0 };
     }
     let e = at + 12;
     let v = neat(&s[at..e]);
     if v == 0 {
-        return 0;
+        return Taken { value: 0, width: 0 };
     }
-    v * 16 + w
+    Taken { value: v, width: w }
 }
 
 // The record's bytes alone.
@@ -285,14 +292,12 @@ fn padded_width(s: &[u8], at: usize, mode: Mode) -> usize
 
 // The first digits, eight at most: how many, and their number.
 fn lead(u: &[u8]) -> Digits
+    requires { ⌜ 8 ≤ length (now u) ⌝ }
     ensures { λ r. ⌜ Leads (now (u .entry)) (r .start) (r .value) ⌝ }
 {
     let mut i = 0;
     let mut v: usize = 0;
-    while i < u.len() {
-        if i > 7 {
-            return Digits { start: i, value: v };
-        }
+    while i < 8 {
         let b = figure(u[i]);
         if b > 9 {
             return Digits { start: i, value: v };
@@ -312,13 +317,13 @@ struct Worth {
 fn body(u: &[u8]) -> Worth
     ensures { λ r. ⌜ (0 < r .len → Worthy (now (u .entry)) (r .len - 4) (r .value)) ⌝ }
 {
+    if u.len() < 13 {
+        return Worth { len: 0, value: 0 };
+    }
     let f = lead(u);
     let n = f.start;
     let v = f.value;
     if n < 1 {
-        return Worth { len: 0, value: 0 };
-    }
-    if u.len() < n + 5 {
         return Worth { len: 0, value: 0 };
     }
     if u[n] != 46 {
@@ -398,50 +403,56 @@ fn brisk(t: &[u8]) -> Worth
     }
 }
 
-// A real's record of loose mode whose content ends with its token: 16 times the real, lifted, and the record's bytes; or 0.
-fn bare(s: &[u8], at: usize) -> usize
-    ensures { λ r. ⌜ (0 < r → RealAt Loose (now (s .entry)) at (r % 16) (r / 16)) ⌝ }
+// A real's record of loose mode whose content ends with its token.
+fn bare(s: &[u8], at: usize) -> Taken
+    ensures { λ r. ⌜ (0 < r .width → RealAt Loose (now (s .entry)) at (r .width) (r .value)) ⌝ }
 {
     if at >= s.len() {
-        return 0;
+        return Taken { value: 0, width: 0 };
     }
     let t = &s[at..];
     let b = brisk(t);
     let e = b.len;
     let v = b.value;
     if e < 1 {
-        return 0;
+        return Taken { value: 0, width: 0 };
     }
-    if e > 13 {
-        return 0;
+    if e > 255 {
+        return Taken { value: 0, width: 0 };
     }
     let x = t[e];
     if x == 10 {
-        return v * 16 + (e + 1);
+        return Taken {
+            value: v,
+            width: e + 1,
+        };
     }
     if x != 13 {
-        return 0;
+        return Taken { value: 0, width: 0 };
     }
     let g = e + 1;
     if g >= t.len() {
-        return 0;
+        return Taken { value: 0, width: 0 };
     }
     if t[g] != 10 {
-        return 0;
+        return Taken { value: 0, width: 0 };
     }
-    v * 16 + (e + 2)
+    Taken {
+        value: v,
+        width: e + 2,
+    }
 }
 
-// A real's record at a place, in its usual form: 16 times the real, lifted, and the record's bytes; or 0.
-pub fn real_at(s: &[u8], at: usize, mode: Mode) -> usize
-    ensures { λ r. ⌜ (0 < r → RealAt mode (now (s .entry)) at (r % 16) (r / 16)) ⌝ }
+// A real's record at a place, in its usual form.
+pub fn real_at(s: &[u8], at: usize, mode: Mode) -> Taken
+    ensures { λ r. ⌜ (0 < r .width → RealAt mode (now (s .entry)) at (r .width) (r .value)) ⌝ }
 {
     let r = padded(s, at, mode);
-    if r > 0 {
+    if r.width > 0 {
         return r;
     }
     match mode {
-        Mode::Exact => 0,
+        Mode::Exact => Taken { value: 0, width: 0 },
         Mode::Loose => bare(s, at),
     }
 }
@@ -456,7 +467,10 @@ fn width_at(s: &[u8], at: usize, mode: Mode) -> usize
     }
     match mode {
         Mode::Exact => 0,
-        Mode::Loose => bare(s, at) % 16,
+        Mode::Loose => {
+            let b = bare(s, at);
+            b.width
+        }
     }
 }
 

@@ -12,7 +12,7 @@ use Rattle.laws.specs.Lists.{over}
 use Rattle.laws.proofs.Choice.{and-left, and-right}
 use Rattle.record.specs.declared.Mode.{Mode}
 use Rattle.record.specs.Refusals.{tooLong, fileMost}
-use Rattle.header.specs.declared.Header.{Header}
+use Rattle.heading.specs.declared.Header.{Header}
 use Rattle.header.specs.declared.Headed.{Headed}
 use Rattle.header.specs.declared.Ahead.{Ahead}
 use Rattle.header.specs.declared.Ahead.the-variants as Ahead

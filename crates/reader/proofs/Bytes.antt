@@ -25,11 +25,12 @@ use Rattle.token.specs.declared.Token.the-variants.{Say}
 use Rattle.token.specs.declared.Want.the-variants.{Key, Int, Real}
 use Rattle.token.specs.Lex.{unlift, keywords, keyText, ofKey, ofDecimal, lexOf}
 use Rattle.token.proofs.TokenLaws.{key-read, key-most}
-use Rattle.machine.specs.Machine.{wantAt, wantOf, keyStep, stepOf}
+use Rattle.kinds.specs.Kinds.{wantAt}
+use Rattle.machine.specs.Machine.{wantOf, keyStep, stepOf}
 use Rattle.machine.specs.declared.State.{State}
 use Rattle.machine.specs.declared.State.the-variants.{Due, Field, Island, X, Y}
 use Rattle.machine.specs.declared.Step.the-variants.{Go}
-use Rattle.header.specs.declared.Header.{Header}
+use Rattle.heading.specs.declared.Header.{Header}
 use Rattle.sheet.specs.Tables.{Tables, newRow, cellOf, setLast, put}
 use Rattle.sheet.specs.Reading.{sheet, reading}
 use Rattle.sheet.proofs.Pass.{Pass, done, more, end-some}

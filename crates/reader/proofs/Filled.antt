@@ -1,12 +1,11 @@
 -- The second pass: the loop's steps. Its invariant is that of the first, and that each table holds what was read so far. Assumes nothing.
 use mathlib.Core.Path.{_≡_, refl, sym, _∙_, ap, subst}
-use mathlib.Core.List.{List, []}
-use Prim.Native.Nat.{ℕ, _+_, _-_, _*_, _≤_, _<_}
+use mathlib.Core.List.{List}
+use Prim.Native.Nat.{ℕ, _+_, _-_, _≤_, _<_}
 use native.Mathlib.Omega.{arith}
 use native.Mathlib.Nat.{add-sub-cancel-left}
 use lib.ListN.{length, take, drop}
 use lib.IntN.{ℤ}
-use Rattle.laws.specs.Lists.{over}
 use Rattle.laws.proofs.TableLaws.{length-over}
 use Rattle.record.specs.declared.Mode.{Mode}
 use Rattle.record.specs.Refusals.{fileMost}
@@ -24,13 +23,13 @@ use Rattle.machine.specs.declared.State.the-variants.{Due, Field, Island, X, Y}
 use Rattle.sheet.specs.Tables.{Tables, empty, put}
 use Rattle.sheet.specs.Reading.{Sections, read, stop, walkFrom}
 use Rattle.reader.specs.Turn.{standAt, turnOf}
-use Rattle.reader.specs.Store.{tokenMost, IslandToken, rowsPut, lettersPut, islandsPut, pointsPut, PutRoom, tablesOf, Room, AtVertex, Stores, still, on}
+use Rattle.reader.specs.Store.{tokenMost, IslandToken, rowsPut, lettersPut, islandsPut, pointsPut, PutRoom, tablesOf, Room, AtNumber, Enters, at-rest, entered, AtVertex, Stores, still, on}
 use Rattle.reader.specs.declared.Needs.{Needs}
 use Rattle.reader.specs.declared.Stand.{Stand}
 use Rattle.reader.specs.declared.Turn.{Turn}
 use Rattle.reader.proofs.Standing.{At, Moved, TurnOk, turn-ok}
 use Rattle.reader.proofs.Judging.{at-start, at-on}
-use Rattle.reader.proofs.Filling.{Holding, Fits, at-fits, store-room, store-holds}
+use Rattle.reader.proofs.Filling.{Holding, at-fits, store-room, store-holds}
 
 -- ---- an island's count is an integer
 
@@ -155,6 +154,29 @@ pub record Onward (mode : Mode) (s : List ℕ) (target : Sections) (rows₀ : Li
   pub filled : Filled mode s target rows₀ letters₀ islands₀ points₀ rows letters islands points d
   pub past-it : from ≤ d .at
 
+kept-letters′ : (st : State) (c : List ℕ) (a : Needs) (l : List ℕ) → AtNumber st → l ≡ lettersPut st c a l
+kept-letters′ (Field k p i) c a l h = rw h
+
+kept-islands′ : (st : State) (t : ℕ) (a : Needs) (l : List ℕ) → AtNumber st → l ≡ islandsPut st t a l
+kept-islands′ (Field k p i) t a l h = refl
+
+kept-points : (st : State) (t : ℕ) (a : Needs) (l : List ℤ) → AtNumber st → l ≡ pointsPut st t a l
+kept-points (Field k p i) t a l h = refl
+
+pub enters-filled : {mode : Mode} {s : List ℕ} {target : Sections} {rows₀ : List ℤ} {letters₀ islands₀ : List ℕ} {points₀ : List ℤ} {rows rows′ : List ℤ} {letters islands : List ℕ} {points : List ℤ} {d e : Stand}
+    → Room target (length rows₀) (length letters₀) (length islands₀) (length points₀)
+    → Filled mode s target rows₀ letters₀ islands₀ points₀ rows letters islands points d → Enters mode s d rows e rows′
+    → Onward mode s target rows₀ letters₀ islands₀ points₀ rows′ letters islands points (d .at) e
+enters-filled room h at-rest = record { filled = h; past-it = omega arith }
+enters-filled {mode} {s} {target} {letters = letters} {islands} {points} room h (entered {e} {f} {m} {t} {len} p v q) =
+    let b = enters-filled room h p in
+    let w = at-on mode s target (b .filled .tables) e (b .filled .stands) (turnOf mode s e) refl f t len q in
+    record {
+      filled = fill-on room (b .filled) (turnOf mode s e) refl f t len q _ letters islands points refl
+          (kept-letters′ (e .state) _ (e .needs) letters v) (kept-islands′ (e .state) t (e .needs) islands v) (kept-points (e .state) t (e .needs) points v);
+      past-it = omega (arith, b .past-it, w .on);
+    }
+
 pub stores-filled : {mode : Mode} {s : List ℕ} {target : Sections} {rows₀ : List ℤ} {letters₀ islands₀ : List ℕ} {points₀ : List ℤ} {rows : List ℤ} {letters islands : List ℕ} {points points′ : List ℤ} {d e : Stand}
     → Room target (length rows₀) (length letters₀) (length islands₀) (length points₀)
     → Filled mode s target rows₀ letters₀ islands₀ points₀ rows letters islands points d → Stores mode s d points e points′
@@ -169,18 +191,25 @@ stores-filled {mode} {s} {target} {rows = rows} {letters} {islands} room h (on {
       past-it = omega (arith, b .past-it, w .on);
     }
 
--- a turn, what it stores, and the run behind it
+-- a turn, what it stores, and the runs behind it
 module _ {mode : Mode} {s : List ℕ} {target : Sections} {rows₀ : List ℤ} {letters₀ islands₀ : List ℕ} {points₀ : List ℤ} {rows : List ℤ} {letters islands : List ℕ} {points : List ℤ} {d : Stand}
     (room : Room target (length rows₀) (length letters₀) (length islands₀) (length points₀))
     (h : Filled mode s target rows₀ letters₀ islands₀ points₀ rows letters islands points d) (r : Turn) (q : r ≡ turnOf mode s d) (d′ : Stand) (t len : ℕ) (e : r ≡ Turn.On d′ t len)
-    (rows′ : List ℤ) (letters′ islands′ : List ℕ) (points′ points″ : List ℤ) (a₁ : rows′ ≡ rowsPut (d .state) t (d .needs) rows)
+    (rows′ rows″ : List ℤ) (letters′ islands′ : List ℕ) (points′ : List ℤ) (a₁ : rows′ ≡ rowsPut (d .state) t (d .needs) rows)
     (a₂ : letters′ ≡ lettersPut (d .state) (take (d .at + len - d .at) (drop (d .at) s)) (d .needs) letters)
-    (a₃ : islands′ ≡ islandsPut (d .state) t (d .needs) islands) (a₄ : points′ ≡ pointsPut (d .state) t (d .needs) points) (b : Stand) (p : Stores mode s d′ points′ b points″) where
-  pub fill-past : Onward mode s target rows₀ letters₀ islands₀ points₀ rows′ letters′ islands′ points″ (d .at + 1) b
-  fill-past =
-      let o = stores-filled room (fill-on room h r q d′ t len e rows′ letters′ islands′ points′ a₁ a₂ a₃ a₄) p in
+    (a₃ : islands′ ≡ islandsPut (d .state) t (d .needs) islands) (a₄ : points′ ≡ pointsPut (d .state) t (d .needs) points) (b : Stand) (p : Enters mode s d′ rows′ b rows″) where
+  pub fill-fields : Onward mode s target rows₀ letters₀ islands₀ points₀ rows″ letters′ islands′ points′ (d .at + 1) b
+  fill-fields =
+      let o = enters-filled room (fill-on room h r q d′ t len e rows′ letters′ islands′ points′ a₁ a₂ a₃ a₄) p in
       let w = at-on mode s target (h .tables) d (h .stands) r q d′ t len e in
       record { filled = o .filled; past-it = omega (arith, o .past-it, w .on) }
 
-  pub fill-less : length s - b .at < length s - d .at
-  fill-less = let o = fill-past in omega (arith, o .past-it, o .filled .stands .within .here)
+  module _ (points″ : List ℤ) (b′ : Stand) (p′ : Stores mode s b points′ b′ points″) where
+    pub fill-past : Onward mode s target rows₀ letters₀ islands₀ points₀ rows″ letters′ islands′ points″ (d .at + 1) b′
+    fill-past =
+        let o = fill-fields in
+        let o′ = stores-filled room (o .filled) p′ in
+        record { filled = o′ .filled; past-it = omega (arith, o .past-it, o′ .past-it) }
+
+    pub fill-less : length s - b′ .at < length s - d .at
+    fill-less = let o = fill-past in omega (arith, o .past-it, o .filled .stands .within .here)

@@ -13,7 +13,8 @@ use Rattle.record.specs.declared.Mode.{Mode}
 use Rattle.number.specs.Words.{trimmed}
 use Rattle.token.specs.Lex.{unlift, lexOf}
 use Rattle.token.specs.declared.Token.{Token}
-use Rattle.machine.specs.Machine.{wantAt, wantOf}
+use Rattle.kinds.specs.Kinds.{wantAt}
+use Rattle.machine.specs.Machine.{wantOf}
 use Rattle.machine.specs.declared.State.{State}
 use Rattle.machine.specs.declared.State.the-variants.{Due, Field, Island, X, Y}
 use Rattle.sheet.specs.Tables.{Tables, empty, newRow, cellOf, setLast, put}

@@ -1,17 +1,15 @@
 -- The first pass: the loop's steps. Its invariant is that some tables were read so far, and that the walk stands where they end. Assumes nothing.
-use mathlib.Core.Path.{_≡_, refl, sym, _∙_, ap, subst}
-use mathlib.Core.List.{List, []}
-use Prim.Native.Nat.{ℕ, _+_, _-_, _*_, _≤_, _<_}
+use mathlib.Core.Path.{_≡_, refl, sym, subst}
+use mathlib.Core.List.{List}
+use Prim.Native.Nat.{ℕ, _+_, _-_, _≤_, _<_}
 use native.Mathlib.Omega.{arith}
-use lib.ListN.{length, take, drop, length-drop}
+use lib.ListN.{length, length-drop}
 use Rattle.record.specs.declared.Mode.{Mode}
 use Rattle.record.specs.Refusals.{fileMost}
-use Rattle.machine.specs.declared.State.the-variants.{Due}
-use Rattle.sheet.specs.Tables.{Tables, empty, put}
+use Rattle.sheet.specs.Tables.{Tables, empty}
 use Rattle.sheet.specs.Reading.{Sections, read, stop, walkFrom}
-use Rattle.reader.specs.Turn.{standAt, turnOf, Within, Turns}
+use Rattle.reader.specs.Turn.{standAt, turnOf, Turns}
 use Rattle.reader.specs.Read.{needsOf, judgedOf}
-use Rattle.reader.specs.declared.Needs.{Needs}
 use Rattle.reader.specs.declared.Stand.{Stand}
 use Rattle.reader.specs.declared.Turn.{Turn}
 use Rattle.reader.specs.declared.Judged.{Judged}
@@ -50,10 +48,6 @@ module _ (mode : Mode) (s : List ℕ) (target : Sections) (o : Tables) (d : Stan
   -- the places behind a record are fewer
   pub past-less : (d′ : Stand) (t len : ℕ) → r ≡ Turn.On d′ t len → (e : Stand) → Turns mode s d′ e → length s - e .at < length s - d .at
   past-less d′ t len q e p = let b = at-past d′ t len q e p in omega (arith, b .past-it, b .stands .within .here)
-
-  -- the places behind a record are fewer
-  pub at-less : (d′ : Stand) (t len : ℕ) → r ≡ Turn.On d′ t len → length s - d′ .at < length s - d .at
-  at-less d′ t len e = let m = at-on d′ t len e in omega (arith, m .on, m .then .within .here)
 
   pub judge-refused : (m k a : ℕ) → r ≡ Turn.Refused m k a → Judged.Refused m k a ≡ judgedOf target
   judge-refused m k a e =

@@ -1,9 +1,11 @@
+-- The laws of `reader` and the ways through its code; `pub mod` lets other crates cite a file.
 mod Rings
 mod Standing
 mod Filling
 mod Storing
 mod Turning
 mod Running
+mod Fields
 mod Judging
 mod Filled
 mod Answering

@@ -12,8 +12,8 @@ use Rattle.laws.proofs.Choice.{and-left, and-right, and-both}
 use Rattle.record.specs.declared.Mode.{Mode}
 use Rattle.record.specs.declared.Mode.the-variants.{Loose, Exact}
 use Rattle.record.specs.Refusals.{noRoom, fileMost}
-use Rattle.header.specs.declared.Header.{Header}
-use Rattle.header.specs.Header.{noHeader}
+use Rattle.heading.specs.declared.Header.{Header}
+use Rattle.heading.specs.Heading.{noHeader}
 use Rattle.sheet.specs.Tables.{Tables, empty, _then_}
 use Rattle.sheet.specs.Reading.{Reading, sheet, refused, reading, joined}
 use Rattle.sheet.proofs.Exact.{exact-loose}

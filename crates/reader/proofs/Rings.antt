@@ -16,7 +16,7 @@ use Rattle.number.specs.declared.Whole.{Whole}
 use Rattle.number.specs.Number.{integerOf}
 use Rattle.token.specs.Lex.{ofWhole, lexOf}
 use Rattle.token.specs.declared.Token.{Token}
-use Rattle.machine.specs.Rows.{nextOf, isListed}
+use Rattle.kinds.specs.Kinds.{nextOf, isListed}
 use Rattle.machine.specs.Machine.{wantOf, isDue, verticesOf, fieldOf, islandOf, isShut, ringStep, vertexOf, keyStep, stepOf}
 use Rattle.machine.specs.declared.Ring.{Ring}
 use Rattle.machine.specs.declared.State.{State}

@@ -24,8 +24,8 @@ use Rattle.number.proofs.WordLaws.{word-is, trimmed-le}
 use Rattle.token.specs.Lex.{unlift, ofText, lexOf}
 use Rattle.token.specs.declared.Token.{Token}
 use Rattle.token.specs.declared.Want.the-variants.{Text, Int, Real}
-use Rattle.machine.specs.Rows.{nextOf, isListed}
-use Rattle.machine.specs.Machine.{wantAt, wantOf, isDue, verticesOf, fieldOf, islandOf, isShut, ringStep, vertexOf, keyStep, stepOf, ofStep, ofToken, ofLine, oneOf}
+use Rattle.kinds.specs.Kinds.{nextOf, isListed, wantAt}
+use Rattle.machine.specs.Machine.{wantOf, isDue, verticesOf, fieldOf, islandOf, isShut, ringStep, vertexOf, keyStep, stepOf, ofStep, ofToken, ofLine, oneOf}
 use Rattle.machine.specs.declared.Ring.{Ring}
 use Rattle.machine.specs.declared.State.{State}
 use Rattle.machine.specs.declared.State.the-variants.{Due, Field, Island, X, Y}

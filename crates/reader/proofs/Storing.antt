@@ -21,7 +21,7 @@ use Rattle.number.specs.declared.Word.the-variants as Word
 use Rattle.number.specs.Words.{wordOf, trimmed}
 use Rattle.number.proofs.WordLaws.{word-is}
 use Rattle.token.specs.Lex.{liftBy, unlift}
-use Rattle.machine.specs.Rows.{rowWidth}
+use Rattle.kinds.specs.Kinds.{rowWidth}
 use Rattle.sheet.specs.Tables.{newRow}
 use Rattle.reader.specs.Store.{tokenMost}
 

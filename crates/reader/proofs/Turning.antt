@@ -1,34 +1,33 @@
 -- The ways through the functions of a turn. Assumes nothing.
 use mathlib.Core.Path.{_≡_, refl, sym, _∙_, ap, subst}
-use mathlib.Core.Bool.{Bool, true, false, cond, not, _&&_}
+use mathlib.Core.Bool.{Bool, true, false}
 use mathlib.Core.List.{List}
-use Prim.Native.Nat.{ℕ, _+_, _-_, _*_, _≤_, _<_}
+use Prim.Native.Nat.{ℕ, _+_, _≤_, _<_}
 use native.Mathlib.Omega.{arith}
 use lib.ListN.{length, take, drop, length-drop}
-use lib.Seq.{length-take-le}
-use lib.Dec.{leb, eqb}
-use borrow.Author.Tests.{eq-eqb, ne-eqb, le-leb, lt-leb}
 use Rattle.laws.specs.Lists.{tail}
 use Rattle.laws.proofs.ListLaws.{rest-is}
 use Rattle.record.specs.declared.Mode.{Mode}
 use Rattle.record.specs.declared.Line.{Line}
-use Rattle.record.specs.Refusals.{fileMost}
 use Rattle.record.specs.Record.{lineOf}
-use Rattle.record.proofs.RecordLaws.{line-view}
 use Rattle.number.specs.declared.Whole.{Whole}
 use Rattle.number.specs.Number.{integerOf}
-use Rattle.machine.specs.Machine.{oneOf}
-use Rattle.machine.specs.declared.Ring.{Ring}
+use Rattle.token.specs.declared.Want.{Want}
+use Rattle.token.specs.declared.Want.the-variants.{Real}
+use Rattle.quick.specs.declared.Taken.{Taken}
+use Rattle.quick.specs.Seen.{Padded}
+use Rattle.machine.specs.Machine.{wantOf, isDue, stepOf, ofStep, oneOf}
 use Rattle.machine.specs.declared.State.{State}
 use Rattle.machine.specs.declared.State.the-variants.{Due, Field, Island, X, Y}
+use Rattle.machine.specs.declared.Step.{Step}
 use Rattle.machine.specs.declared.One.{One}
 use Rattle.sheet.proofs.Pass.{Went, Ended, OneView, one-view}
-use Rattle.reader.specs.Turn.{noSize, sized, sizeOf, isTurning, sizeNext, islNext, Few, added, closing, turned, turnOf, Within}
+use Rattle.reader.specs.Turn.{noSize, sizeOf, isTurning, sizeNext, islNext, Few, added, closing, turnOf, Within, RealDue}
 use Rattle.reader.specs.declared.Needs.{Needs}
 use Rattle.reader.specs.declared.Stand.{Stand}
 use Rattle.reader.specs.declared.Turn.{Turn}
 use Rattle.reader.specs.declared.Size.{Size}
-use Rattle.reader.proofs.Standing.{next-width, added-most, Grows}
+use Rattle.reader.proofs.Standing.{next-width, added-most}
 
 -- ---- a size, read again
 
@@ -38,9 +37,6 @@ module _ (mode : Mode) (bs : List ℕ) (l : Line) (q : l ≡ lineOf mode false b
   size-bad m e = rw (← q, e)
 
   module _ (len width : ℕ) (e : l ≡ Line.Got len width) (w : Whole) (f : w ≡ integerOf mode (take len bs)) where
-    pub size-count : len ≡ length (take len bs)
-    size-count = sym (line-view mode false bs len width (sym q ∙ e) .counted)
-
     pub size-said : (n : ℕ) → w ≡ Whole.Is n → record { n = n; width = width } ≡ sizeOf mode bs
     unfolding sizeOf
     size-said n g = rw (← q, e, ← f, g)
@@ -122,3 +118,34 @@ module _ (mode : Mode) (s : List ℕ) (d : Stand) (w : Within s d) (z : Size) (q
     pub turn-end : (x : Turn) → x ≡ closing mode (d .nth + 1) (d .at + width) (length s) → x ≡ turnOf mode s d
     unfolding turnOf
     turn-end x f = f ∙ rw (← the-size, ← the-one, e)
+
+-- ---- a real in its usual form
+
+module _ (mode : Mode) (s : List ℕ) (at : ℕ) (st : State) (q : Taken) where
+  pub quick-due : (w : Want) → w ≡ wantOf st → w ≡ Real → (0 < q .width → Padded mode s at (q .width) (q .value)) → 0 < q .width → RealDue mode s at st (q .width) (q .value)
+  quick-due w e r f o = record { due = sym e ∙ r; padded = f o }
+
+no-key : (st : State) → wantOf st ≡ Real → isDue st ≡ false
+unfolding wantOf
+no-key Due e = absurd (let z : _≡_ {A = ℕ} 0 1 = cc in omega arith)
+no-key (Field k p i) e = refl
+no-key (Island l s r) e = refl
+no-key (X r) e = refl
+no-key (Y r x) e = refl
+
+module _ (mode : Mode) (st : State) (t next width : ℕ) (k : Step) (e : k ≡ stepOf mode st t next) where
+  pub stepped-go : (st′ : State) → k ≡ Step.Go st′ → One.Go st′ t 12 width ≡ ofStep t 12 width (stepOf mode st t next)
+  stepped-go st′ f = rw (← e, f)
+
+  pub stepped-no : (m : ℕ) → k ≡ Step.No m → One.No m ≡ ofStep t 12 width (stepOf mode st t next)
+  stepped-no m f = rw (← e, f)
+
+  pub stepped-end : k ≡ Step.End → One.End width ≡ ofStep t 12 width (stepOf mode st t next)
+  stepped-end f = rw (← e, f)
+
+pub one-quick : (mode : Mode) (s : List ℕ) (at : ℕ) (st : State) (next : ℕ) (q : Taken) (o : One) → (0 < q .width → RealDue mode s at st (q .width) (q .value)) → 0 < q .width
+    → o ≡ ofStep (q .value) 12 (q .width) (stepOf mode st (q .value) next) → o ≡ oneOf mode st next (tail s at)
+unfolding oneOf
+one-quick mode s at st next q o f h e =
+    let r = f h in
+    e ∙ rw (rest-is s at, no-key st (r .due), r .padded .line, r .due, r .padded .says)

@@ -8,9 +8,9 @@ use lib.Dec.{leb}
 use Rattle.laws.specs.Lists.{over}
 use Rattle.record.specs.declared.Mode.{Mode}
 use Rattle.record.specs.Refusals.{noRoom}
-use Rattle.header.specs.declared.Header.{Header}
-use Rattle.header.specs.Header.{noHeader}
-use Rattle.machine.specs.Rows.{rowWidth}
+use Rattle.heading.specs.declared.Header.{Header}
+use Rattle.heading.specs.Heading.{noHeader}
+use Rattle.kinds.specs.Kinds.{rowWidth}
 use Rattle.sheet.specs.Tables.{Tables, empty}
 use Rattle.sheet.specs.Reading.{Sections, read, stop, Reading, sheet, refused, reading}
 use Rattle.reader.specs.declared.Needs.{Needs}

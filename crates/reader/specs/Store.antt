@@ -1,18 +1,17 @@
 -- What a record stores in the tables that are lent. Assumes nothing: these are definitions.
-use Prim.Native.Nat.{ℕ, _+_, _-_, _*_, _≤_, _<_}
+use Prim.Native.Nat.{ℕ, _+_, _-_, _*_, _≤_}
 use mathlib.Core.Path.{_≡_}
-use mathlib.Core.List.{List, [], _∷_, _++_}
-use mathlib.Core.Bool.{Bool, true, false, cond}
+use mathlib.Core.List.{List}
+use mathlib.Core.Bool.{false, cond}
 use lib.ListN.{length, set}
 use lib.Dec.{eqb}
-use lib.IntN.{ℤ, pos}
+use lib.IntN.{ℤ}
 use Rattle.laws.specs.Lists.{pasted}
 use Rattle.record.specs.declared.Mode.{Mode}
 use Rattle.number.specs.Words.{trimmed}
 use Rattle.token.specs.Lex.{unlift}
 use Rattle.quick.specs.Seen.{RealAt}
-use Rattle.machine.specs.Rows.{rowWidth, lettersPlace}
-use Rattle.machine.specs.Machine.{wantAt}
+use Rattle.kinds.specs.Kinds.{rowWidth, lettersPlace, wantAt}
 use Rattle.machine.specs.declared.State.{State}
 use Rattle.machine.specs.declared.State.the-variants.{Due, Field, Island, X, Y}
 use Rattle.sheet.specs.Tables.{Tables, empty, newRow, cellOf}
@@ -81,6 +80,21 @@ abbrev pub Room : Sections → ℕ → ℕ → ℕ → ℕ → Type 0
 Room (read o eof) rows letters islands points =
     (length (o .rows) ≤ rows) × (length (o .letters) ≤ letters) × (length (o .islands) ≤ islands) × (length (o .points) ≤ points)
 Room (stop m k at) rows letters islands points = ⊥
+
+-- ---- a run of numbers of a row
+
+abbrev pub AtNumber : State → Type 0
+AtNumber Due = ⊥
+AtNumber (Field k p i) = eqb p lettersPlace ≡ false
+AtNumber (Island l s r) = ⊥
+AtNumber (X r) = ⊥
+AtNumber (Y r x) = ⊥
+
+-- turns at numbers of a row, and what they leave in the table of rows
+pub data Enters (mode : Mode) (s : List ℕ) (d : Stand) (l : List ℤ) : Stand → List ℤ → Type 0 where
+  at-rest : Enters mode s d l d l
+  entered : {e f : Stand} {m : List ℤ} {t len : ℕ} → Enters mode s d l e m → AtNumber (e .state) → turnOf mode s e ≡ Turn.On f t len
+      → Enters mode s d l f (rowsPut (e .state) t (e .needs) m)
 
 -- ---- a run of vertices
 

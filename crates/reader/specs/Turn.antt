@@ -1,19 +1,24 @@
 -- One turn of a walk over the records, as the reader makes it: what is kept is the needs, not the tables. Assumes nothing: these are definitions.
 use Prim.Native.Nat.{ℕ, _+_, _-_, _*_, _≤_, _<_}
 use mathlib.Core.Path.{_≡_}
-use mathlib.Core.List.{List, [], _∷_}
-use mathlib.Core.Bool.{Bool, true, false, cond, not, _&&_}
+use mathlib.Core.List.{List}
+use mathlib.Core.Bool.{Bool, false, cond, not, _&&_}
 use lib.ListN.{length, take, drop}
 use lib.Dec.{leb, eqb}
 use Rattle.record.specs.declared.Mode.{Mode}
 use Rattle.record.specs.declared.Mode.the-variants.{Loose, Exact}
 use Rattle.record.specs.declared.Line.{Line}
+use Rattle.record.specs.declared.Line.the-variants.{Got}
 use Rattle.record.specs.Refusals.{afterEOF, fileMost}
 use Rattle.record.specs.Record.{lineOf}
 use Rattle.number.specs.declared.Whole.{Whole}
 use Rattle.number.specs.Number.{integerOf}
-use Rattle.machine.specs.Rows.{lettersPlace}
-use Rattle.machine.specs.Machine.{oneOf}
+use Rattle.kinds.specs.Kinds.{rowWidth, lettersPlace, wantAt}
+use Rattle.token.specs.Lex.{lexOf}
+use Rattle.token.specs.declared.Token.the-variants.{Say}
+use Rattle.token.specs.declared.Want.the-variants.{Real}
+use Rattle.quick.specs.Seen.{RealAt, Padded}
+use Rattle.machine.specs.Machine.{wantOf, oneOf}
 use Rattle.machine.specs.declared.Ring.{Ring}
 use Rattle.machine.specs.declared.State.{State}
 use Rattle.machine.specs.declared.State.the-variants.{Due, Field, Island, X, Y}
@@ -64,6 +69,9 @@ islNext (Y r x) ring width at = ring + width
 abbrev pub noNeeds : Needs
 noNeeds = record { rows = 0; letters = 0; islands = 0; points = 0 }
 
+abbrev pub countedAs : ℕ → ℕ → ℕ → ℕ → Needs
+countedAs rows letters islands points = record { rows = rows; letters = letters; islands = islands; points = points }
+
 unfoldable pub added : Needs → State → ℕ → Needs
 added a Due t = record { rows = a .rows + 1; letters = a .letters; islands = a .islands; points = a .points }
 added a (Field kind p i) t = record { rows = a .rows; letters = a .letters + cond (eqb p lettersPlace) t 0; islands = a .islands; points = a .points }
@@ -111,11 +119,28 @@ pub record Within (bs : List ℕ) (s : Stand) : Type 0 where
   pub islands : s .needs .islands ≤ s .at
   pub points : s .needs .points ≤ s .at
 
+-- a real is due, and stands there in a record of 12 characters
+pub record RealDue (mode : Mode) (s : List ℕ) (at : ℕ) (st : State) (width v : ℕ) : Type 0 where
+  pub due : wantOf st ≡ Real
+  pub padded : Padded mode s at width v
+
+-- a number of a row stands there, in a record of `width` bytes
+pub record FieldSays (mode : Mode) (s : List ℕ) (at place width t : ℕ) : Type 0 where
+  pub len : ℕ
+  pub line : lineOf mode false (drop at s) ≡ Got len width
+  pub says : lexOf mode (wantAt place) (take len (drop at s)) ≡ Say t
+  pub apart : eqb place lettersPlace ≡ false
+  pub cell : place < rowWidth
+
 -- ---- many turns
 
 pub data Turns (mode : Mode) (s : List ℕ) (d : Stand) : Stand → Type 0 where
   still : Turns mode s d d
   on : {e f : Stand} {t len : ℕ} → Turns mode s d e → turnOf mode s e ≡ Turn.On f t len → Turns mode s d f
+
+-- at another state, k records further, with no need added
+abbrev pub onward : Stand → State → ℕ → ℕ → ℕ → Stand
+onward d st at ring k = record { state = st; at = at; nth = d .nth + k; ring = ring; needs = d .needs }
 
 -- k vertices further in a ring, at a place
 abbrev pub past : Stand → Ring → ℕ → ℕ → Stand
@@ -127,3 +152,33 @@ past d r k at =
       ring = d .ring;
       needs = record { rows = d .needs .rows; letters = d .needs .letters; islands = d .needs .islands; points = d .needs .points + k };
     }
+
+-- behind the last ring of a row, k vertices further
+abbrev pub ended : Stand → ℕ → ℕ → Stand
+ended d k at =
+    record {
+      state = Due;
+      at = at;
+      nth = d .nth + 2 * k;
+      ring = d .ring;
+      needs = record { rows = d .needs .rows; letters = d .needs .letters; islands = d .needs .islands; points = d .needs .points + k };
+    }
+
+-- a ring whose first vertex is (x, y)
+abbrev pub begun : Ring → ℕ → ℕ → Ring
+begun r x y = record { closed = r .closed; fresh = false; rings = r .rings; left = r .left; fx = x; fy = y }
+
+-- k vertices of a ring are read, and one more may be counted
+pub record Runs (s : List ℕ) (d : Stand) (r : Ring) (k at : ℕ) : Type 0 where
+  pub left : k < r .left
+  pub here : at ≤ length s
+  pub counted : d .nth + 2 * (k + 1) < 18446744073709551616
+  pub points : d .needs .points + (k + 1) < 9223372036854775808
+
+-- a vertex from `at` up to `next`
+pub record FirstAt (mode : Mode) (s : List ℕ) (at x y next : ℕ) : Type 0 where
+  pub w : ℕ
+  pub w′ : ℕ
+  pub real-x : RealAt mode s at w x
+  pub real-y : RealAt mode s (at + w) w′ y
+  pub there : next ≡ at + w + w′

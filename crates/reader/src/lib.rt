@@ -2,35 +2,44 @@
 // All of it is proved, and no public function has a `requires`. A refusal alters nothing that was lent, and past the used
 // part no table is altered. There is no scratch array: the size of a ring is read again from the file when the one before it ends.
 ghost use mathlib.Core.Path.{_≡_};
-ghost use mathlib.Core.Bool.{cond};
-ghost use Prim.Native.Nat.{_+_, _*_, _/_, _%_, _<_, _≤_};
+ghost use mathlib.Core.Bool.{true, cond};
+ghost use Prim.Native.Nat.{_+_, _-_, _*_, _/_, _%_, _<_, _≤_};
 ghost use lib.ListN.{length, set};
 ghost use lib.Dec.{eqb};
 ghost use lib.IntN.{pos};
-ghost use Rattle.laws.specs.Lists.{over, pasted};
+ghost use Rattle.laws.specs.Lists.{over, pasted, tail};
 ghost use Rattle.record.specs.declared.Mode.the-variants.{Loose};
 ghost use Rattle.record.specs.Refusals.{fileMost};
 ghost use Rattle.number.specs.Words.{trimmed};
 ghost use Rattle.token.specs.Lex.{unlift};
-ghost use Rattle.machine.specs.Machine.{wantAt};
+ghost use Rattle.machine.specs.declared.State.the-variants.{X};
+ghost use Rattle.kinds.specs.Kinds.{wantAt};
+ghost use Rattle.machine.specs.Machine.{stepOf, ofStep, oneOf};
 ghost use Rattle.sheet.specs.Tables.{newRow, cellOf};
 ghost use Rattle.sheet.specs.Reading.{walkFrom, reading};
-ghost use Rattle.reader.specs.Turn.{sizeOf, isTurning, sizeNext, islNext, Few, added, closing, turnOf, standAt, Within, Turns, past};
-ghost use Rattle.reader.specs.Store.{tokenMost, IslandToken, rowsPut, lettersPut, islandsPut, pointsPut, PutRoom, tablesOf, Room, Stored, Stores};
+ghost use Rattle.reader.specs.Turn.{sizeOf, isTurning, sizeNext, islNext, Few, countedAs, added, closing, turnOf, standAt, Within, Turns, past, ended, RealDue, FieldSays, onward, begun, Runs, FirstAt};
+ghost use Rattle.reader.specs.Store.{tokenMost, IslandToken, rowsPut, lettersPut, islandsPut, pointsPut, PutRoom, tablesOf, Room, Enters, Stored, Stores};
 ghost use Rattle.reader.specs.Read.{judgedOf, Rooms, roomsOf, holdsAll, refusedWith, readOf, tablesIn, written};
 use header::Ahead;
-use header::Header;
 use header::header_at;
+use heading::Header;
+use kinds::want_at;
 use machine::One;
 use machine::Ring;
 use machine::State;
+use machine::Step;
+use machine::field_step;
+use machine::is_shut;
 use machine::one_at;
-use machine::want_at;
+use machine::step_at;
+use machine::wanted;
 use number::Whole;
 use number::Word;
 use number::integer;
 use number::word_of;
 use quick::Run;
+use quick::Taken;
+use quick::padded;
 use quick::real_at;
 use quick::vertices;
 use record::FILE_MOST;
@@ -104,6 +113,19 @@ pub struct Outcome {
 struct Size {
     pub n: usize,
     pub width: usize,
+}
+
+// What a field of a row says, and its record's bytes.
+struct Said {
+    pub token: usize,
+    pub width: usize,
+}
+
+// A vertex that was read, and the place behind it.
+struct First {
+    pub x: usize,
+    pub y: usize,
+    pub next: usize,
 }
 
 // The number of the record that a file's sections begin with.
@@ -185,6 +207,17 @@ fn ring_next(st: State, ring: usize, width: usize, at: usize) -> usize
     }
 }
 
+fn counted(rows: usize, letters: usize, islands: usize, points: usize) -> Needs
+    ensures { λ r. ⌜ r ≡ countedAs rows letters islands points ⌝ }
+{
+    Needs {
+        rows,
+        letters,
+        islands,
+        points,
+    }
+}
+
 // What a record with the token `t` adds to the needs.
 fn more_needs(a: Needs, st: State, t: usize) -> Needs
     requires { ⌜ Few (added a st t) ⌝ }
@@ -195,24 +228,14 @@ fn more_needs(a: Needs, st: State, t: usize) -> Needs
     let islands = a.islands;
     let points = a.points;
     match st {
-        State::Due => Needs {
-            rows: rows + 1,
-            letters,
-            islands,
-            points,
-        },
+        State::Due => counted(rows + 1, letters, islands, points),
         State::Field {
             kind: _,
             place,
             islands: _,
         } => {
             if place == LETTERS_PLACE {
-                return Needs {
-                    rows,
-                    letters: letters + t,
-                    islands,
-                    points,
-                };
+                return counted(rows, letters + t, islands, points);
             }
             a
         }
@@ -220,19 +243,9 @@ fn more_needs(a: Needs, st: State, t: usize) -> Needs
             left: _,
             spare: _,
             rings: _,
-        } => Needs {
-            rows,
-            letters,
-            islands: islands + 1,
-            points,
-        },
+        } => counted(rows, letters, islands + 1, points),
         State::X(_) => a,
-        State::Y(_, _) => Needs {
-            rows,
-            letters,
-            islands,
-            points: points + 1,
-        },
+        State::Y(_, _) => counted(rows, letters, islands, points + 1),
     }
 }
 
@@ -255,6 +268,46 @@ fn closing_at(mode: Mode, nth: usize, next: usize, size: usize) -> Turn
     }
 }
 
+// A real's record at a place, where a real is due and its content is 12 characters.
+fn quick_at(src: &[u8], at: usize, mode: Mode, st: State) -> Taken
+    ensures { λ r. ⌜ (0 < r .width → RealDue mode (now (src .entry)) at st (r .width) (r .value)) ⌝ }
+{
+    match wanted(st) {
+        Want::Real => padded(src, at, mode),
+        Want::Key => Taken { value: 0, width: 0 },
+        Want::Text => Taken { value: 0, width: 0 },
+        Want::Int => Taken { value: 0, width: 0 },
+    }
+}
+
+// Where the token of a record with 12 characters leads.
+fn stepped(mode: Mode, st: State, t: usize, next: usize, width: usize) -> One
+    ensures { λ r. ⌜ r ≡ ofStep t 12 width (stepOf mode st t next) ⌝ }
+{
+    match step_at(mode, st, t, next) {
+        Step::Go(state) => One::Go {
+            state,
+            token: t,
+            len: 12,
+            width,
+        },
+        Step::No(number) => One::No(number),
+        Step::End => One::End(width),
+    }
+}
+
+// One record at a place.
+fn one_of(src: &[u8], at: usize, mode: Mode, st: State, next: usize) -> One
+    requires { ⌜ at ≤ length (now src) ⌝ }
+    ensures { λ r. ⌜ r ≡ oneOf mode st next (tail (now (src .entry)) at) ⌝ }
+{
+    let q = quick_at(src, at, mode, st);
+    if q.width > 0 {
+        return stepped(mode, st, q.value, next, q.width);
+    }
+    one_at(&src[at..], mode, st, next)
+}
+
 // One record further.
 fn turn_at(src: &[u8], mode: Mode, d: Stand) -> Turn
     requires { ⌜ Within (now src) d ⌝ }
@@ -268,7 +321,7 @@ fn turn_at(src: &[u8], mode: Mode, d: Stand) -> Turn
     let size = size_next(&src[ring..], mode, st);
     let n = size.n;
     let wide = size.width;
-    match one_at(&src[at..], mode, st, n) {
+    match one_of(src, at, mode, st, n) {
         One::No(number) => Turn::Refused {
             number,
             record: nth,
@@ -315,6 +368,84 @@ fn first_stand(start: usize) -> Stand
     }
 }
 
+// What the number at a place of a row says, or width 0.
+fn said_at(src: &[u8], at: usize, mode: Mode, place: usize) -> Said
+    requires { ⌜ at ≤ length (now src) ⌝ }
+    ensures { λ r. ⌜ (0 < r .width → FieldSays mode (now (src .entry)) at place (r .width) (r .token)) ⌝ }
+{
+    if place >= ROW_WIDTH {
+        return Said { token: 0, width: 0 };
+    }
+    match want_at(place) {
+        Want::Real => {
+            let q = real_at(src, at, mode);
+            Said {
+                token: q.value,
+                width: q.width,
+            }
+        }
+        Want::Int => {
+            let size = size_of(&src[at..], mode);
+            Said {
+                token: size.n,
+                width: size.width,
+            }
+        }
+        Want::Text => Said { token: 0, width: 0 },
+        Want::Key => Said { token: 0, width: 0 },
+    }
+}
+
+// A stand at another state, `k` records further.
+fn onward_at(d: Stand, state: State, at: usize, ring: usize, k: usize) -> Stand
+    requires { ⌜ d .nth + k < 18446744073709551616 ⌝ }
+    ensures { λ e. ⌜ e ≡ onward d state at ring k ⌝ }
+{
+    let nth = d.nth;
+    let needs = d.needs;
+    Stand {
+        state,
+        at,
+        nth: nth + k,
+        ring,
+        needs,
+    }
+}
+
+// Over the numbers of a row, as many as are read.
+fn skim_fields(src: &[u8], mode: Mode, d: Stand) -> Stand
+    requires { ⌜ Within (now src) d ⌝ }
+    ensures { λ e. ⌜ Turns mode (now (src .entry)) d e ⌝ }
+{
+    let mut st = d.state;
+    let mut here = d.at;
+    let mut ring = d.ring;
+    let mut k = 0;
+    loop {
+        let State::Field {
+            kind,
+            place,
+            islands,
+        } = st
+        else {
+            return onward_at(d, st, here, ring, k);
+        };
+        let said = said_at(src, here, mode, place);
+        let token = said.token;
+        let width = said.width;
+        if width == 0 {
+            return onward_at(d, st, here, ring, k);
+        }
+        let Step::Go(state) = field_step(mode, kind, place, islands, token) else {
+            return onward_at(d, st, here, ring, k);
+        };
+        st = state;
+        here = here + width;
+        ring = here;
+        k += 1;
+    }
+}
+
 // A stand in a ring, `k` vertices further.
 fn past_at(d: Stand, r: Ring, k: usize, at: usize) -> Stand
     requires { ⌜ (k ≤ r .left) × (d .nth + 2 * k < 18446744073709551616) × (d .needs .points + k < 18446744073709551616) ⌝ }
@@ -353,7 +484,135 @@ fn past_at(d: Stand, r: Ring, k: usize, at: usize) -> Stand
     }
 }
 
-// Over the vertices of a ring that stand in the usual form, at once; not over its first, nor its last.
+// A vertex in the usual form: its numbers, lifted, and the place behind it; or place 0.
+fn first_at(src: &[u8], at: usize, mode: Mode) -> First
+    ensures { λ r. ⌜ (0 < r .next → FirstAt mode (now (src .entry)) at (r .x) (r .y) (r .next)) ⌝ }
+{
+    let a = real_at(src, at, mode);
+    if a.width == 0 {
+        return First {
+            x: 0,
+            y: 0,
+            next: 0,
+        };
+    }
+    let mid = at + a.width;
+    let b = real_at(src, mid, mode);
+    if b.width == 0 {
+        return First {
+            x: 0,
+            y: 0,
+            next: 0,
+        };
+    }
+    First {
+        x: a.value,
+        y: b.value,
+        next: mid + b.width,
+    }
+}
+
+// A ring whose first vertex is read.
+fn begun_at(r: Ring, x: usize, y: usize) -> Ring
+    ensures { λ b. ⌜ b ≡ begun r x y ⌝ }
+{
+    let closed = r.closed;
+    let rings = r.rings;
+    let left = r.left;
+    Ring {
+        closed,
+        fresh: false,
+        rings,
+        left,
+        fx: x,
+        fy: y,
+    }
+}
+
+// A stand behind the last ring of a row, `k` vertices further.
+fn ended_at(d: Stand, k: usize, at: usize) -> Stand
+    requires { ⌜ (d .nth + 2 * k < 18446744073709551616) × (d .needs .points + k < 18446744073709551616) ⌝ }
+    ensures { λ e. ⌜ e ≡ ended d k at ⌝ }
+{
+    let nth = d.nth;
+    let ring = d.ring;
+    let needs = d.needs;
+    let rows = needs.rows;
+    let letters = needs.letters;
+    let islands = needs.islands;
+    let points = needs.points;
+    Stand {
+        state: State::Due,
+        at,
+        nth: nth + 2 * k,
+        ring,
+        needs: Needs {
+            rows,
+            letters,
+            islands,
+            points: points + k,
+        },
+    }
+}
+
+// All vertices of a row's last ring are read but one.
+fn is_ending(r: Ring, k: usize) -> bool
+    requires { ⌜ k < r .left ⌝ }
+    ensures { λ b. ⌜ (b ≡ true → (r .left - k ≤ 1) × (r .rings ≡ 0)) ⌝ }
+{
+    let left = r.left;
+    let rings = r.rings;
+    if left - k > 1 {
+        return false;
+    }
+    if rings == 0 { true } else { false }
+}
+
+// From a ring of which `k` vertices are read over its last vertex, where it is the last ring of its row.
+fn shut_at(src: &[u8], mode: Mode, d: Stand, r: Ring, k: usize, at: usize) -> Stand
+    requires { ⌜ Runs (now src) d r k at ⌝ }
+    ensures { λ e. ⌜ Turns mode (now (src .entry)) (past d r k at) e ⌝ }
+{
+    let closed = r.closed;
+    let fx = r.fx;
+    let fy = r.fy;
+    if !is_ending(r, k) {
+        return past_at(d, r, k, at);
+    }
+    let f = first_at(src, at, mode);
+    let x = f.x;
+    let y = f.y;
+    let next = f.next;
+    if next == 0 {
+        return past_at(d, r, k, at);
+    }
+    if is_shut(closed, fx, fy, x, y) {
+        return ended_at(d, k + 1, next);
+    }
+    past_at(d, r, k, at)
+}
+
+// From the first vertex of a ring on.
+fn skim_fresh(src: &[u8], mode: Mode, d: Stand, r: Ring) -> Stand
+    requires { ⌜ Within (now src) d ⌝ }
+    requires { ⌜ (d .state ≡ X r) × (r .fresh ≡ true) × (2 ≤ r .left) ⌝ }
+    ensures { λ e. ⌜ Turns mode (now (src .entry)) d e ⌝ }
+{
+    let left = r.left;
+    let f = first_at(src, d.at, mode);
+    let x = f.x;
+    let y = f.y;
+    let next = f.next;
+    if next == 0 {
+        return d;
+    }
+    let run = vertices(src, next, mode, left - 2);
+    let count = run.count;
+    let end = run.next;
+    shut_at(src, mode, d, begun_at(r, x, y), count + 1, end)
+}
+
+// Over the vertices of a ring that stand in the usual form, at once.
 fn skim(src: &[u8], mode: Mode, d: Stand) -> Stand
     requires { ⌜ Within (now src) d ⌝ }
     ensures { λ e. ⌜ Turns mode (now (src .entry)) d e ⌝ }
@@ -375,16 +634,16 @@ fn skim(src: &[u8], mode: Mode, d: Stand) -> Stand
         State::X(r) => {
             let fresh = r.fresh;
             let left = r.left;
-            if fresh {
-                return d;
-            }
             if left < 2 {
                 return d;
+            }
+            if fresh {
+                return skim_fresh(src, mode, d, r);
             }
             let run = vertices(src, d.at, mode, left - 1);
             let count = run.count;
             let next = run.next;
-            past_at(d, r, count, next)
+            shut_at(src, mode, d, r, count, next)
         }
     }
 }
@@ -402,7 +661,7 @@ fn judge(src: &[u8], mode: Mode, start: usize) -> Judged
                 stand,
                 token: _,
                 len: _,
-            } => d = skim(src, mode, stand),
+            } => d = skim(src, mode, skim_fields(src, mode, stand)),
             Turn::Refused {
                 number,
                 record,
@@ -522,78 +781,195 @@ fn store(
     ensures { λ _. ⌜ now (islands .exit) ≡ islandsPut st t a (now (islands .entry)) ⌝ }
     ensures { λ _. ⌜ now (points .exit) ≡ pointsPut st t a (now (points .entry)) ⌝ }
 {
-    let nr = a.rows;
-    let nl = a.letters;
-    let ni = a.islands;
     let np = a.points;
     match st {
-        State::Due => put_row(rows, ROW_WIDTH * nr, t),
+        State::Due => put_row(rows, ROW_WIDTH * a.rows, t),
         State::Field {
             kind: _,
             place,
             islands: _,
         } => {
-            put_field(rows, ROW_WIDTH * (nr - 1) + place, place, t);
+            put_field(rows, ROW_WIDTH * (a.rows - 1) + place, place, t);
             if place == LETTERS_PLACE {
-                put_word(letters, nl, c);
+                put_word(letters, a.letters, c);
             }
         }
         State::Island {
             left: _,
             spare: _,
             rings: _,
-        } => put_island(islands, ni, t),
+        } => put_island(islands, a.islands, t),
         State::X(_) => put_real(points, 2 * np, t),
         State::Y(_, _) => put_real(points, 2 * np + 1, t),
     }
+}
+
+// There is a last row of so many, and a table of `len` numbers holds it.
+fn is_begun(len: usize, count: usize) -> bool
+    ensures { λ b. ⌜ (b ≡ true → (1 ≤ count) × (12 * count ≤ len)) ⌝ }
+{
+    if count < 1 {
+        return false;
+    }
+    if len / ROW_WIDTH < count { false } else { true }
+}
+
+// As `skim_fields` goes, with the numbers stored in the last row.
+fn fields_into(src: &[u8], mode: Mode, d: Stand, rows: &mut [i64]) -> Stand
+    requires { ⌜ Within (now src) d ⌝ }
+    ensures { λ e. ⌜ Enters mode (now (src .entry)) d (now (rows .entry)) e (now (rows .exit)) ⌝ }
+{
+    let needs = d.needs;
+    let count = needs.rows;
+    if !is_begun(rows.len(), count) {
+        return d;
+    }
+    let row = ROW_WIDTH * (count - 1);
+    let mut st = d.state;
+    let mut here = d.at;
+    let mut ring = d.ring;
+    let mut k = 0;
+    loop {
+        let State::Field {
+            kind,
+            place,
+            islands,
+        } = st
+        else {
+            return onward_at(d, st, here, ring, k);
+        };
+        let said = said_at(src, here, mode, place);
+        let token = said.token;
+        let width = said.width;
+        if width == 0 {
+            return onward_at(d, st, here, ring, k);
+        }
+        let Step::Go(state) = field_step(mode, kind, place, islands, token) else {
+            return onward_at(d, st, here, ring, k);
+        };
+        put_field(rows, row + place, place, token);
+        st = state;
+        here = here + width;
+        ring = here;
+        k += 1;
+    }
+}
+
+// How many points, `most` at most, a table of `len` numbers holds behind `from` points.
+fn room_at(len: usize, from: usize, most: usize) -> usize
+    ensures { λ r. ⌜ (r ≤ most) × (0 < r → 2 * (from + r) ≤ len) ⌝ }
+{
+    let half = len / 2;
+    if half < from {
+        return 0;
+    }
+    let room = half - from;
+    if most < room {
+        return most;
+    }
+    room
 }
 
 // At most so many vertices from a place on, as many as stand there in the usual form, stored behind `from` points.
 fn store_run(src: &[u8], at: usize, mode: Mode, most: usize, points: &mut [i64], from: usize) -> Run
     ensures { λ r. ⌜ (r .count ≤ most) × Stored mode (now (src .entry)) at from (now (points .entry)) (r .count) (r .next) (now (points .exit)) ⌝ }
 {
-    let half = points.len() / 2;
+    let room = room_at(points.len(), from, most);
     let mut k = 0;
     let mut here = at;
-    if half < from {
-        return Run {
-            count: k,
-            next: here,
-        };
-    }
-    let room = half - from;
-    while k < most {
-        if k >= room {
-            return Run {
-                count: k,
-                next: here,
-            };
-        }
+    while k < room {
         let x = real_at(src, here, mode);
-        if x == 0 {
+        if x.width == 0 {
             return Run {
                 count: k,
                 next: here,
             };
         }
-        let mid = here + x % 16;
+        let mid = here + x.width;
         let y = real_at(src, mid, mode);
-        if y == 0 {
+        if y.width == 0 {
             return Run {
                 count: k,
                 next: here,
             };
         }
         let p = 2 * (from + k);
-        put_real(points, p, x / 16);
-        put_real(points, p + 1, y / 16);
-        here = mid + y % 16;
+        put_real(points, p, x.value);
+        put_real(points, p + 1, y.value);
+        here = mid + y.width;
         k += 1;
     }
     Run {
         count: k,
         next: here,
     }
+}
+
+// As `shut_at` goes, with the vertex stored.
+fn shut_into(
+    src: &[u8],
+    mode: Mode,
+    d: Stand,
+    r: Ring,
+    k: usize,
+    at: usize,
+    points: &mut [i64],
+) -> Stand
+    requires { ⌜ Runs (now src) d r k at ⌝ }
+    ensures { λ e. ⌜ Stores mode (now (src .entry)) (past d r k at) (now (points .entry)) e (now (points .exit)) ⌝ }
+{
+    let closed = r.closed;
+    let fx = r.fx;
+    let fy = r.fy;
+    let needs = d.needs;
+    let p = 2 * (needs.points + k);
+    if !is_ending(r, k) {
+        return past_at(d, r, k, at);
+    }
+    if p + 1 >= points.len() {
+        return past_at(d, r, k, at);
+    }
+    let f = first_at(src, at, mode);
+    let x = f.x;
+    let y = f.y;
+    let next = f.next;
+    if next == 0 {
+        return past_at(d, r, k, at);
+    }
+    if is_shut(closed, fx, fy, x, y) {
+        put_real(points, p, x);
+        put_real(points, p + 1, y);
+        return ended_at(d, k + 1, next);
+    }
+    past_at(d, r, k, at)
+}
+
+// From the first vertex of a ring on, with the points stored.
+fn fresh_into(src: &[u8], mode: Mode, d: Stand, r: Ring, points: &mut [i64]) -> Stand
+    requires { ⌜ Within (now src) d ⌝ }
+    requires { ⌜ (d .state ≡ X r) × (r .fresh ≡ true) × (2 ≤ r .left) ⌝ }
+    ensures { λ e. ⌜ Stores mode (now (src .entry)) d (now (points .entry)) e (now (points .exit)) ⌝ }
+{
+    let left = r.left;
+    let needs = d.needs;
+    let from = needs.points;
+    let p = 2 * from;
+    if p + 1 >= points.len() {
+        return d;
+    }
+    let f = first_at(src, d.at, mode);
+    let x = f.x;
+    let y = f.y;
+    let next = f.next;
+    if next == 0 {
+        return d;
+    }
+    put_real(points, p, x);
+    put_real(points, p + 1, y);
+    let run = store_run(src, next, mode, left - 2, points, from + 1);
+    let count = run.count;
+    let end = run.next;
+    shut_into(src, mode, d, begun_at(r, x, y), count + 1, end, points)
 }
 
 // As `skim` goes, with the points stored.
@@ -619,16 +995,16 @@ fn run_into(src: &[u8], mode: Mode, d: Stand, points: &mut [i64]) -> Stand
         State::X(r) => {
             let fresh = r.fresh;
             let left = r.left;
-            if fresh {
-                return d;
-            }
             if left < 2 {
                 return d;
+            }
+            if fresh {
+                return fresh_into(src, mode, d, r, points);
             }
             let run = store_run(src, d.at, mode, left - 1, points, needs.points);
             let count = run.count;
             let next = run.next;
-            past_at(d, r, count, next)
+            shut_into(src, mode, d, r, count, next, points)
         }
     }
 }
@@ -658,17 +1034,10 @@ fn fill(
         match turn_at(src, mode, d) {
             Turn::On { stand, token, len } => {
                 let end = at + len;
-                store(
-                    st,
-                    token,
-                    &src[at..end],
-                    needs,
-                    rows,
-                    letters,
-                    islands,
-                    points,
-                );
-                d = run_into(src, mode, stand, points);
+                let c = &src[at..end];
+                store(st, token, c, needs, rows, letters, islands, points);
+                let last = fields_into(src, mode, stand, rows);
+                d = run_into(src, mode, last, points);
             }
             Turn::Refused {
                 number: _,

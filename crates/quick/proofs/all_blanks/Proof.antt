@@ -1,9 +1,9 @@
 -- `quick::all_blanks` meets its contract. Assumes nothing.
 use borrow.Author.Needs.{needs}
 use native.Mathlib.Omega.{arith}
-use Prim.Native.Nat.{_+_, _-_, _*_, _≤_, _<_, _^_}
-use mathlib.Core.Path.{_≡_, refl}
-use lib.ListN.{length, drop, take}
+use Prim.Native.Nat.{_+_, _-_, _≤_}
+use mathlib.Core.Path.{_≡_}
+use lib.ListN.{length, drop}
 use Rattle.laws.specs.Lists.{run}
 use Rattle.number.specs.Words.{blank}
 use Rattle.laws.proofs.ListLaws.{runs}

@@ -1,6 +1,5 @@
 -- `quick::bare` meets its contract. Assumes nothing.
-use Rattle.quick.proofs.Leading.{bare-in, bare-most, bare-lf, bare-cr}
-use native.Mathlib.Omega.{arith}
+use Rattle.quick.proofs.Leading.{bare-in, bare-lf, bare-cr}
 use Rattle.quick.proofs.Twelve.{never}
 use borrow.Author.Needs.{needs}
 use Rattle.quick.proofs.bare.Statement.{statement}
@@ -30,14 +29,8 @@ returns-3 c = λ h. never h
 shared-slice-read-x : tie.Need-shared-slice-read-x
 shared-slice-read-x c = bare-in ((c .before .before .before .before .before .before .before) .args .s .now) ((c .before .before .before .before .before .before .before) .args .at) (c .before .before .before .before .before .if1 .left) (c .before .before .before .brisk .result .len) (c .before .before .before .brisk .result .value) (c .before .before .before .brisk .ensures) (c .before .before .if2 .left) (c .before .if3 .left)
 
-mul-result : tie.Need-mul-result
-mul-result c = omega (arith, bare-most ((c .before .before .before .before .before .before .before .before) .args .s .now) ((c .before .before .before .before .before .before .before .before) .args .at) (c .before .before .before .before .before .before .if1 .left) (c .before .before .before .before .brisk .result .len) (c .before .before .before .before .brisk .result .value) (c .before .before .before .before .brisk .ensures) (c .before .before .before .if2 .left) (c .before .before .if3 .left))
-
-add-result : tie.Need-add-result
-add-result c = search needs
-
-add-result-2 : tie.Need-add-result-2
-add-result-2 c = omega (arith, bare-most ((c .before .before .before .before .before .before .before .before) .args .s .now) ((c .before .before .before .before .before .before .before .before) .args .at) (c .before .before .before .before .before .before .if1 .left) (c .before .before .before .before .brisk .result .len) (c .before .before .before .before .brisk .result .value) (c .before .before .before .before .brisk .ensures) (c .before .before .before .if2 .left) (c .before .before .if3 .left))
+add-t15 : tie.Need-add-t15
+add-t15 c = search needs
 
 returns-4 : tie.Need-returns-4
 returns-4 c = bare-lf ((c .before .before .before .before .before .before .before .before) .args .s .now) ((c .before .before .before .before .before .before .before .before) .args .at) (c .before .before .before .before .before .before .if1 .left) (c .before .before .before .before .brisk .result .len) (c .before .before .before .before .brisk .result .value) (c .before .before .before .before .brisk .ensures) (c .before .before .before .if2 .left) (c .before .before .if3 .left) (c .if4 .taken)
@@ -57,14 +50,8 @@ shared-slice-read-if7 c = search needs
 returns-7 : tie.Need-returns-7
 returns-7 c = λ h. never h
 
-mul-result-2 : tie.Need-mul-result-2
-mul-result-2 c = omega (arith, bare-most ((c .before .before .before .before .before .before .before .before .before .before .before .before) .args .s .now) ((c .before .before .before .before .before .before .before .before .before .before .before .before) .args .at) (c .before .before .before .before .before .before .before .before .before .before .if1 .left) (c .before .before .before .before .before .before .before .before .brisk .result .len) (c .before .before .before .before .before .before .before .before .brisk .result .value) (c .before .before .before .before .before .before .before .before .brisk .ensures) (c .before .before .before .before .before .before .before .if2 .left) (c .before .before .before .before .before .before .if3 .left))
-
-add-result-3 : tie.Need-add-result-3
-add-result-3 c = search needs
-
-add-result-4 : tie.Need-add-result-4
-add-result-4 c = omega (arith, bare-most ((c .before .before .before .before .before .before .before .before .before .before .before .before) .args .s .now) ((c .before .before .before .before .before .before .before .before .before .before .before .before) .args .at) (c .before .before .before .before .before .before .before .before .before .before .if1 .left) (c .before .before .before .before .before .before .before .before .brisk .result .len) (c .before .before .before .before .before .before .before .before .brisk .result .value) (c .before .before .before .before .before .before .before .before .brisk .ensures) (c .before .before .before .before .before .before .before .if2 .left) (c .before .before .before .before .before .before .if3 .left))
+add-t9 : tie.Need-add-t9
+add-t9 c = search needs
 
 returns-8 : tie.Need-returns-8
 returns-8 c = bare-cr ((c .before .before .before .before .before .before .before .before .before .before .before .before) .args .s .now) ((c .before .before .before .before .before .before .before .before .before .before .before .before) .args .at) (c .before .before .before .before .before .before .before .before .before .before .if1 .left) (c .before .before .before .before .before .before .before .before .brisk .result .len) (c .before .before .before .before .before .before .before .before .brisk .result .value) (c .before .before .before .before .before .before .before .before .brisk .ensures) (c .before .before .before .before .before .before .before .if2 .left) (c .before .before .before .before .before .before .if3 .left) (c .before .before .before .if5 .left) (c .before .before .if6 .left) (c .if7 .left)
@@ -81,16 +68,12 @@ bare-spec =
     returns-2
     returns-3
     shared-slice-read-x
-    mul-result
-    add-result
-    add-result-2
+    add-t15
     returns-4
     returns-5
     add-g
     returns-6
     shared-slice-read-if7
     returns-7
-    mul-result-2
-    add-result-3
-    add-result-4
+    add-t9
     returns-8)

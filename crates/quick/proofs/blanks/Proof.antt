@@ -1,12 +1,12 @@
 -- `quick::blanks` meets its contract. Assumes nothing.
-use Prim.Native.Nat.{_+_, _-_, _≤_, _<_}
-use mathlib.Core.Path.{_≡_, refl}
+use Prim.Native.Nat.{_+_, _-_, _≤_}
+use mathlib.Core.Path.{_≡_}
 use borrow.Author.Needs.{needs}
 use native.Mathlib.Omega.{arith}
 use lib.ListN.{drop}
 use Rattle.laws.specs.Lists.{run}
 use Rattle.number.specs.Words.{blank}
-use Rattle.quick.proofs.Twelve.{quick, blanks-short, blanks-step, blanks-stop}
+use Rattle.quick.proofs.Twelve.{blank-ways}
 use Rattle.quick.proofs.blanks.Statement.{statement}
 use Rattle.quick.proofs.blanks.Tie as tie
 
@@ -23,16 +23,16 @@ shared-slice-read-if1 : tie.Need-shared-slice-read-if1 Inv-loop μ-loop
 shared-slice-read-if1 c = search needs
 
 returns : tie.Need-returns Inv-loop μ-loop
-returns c = (search quick, omega arith)
+returns c = (search blank-ways, omega arith)
 
 add-i : tie.Need-add-i Inv-loop μ-loop
 add-i c = search needs
 
 loop-less : tie.Need-loop-less Inv-loop μ-loop
-loop-less c = let h : c .before .before .loop .i + 1 ≤ 8 = search quick in omega arith
+loop-less c = let h : c .before .before .loop .i + 1 ≤ 8 = search blank-ways in omega arith
 
 loop-again : tie.Need-loop-again Inv-loop μ-loop
-loop-again c = search quick
+loop-again c = search blank-ways
 
 pub blanks-spec : {M : Type 1} → statement M
 blanks-spec =

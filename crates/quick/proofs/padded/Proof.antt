@@ -1,6 +1,6 @@
 -- `quick::padded` meets its contract. Assumes nothing.
 use native.Mathlib.Omega.{arith}
-use Rattle.quick.proofs.Places.{twelve-in, padded-most, padded-is}
+use Rattle.quick.proofs.Places.{twelve-in, padded-is}
 use Rattle.quick.proofs.Twelve.{never}
 use borrow.Author.Needs.{needs}
 use Rattle.quick.proofs.padded.Statement.{statement}
@@ -30,14 +30,8 @@ neat-requires c κs = search needs
 returns-2 : tie.Need-returns-2
 returns-2 c = λ h. never h
 
-mul-result : tie.Need-mul-result
-mul-result c = omega (arith, padded-most ((c .before .before .before .before .before .before) .args .mode) ((c .before .before .before .before .before .before) .args .s .now) ((c .before .before .before .before .before .before) .args .at) (c .before .before .before .before .ending .result) (c .before .before .before .before .ending .ensures) (c .before .before .before .if1 .left) (c .before .neat .result) (c .before .neat .ensures) (c .if2 .left))
-
-add-result : tie.Need-add-result
-add-result c = omega (arith, padded-most ((c .before .before .before .before .before .before) .args .mode) ((c .before .before .before .before .before .before) .args .s .now) ((c .before .before .before .before .before .before) .args .at) (c .before .before .before .before .ending .result) (c .before .before .before .before .ending .ensures) (c .before .before .before .if1 .left) (c .before .neat .result) (c .before .neat .ensures) (c .if2 .left))
-
 returns-3 : tie.Need-returns-3
-returns-3 c = λ h. padded-is ((c .before .before .before .before .before .before) .args .mode) ((c .before .before .before .before .before .before) .args .s .now) ((c .before .before .before .before .before .before) .args .at) (c .before .before .before .before .ending .result) (c .before .before .before .before .ending .ensures) (c .before .before .before .if1 .left) (c .before .neat .result) (c .before .neat .ensures) (c .if2 .left)
+returns-3 c = padded-is ((c .before .before .before .before .before .before) .args .mode) ((c .before .before .before .before .before .before) .args .s .now) ((c .before .before .before .before .before .before) .args .at) (c .before .before .before .before .ending .result) (c .before .before .before .before .ending .ensures) (c .before .before .before .if1 .left) (c .before .neat .result) (c .before .neat .ensures) (c .if2 .left)
 
 pub padded-spec : {M : Type 1} → statement M
 padded-spec =
@@ -51,6 +45,4 @@ padded-spec =
     part-neat-end
     neat-requires
     returns-2
-    mul-result
-    add-result
     returns-3)

@@ -1,5 +1,5 @@
 -- `quick::real_at` meets its contract. Assumes nothing.
-use Rattle.quick.proofs.Places.{loose-real}
+use Rattle.quick.proofs.Places.{quick-real, loose-real}
 use Rattle.quick.proofs.Twelve.{never}
 use borrow.Author.Needs.{needs}
 use Rattle.quick.proofs.real_at.Statement.{statement}
@@ -9,7 +9,7 @@ padded-requires : tie.Need-padded-requires
 padded-requires c κs = search needs
 
 returns : tie.Need-returns
-returns c = search needs
+returns c = quick-real ((c .before .before .before .before) .args .mode) ((c .before .before .before .before) .args .s .now) ((c .before .before .before .before) .args .at) ((c .before .before .padded) .result) ((c .before .before .padded) .ensures)
 
 enum-told : tie.Need-enum-told
 enum-told c = search needs
@@ -24,7 +24,7 @@ returns-2 : tie.Need-returns-2
 returns-2 c = λ h. never h
 
 returns-3 : tie.Need-returns-3
-returns-3 c = loose-real ((c .before .before .before .before .before .before) .args .mode) ((c .before .before .before .before .before .before) .args .s .now) ((c .before .before .before .before .before .before) .args .at) (c .bare .result) (c .before .enum-told2 .given .1) (c .bare .ensures)
+returns-3 c = loose-real ((c .before .before .before .before .before .before .before) .args .mode) ((c .before .before .before .before .before .before .before) .args .s .now) ((c .before .before .before .before .before .before .before) .args .at) ((c .bare) .result) ((c .before .enum-told2) .given .1) ((c .bare) .ensures)
 
 pub real-at-spec : {M : Type 1} → statement M
 real-at-spec =

@@ -5,7 +5,7 @@ use Prim.Native.Nat.{_-_}
 use lib.ListN.{length}
 use Rattle.sheet.specs.Reading.{walkFrom}
 use Rattle.reader.proofs.Judging.{at-on}
-use Rattle.reader.proofs.Filled.{Filled, filled-start, filled-kept, fill-inside, fill-token, fill-room, fill-refused, fill-done, fill-past, fill-less}
+use Rattle.reader.proofs.Filled.{Filled, filled-start, filled-kept, fill-inside, fill-token, fill-room, fill-refused, fill-done, fill-fields, fill-past, fill-less}
 use Rattle.reader.proofs.fill.Statement.{statement}
 use Rattle.reader.proofs.fill.Tie as tie
 
@@ -30,26 +30,29 @@ enum-known-stand c = search needs
 add-end : tie.Need-add-end Inv-loop μ-loop
 add-end c = omega (arith, fill-inside ((c .before .before .before .before .before .before .before .before .before .before) .pre .1) (c .before .before .before .before .before .loop .inv) (c .before .before .before .turn-at .result) (c .before .before .before .turn-at .ensures) _ _ _ (c .before .stand .given .1), c .before .before .before .before .before .loop .inv .stands .within .small)
 
-sub-store : tie.Need-sub-store Inv-loop μ-loop
-sub-store c = omega (arith, fill-inside ((c .before .before .before .before .before .before .before .before .before .before) .pre .1) (c .before .before .before .before .before .loop .inv) (c .before .before .before .turn-at .result) (c .before .before .before .turn-at .ensures) _ _ _ (c .before .stand .given .1))
+sub-c : tie.Need-sub-c Inv-loop μ-loop
+sub-c c = omega (arith, fill-inside ((c .before .before .before .before .before .before .before .before .before .before) .pre .1) (c .before .before .before .before .before .loop .inv) (c .before .before .before .turn-at .result) (c .before .before .before .turn-at .ensures) _ _ _ (c .before .stand .given .1))
 
-part-store-start : tie.Need-part-store-start Inv-loop μ-loop
-part-store-start c = omega (arith, fill-inside ((c .before .before .before .before .before .before .before .before .before .before) .pre .1) (c .before .before .before .before .before .loop .inv) (c .before .before .before .turn-at .result) (c .before .before .before .turn-at .ensures) _ _ _ (c .before .stand .given .1))
+part-c-start : tie.Need-part-c-start Inv-loop μ-loop
+part-c-start c = omega (arith, fill-inside ((c .before .before .before .before .before .before .before .before .before .before) .pre .1) (c .before .before .before .before .before .loop .inv) (c .before .before .before .turn-at .result) (c .before .before .before .turn-at .ensures) _ _ _ (c .before .stand .given .1))
 
-part-store-end : tie.Need-part-store-end Inv-loop μ-loop
-part-store-end c = omega (arith, fill-inside ((c .before .before .before .before .before .before .before .before .before .before) .pre .1) (c .before .before .before .before .before .loop .inv) (c .before .before .before .turn-at .result) (c .before .before .before .turn-at .ensures) _ _ _ (c .before .stand .given .1))
+part-c-end : tie.Need-part-c-end Inv-loop μ-loop
+part-c-end c = omega (arith, fill-inside ((c .before .before .before .before .before .before .before .before .before .before) .pre .1) (c .before .before .before .before .before .loop .inv) (c .before .before .before .turn-at .result) (c .before .before .before .turn-at .ensures) _ _ _ (c .before .stand .given .1))
 
 store-requires : tie.Need-store-requires Inv-loop μ-loop
 store-requires c κs = (fill-token ((c .before .before .before .before .before .before .before .before .before .before .before .before .before .before .before) .pre .1) (c .before .before .before .before .before .before .before .before .before .before .loop .inv) (c .before .before .before .before .before .before .before .before .turn-at .result) (c .before .before .before .before .before .before .before .before .turn-at .ensures) _ _ _ (c .before .before .before .before .before .before .stand .given .1), fill-room ((c .before .before .before .before .before .before .before .before .before .before .before .before .before .before .before) .pre .1) (c .before .before .before .before .before .before .before .before .before .before .loop .inv) (c .before .before .before .before .before .before .before .before .turn-at .result) (c .before .before .before .before .before .before .before .before .turn-at .ensures) _ _ _ (c .before .before .before .before .before .before .stand .given .1))
 
+fields-into-requires : tie.Need-fields-into-requires Inv-loop μ-loop
+fields-into-requires c κs = at-on _ _ _ _ _ ((c .before .before .before .before .before .before .before .before .before .before .before .before .before .before .before .before .before .before .loop) .inv .stands) ((c .before .before .before .before .before .before .before .before .before .before .before .before .before .before .before .before .turn-at) .result) ((c .before .before .before .before .before .before .before .before .before .before .before .before .before .before .before .before .turn-at) .ensures) _ _ _ ((c .before .before .before .before .before .before .before .before .before .before .before .before .before .before .stand) .given .1) .then .within
+
 run-into-requires : tie.Need-run-into-requires Inv-loop μ-loop
-run-into-requires c κs = at-on _ _ _ _ _ (c .before .before .before .before .before .before .before .before .before .before .before .before .before .before .before .before .before .before .loop .inv .stands) (c .before .before .before .before .before .before .before .before .before .before .before .before .before .before .before .before .turn-at .result) (c .before .before .before .before .before .before .before .before .before .before .before .before .before .before .before .before .turn-at .ensures) _ _ _ (c .before .before .before .before .before .before .before .before .before .before .before .before .before .before .stand .given .1) .then .within
+run-into-requires c κs = fill-fields ((c .before .before .before .before .before .before .before .before .before .before .before .before .before .before .before .before .before .before .before .before .before .before .before .before .before .before) .pre .1) ((c .before .before .before .before .before .before .before .before .before .before .before .before .before .before .before .before .before .before .before .before .before .loop) .inv) ((c .before .before .before .before .before .before .before .before .before .before .before .before .before .before .before .before .before .before .before .turn-at) .result) ((c .before .before .before .before .before .before .before .before .before .before .before .before .before .before .before .before .before .before .before .turn-at) .ensures) _ _ _ ((c .before .before .before .before .before .before .before .before .before .before .before .before .before .before .before .before .before .stand) .given .1) _ _ _ _ _ ((c .before .before .before .before .before .before .before .before .before .before .store) .ensures .0) ((c .before .before .before .before .before .before .before .before .before .before .store) .ensures .1 .0) ((c .before .before .before .before .before .before .before .before .before .before .store) .ensures .1 .1 .0) ((c .before .before .before .before .before .before .before .before .before .before .store) .ensures .1 .1 .1) _ ((c .before .before .fields-into) .ensures) .filled .stands .within
 
 loop-less : tie.Need-loop-less Inv-loop μ-loop
-loop-less c = fill-less ((c .before .before .before .before .before .before .before .before .before .before .before .before .before .before .before .before .before .before .before .before .before .before .before .before .before) .pre .1) (c .before .before .before .before .before .before .before .before .before .before .before .before .before .before .before .before .before .before .before .before .loop .inv) (c .before .before .before .before .before .before .before .before .before .before .before .before .before .before .before .before .before .before .turn-at .result) (c .before .before .before .before .before .before .before .before .before .before .before .before .before .before .before .before .before .before .turn-at .ensures) _ _ _ (c .before .before .before .before .before .before .before .before .before .before .before .before .before .before .before .before .stand .given .1) _ _ _ _ _ (c .before .before .before .before .before .before .before .before .before .store .ensures .0) (c .before .before .before .before .before .before .before .before .before .store .ensures .1 .0) (c .before .before .before .before .before .before .before .before .before .store .ensures .1 .1 .0) (c .before .before .before .before .before .before .before .before .before .store .ensures .1 .1 .1) _ (c .before .run-into .ensures)
+loop-less c = fill-less ((c .before .before .before .before .before .before .before .before .before .before .before .before .before .before .before .before .before .before .before .before .before .before .before .before .before .before .before .before) .pre .1) ((c .before .before .before .before .before .before .before .before .before .before .before .before .before .before .before .before .before .before .before .before .before .before .before .loop) .inv) ((c .before .before .before .before .before .before .before .before .before .before .before .before .before .before .before .before .before .before .before .before .before .turn-at) .result) ((c .before .before .before .before .before .before .before .before .before .before .before .before .before .before .before .before .before .before .before .before .before .turn-at) .ensures) _ _ _ ((c .before .before .before .before .before .before .before .before .before .before .before .before .before .before .before .before .before .before .before .stand) .given .1) _ _ _ _ _ ((c .before .before .before .before .before .before .before .before .before .before .before .before .store) .ensures .0) ((c .before .before .before .before .before .before .before .before .before .before .before .before .store) .ensures .1 .0) ((c .before .before .before .before .before .before .before .before .before .before .before .before .store) .ensures .1 .1 .0) ((c .before .before .before .before .before .before .before .before .before .before .before .before .store) .ensures .1 .1 .1) _ ((c .before .before .before .before .fields-into) .ensures) _ _ ((c .before .run-into) .ensures)
 
 loop-again : tie.Need-loop-again Inv-loop μ-loop
-loop-again c = fill-past ((c .before .before .before .before .before .before .before .before .before .before .before .before .before .before .before .before .before .before .before .before .before .before .before .before .before) .pre .1) (c .before .before .before .before .before .before .before .before .before .before .before .before .before .before .before .before .before .before .before .before .loop .inv) (c .before .before .before .before .before .before .before .before .before .before .before .before .before .before .before .before .before .before .turn-at .result) (c .before .before .before .before .before .before .before .before .before .before .before .before .before .before .before .before .before .before .turn-at .ensures) _ _ _ (c .before .before .before .before .before .before .before .before .before .before .before .before .before .before .before .before .stand .given .1) _ _ _ _ _ (c .before .before .before .before .before .before .before .before .before .store .ensures .0) (c .before .before .before .before .before .before .before .before .before .store .ensures .1 .0) (c .before .before .before .before .before .before .before .before .before .store .ensures .1 .1 .0) (c .before .before .before .before .before .before .before .before .before .store .ensures .1 .1 .1) _ (c .before .run-into .ensures) .filled
+loop-again c = fill-past ((c .before .before .before .before .before .before .before .before .before .before .before .before .before .before .before .before .before .before .before .before .before .before .before .before .before .before .before .before) .pre .1) ((c .before .before .before .before .before .before .before .before .before .before .before .before .before .before .before .before .before .before .before .before .before .before .before .loop) .inv) ((c .before .before .before .before .before .before .before .before .before .before .before .before .before .before .before .before .before .before .before .before .before .turn-at) .result) ((c .before .before .before .before .before .before .before .before .before .before .before .before .before .before .before .before .before .before .before .before .before .turn-at) .ensures) _ _ _ ((c .before .before .before .before .before .before .before .before .before .before .before .before .before .before .before .before .before .before .before .stand) .given .1) _ _ _ _ _ ((c .before .before .before .before .before .before .before .before .before .before .before .before .store) .ensures .0) ((c .before .before .before .before .before .before .before .before .before .before .before .before .store) .ensures .1 .0) ((c .before .before .before .before .before .before .before .before .before .before .before .before .store) .ensures .1 .1 .0) ((c .before .before .before .before .before .before .before .before .before .before .before .before .store) .ensures .1 .1 .1) _ ((c .before .before .before .before .fields-into) .ensures) _ _ ((c .before .run-into) .ensures) .filled
 
 enum-told : tie.Need-enum-told Inv-loop μ-loop
 enum-told c = search needs
@@ -98,10 +101,11 @@ fill-spec =
     turn-at-requires
     enum-known-stand
     add-end
-    sub-store
-    part-store-start
-    part-store-end
+    sub-c
+    part-c-start
+    part-c-end
     store-requires
+    fields-into-requires
     run-into-requires
     loop-less
     loop-again

@@ -2,7 +2,7 @@
 use borrow.Author.Needs.{needs}
 use Prim.Native.Nat.{_-_}
 use lib.IntN.{pos}
-use Rattle.machine.specs.Rows.{rowWidth}
+use Rattle.kinds.specs.Kinds.{rowWidth}
 use Rattle.sheet.specs.Tables.{newRow}
 use Rattle.reader.proofs.Storing.{Pasting, pasting-start, pasting-length, pasting-at, pasting-step, pasting-end, cell-is, cell-most}
 use Rattle.reader.proofs.put_row.Statement.{statement}

@@ -10,28 +10,28 @@ enum-told : tie.Need-enum-told
 enum-told c = search needs
 
 mul-put-row : tie.Need-mul-put-row
-mul-put-row c = omega (arith, rw (c .before .enum-told .given .1) at (c .before .before .before .before .before .before .pre .1))
+mul-put-row c = omega (arith, rw ((c .before .before .enum-told) .given .1) at ((c .before .before .before .before .before .before .before) .pre .1))
 
 put-row-requires : tie.Need-put-row-requires
-put-row-requires c κs = (rw (c .before .enum-told .given .1) at (c .before .before .before .before .before .before .pre .1), c .before .before .before .before .before .before .pre .0 .0)
+put-row-requires c κs = (rw ((c .before .before .enum-told) .given .1) at ((c .before .before .before .before .before .before .before) .pre .1), (c .before .before .before .before .before .before .before) .pre .0 .0)
 
 enum-known-st : tie.Need-enum-known-st
 enum-known-st c = search needs
 
 sub-put-field : tie.Need-sub-put-field
-sub-put-field c = omega (arith, rw (c .before .before .st .given .1) at (c .before .before .before .before .before .before .before .pre .1))
+sub-put-field c = omega (arith, rw ((c .before .before .before .st) .given .1) at ((c .before .before .before .before .before .before .before .before) .pre .1))
 
 mul-put-field : tie.Need-mul-put-field
-mul-put-field c = omega (arith, rw (c .before .before .st .given .1) at (c .before .before .before .before .before .before .before .pre .1))
+mul-put-field c = omega (arith, rw ((c .before .before .before .st) .given .1) at ((c .before .before .before .before .before .before .before .before) .pre .1))
 
 add-put-field : tie.Need-add-put-field
-add-put-field c = omega (arith, rw (c .before .before .st .given .1) at (c .before .before .before .before .before .before .before .pre .1))
+add-put-field c = omega (arith, rw ((c .before .before .before .st) .given .1) at ((c .before .before .before .before .before .before .before .before) .pre .1))
 
 put-field-requires : tie.Need-put-field-requires
-put-field-requires c κs = omega (arith, rw (c .before .before .st .given .1) at (c .before .before .before .before .before .before .before .pre .1), c .before .before .before .before .before .before .before .pre .0 .0)
+put-field-requires c κs = omega (arith, rw ((c .before .before .before .st) .given .1) at ((c .before .before .before .before .before .before .before .before) .pre .1), (c .before .before .before .before .before .before .before .before) .pre .0 .0)
 
 put-word-requires : tie.Need-put-word-requires
-put-word-requires c κs = (rw (c .before .before .before .before .before .before .st .given .1, eq-eqb _ _ (c .before .if1 .taken)) at (c .before .before .before .before .before .before .before .before .before .before .before .pre .1)) .3
+put-word-requires c κs = (rw ((c .before .before .before .before .before .before .before .st) .given .1, eq-eqb _ _ ((c .before .if1) .taken)) at ((c .before .before .before .before .before .before .before .before .before .before .before .before) .pre .1)) .3
 
 enum-told-2 : tie.Need-enum-told-2
 enum-told-2 c = search needs
@@ -64,7 +64,7 @@ same-length : tie.Need-same-length
 same-length c = search needs
 
 returns : tie.Need-returns
-returns c = rw (c .before .before .before .enum-told .given .1) (c .before .put-row .ensures, (refl, (refl, refl)))
+returns c = rw ((c .before .before .before .before .enum-told) .given .1) ((c .before .put-row) .ensures, (refl, (refl, refl)))
 
 same-length-2 : tie.Need-same-length-2
 same-length-2 c = search needs
@@ -73,13 +73,13 @@ same-length-3 : tie.Need-same-length-3
 same-length-3 c = search needs
 
 returns-2 : tie.Need-returns-2
-returns-2 c = rw (c .before .before .before .before .before .before .before .before .before .st .given .1, eq-eqb _ _ (c .before .before .before .before .if1 .taken)) (c .before .before .before .before .before .before .put-field .ensures, (c .before .before .put-word .ensures, (refl, refl)))
+returns-2 c = rw ((c .before .before .before .before .before .before .before .before .before .before .st) .given .1, eq-eqb _ _ ((c .before .before .before .before .if1) .taken)) ((c .before .before .before .before .before .before .put-field) .ensures, ((c .before .before .put-word) .ensures, (refl, refl)))
 
 same-length-4 : tie.Need-same-length-4
 same-length-4 c = search needs
 
 returns-3 : tie.Need-returns-3
-returns-3 c = rw (c .before .before .before .before .before .st .given .1, ne-eqb _ _ (c .if1 .left)) (c .before .before .put-field .ensures, (refl, (refl, refl)))
+returns-3 c = rw ((c .before .before .before .before .before .before .st) .given .1, ne-eqb _ _ ((c .if1) .left)) ((c .before .before .put-field) .ensures, (refl, (refl, refl)))
 
 same-length-5 : tie.Need-same-length-5
 same-length-5 c = search needs
