@@ -25,7 +25,7 @@ use Rattle.plane.proofs.RingLaws.{held-is}
 use Rattle.plane.proofs.AreaLaws.{area-size}
 use Rattle.plane.proofs.MovedLaws.{area-moved}
 use Rattle.plane.proofs.OwnLaws.{area-own}
-use Rattle.machine.specs.Rows.{verticesPlace}
+use Rattle.kinds.specs.Kinds.{verticesPlace}
 use Rattle.sheet.specs.Tables.{Tables}
 use Rattle.made.specs.Made.{countAt, kindOf, islandsOf, sum, fourAtLeast, isMade}
 use Rattle.made.proofs.RowWays.{made-held, made-counted}

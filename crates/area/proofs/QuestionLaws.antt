@@ -10,7 +10,7 @@ use lib.IntN.{ℤ}
 use borrow.Author.Tests.{leb-true, le-leb, lt-leb, lt-ltb, eq-eqb, ne-eqb}
 use Rattle.laws.specs.Lists.{all}
 use Rattle.laws.proofs.ListLaws.{all-each}
-use Rattle.machine.specs.Rows.{islandsPlace, verticesPlace}
+use Rattle.kinds.specs.Kinds.{islandsPlace, verticesPlace}
 use Rattle.sheet.specs.Tables.{Tables}
 use Rattle.plane.specs.declared.Area.{Area}
 use Rattle.plane.specs.declared.Area.the-variants.{Doubled, Wide, Missing}

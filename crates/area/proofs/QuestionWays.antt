@@ -15,8 +15,8 @@ use Rattle.laws.specs.Lists.{tail}
 use Rattle.laws.proofs.Choice.{and-left}
 use Rattle.laws.proofs.ListLaws.{rest-is, part-count}
 use Rattle.laws.proofs.Bits.{back}
-use Rattle.machine.specs.Rows.{islandsPlace, verticesPlace}
-use Rattle.header.specs.declared.Header.{Header}
+use Rattle.kinds.specs.Kinds.{islandsPlace, verticesPlace}
+use Rattle.heading.specs.declared.Header.{Header}
 use Rattle.sheet.specs.Tables.{Tables}
 use Rattle.plane.specs.declared.Area.{Area}
 use Rattle.plane.specs.declared.Area.the-variants.{Doubled, Missing}

@@ -7,10 +7,9 @@ use Rattle.laws.specs.Lists.{all, allAt, below, holds, same}
 use Rattle.laws.specs.Text.{text}
 use Rattle.number.specs.Number.{isReal}
 use Rattle.token.specs.Lex.{mayLieOutside}
-use Rattle.machine.specs.Rows.{schedule}
-use Rattle.machine.specs.Machine.{wantAt}
-use Rattle.header.specs.declared.Header.{Header}
-use Rattle.header.specs.Header.{nameByte, isName, isHeader}
+use Rattle.kinds.specs.Kinds.{schedule, wantAt}
+use Rattle.heading.specs.declared.Header.{Header}
+use Rattle.heading.specs.Heading.{nameByte, isName, isHeader}
 use Rattle.sheet.specs.Tables.{Tables}
 use Rattle.plane.specs.Rings.{held, near, near-first, all-near, narrow}
 use Rattle.plane.specs.Areas.{east, north, edge-term, signed-sum, areaOf}

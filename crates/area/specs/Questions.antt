@@ -5,8 +5,8 @@ use mathlib.Core.Bool.{cond}
 use lib.Dec.{eqb}
 use lib.IntN.{ℤ}
 use Rattle.record.specs.Refusals.{tooWide, noSuch}
-use Rattle.machine.specs.Rows.{verticesPlace}
-use Rattle.header.specs.declared.Header.{Header}
+use Rattle.kinds.specs.Kinds.{verticesPlace}
+use Rattle.heading.specs.declared.Header.{Header}
 use Rattle.sheet.specs.Tables.{Tables}
 use Rattle.plane.specs.declared.Area.{Area}
 use Rattle.plane.specs.declared.Area.the-variants.{Doubled, Wide, Missing}

@@ -9,7 +9,7 @@ ghost use Rattle.made.specs.Made.{tablesOf, sum};
 ghost use Rattle.row.specs.Walk.{wordMost, cellIn};
 ghost use Rattle.area.specs.BorderRings.{totalFrom, areasOf, netOf, ringOf};
 ghost use Rattle.area.specs.Questions.{ringOfRow, ringAt, netAreaOf, answerOf, ringAreaAt, netAreaAt};
-use header::Header;
+use heading::Header;
 use made::Verdict;
 use made::count_at;
 use made::outer_of;

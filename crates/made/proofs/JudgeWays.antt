@@ -10,9 +10,9 @@ use borrow.Author.Tests.{not-true, not-false}
 use Rattle.laws.specs.Lists.{tail}
 use Rattle.laws.proofs.ListLaws.{rest-is}
 use Rattle.record.specs.declared.Mode.{Mode}
-use Rattle.machine.specs.Rows.{rowWidth, codePlace, lettersPlace, islandsPlace, verticesPlace}
-use Rattle.header.specs.declared.Header.{Header}
-use Rattle.header.specs.Header.{isHeader}
+use Rattle.kinds.specs.Kinds.{rowWidth, codePlace, lettersPlace, islandsPlace, verticesPlace}
+use Rattle.heading.specs.declared.Header.{Header}
+use Rattle.heading.specs.Heading.{isHeader}
 use Rattle.sheet.specs.Tables.{Tables}
 use Rattle.made.specs.declared.Verdict.{Verdict}
 use Rattle.made.specs.declared.Verdict.the-variants.{Fine, BadHeader, Faulty, Unlisted}

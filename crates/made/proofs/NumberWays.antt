@@ -1,30 +1,29 @@
 -- The ways through the functions that judge a row's own numbers, each with what the code has in hand there. Assumes nothing.
 use mathlib.Core.Path.{_≡_, refl, sym, _∙_}
-use mathlib.Core.List.{List, []}
+use mathlib.Core.List.{List}
 use mathlib.Core.Bool.{Bool, true, false, not, _&&_}
 use Prim.Native.Nat.{ℕ, _-_, _^_, _≤_, _<_}
 use native.Mathlib.Omega.{arith}
 use lib.ListN.{length, getD, List·getD-eq-default}
-use lib.Dec.{T}
+use lib.Dec.{T, leb}
 use lib.IntN.{ℤ, pos, negsuc, natAbs}
 use lib.Signed.{mag, ltZ, leZ, nonNeg}
 use mir.Syntax.{w64}
 use mir.Val.{Fits, SFits, toZ, ofZ}
 use mir.Facts.{toZ-ofZ}
-use borrow.Author.Tests.{eq-eqb, ne-eqb, le-leb, lt-leb, ltb-true, not-true, not-false}
-use Rattle.laws.specs.Lists.{below, holds}
+use borrow.Author.Tests.{eq-eqb, ne-eqb, le-leb, lt-leb, leb-true, ltb-true, not-true, not-false}
+use Rattle.laws.specs.Lists.{below}
 use Rattle.laws.specs.Whole.{eqZ}
-use Rattle.laws.proofs.Choice.{true≢false}
+use Rattle.laws.proofs.Choice.{true≢false, and-left, and-right}
 use Rattle.laws.proofs.Parts.{le-not-lt}
 use Rattle.laws.proofs.Bits.{back, bits-yes, bits-no}
-use Rattle.laws.proofs.ListLaws.{below-on}
+use Rattle.laws.proofs.ListLaws.{below-at, below-on}
 use Rattle.number.specs.Number.{isReal}
 use Rattle.token.specs.declared.Want.{Want}
 use Rattle.token.specs.declared.Want.the-variants.{Key, Text, Int, Real}
 use Rattle.token.specs.Lex.{mayLieOutside}
-use Rattle.machine.specs.Rows.{rowWidth, schedule}
-use Rattle.machine.specs.Machine.{wantAt}
-use Rattle.made.specs.Made.{natOf, isBetween, inRange, hasField, isOutside, isCell, cellTest, areNumbers}
+use Rattle.kinds.specs.Kinds.{rowWidth, wantAt}
+use Rattle.made.specs.Made.{natOf, isBetween, inRange, hasField, isOutside, isCell, cellOf, cellTest, areNumbers}
 
 -- a signed number in a local
 abbrev bits : ℤ → ℤ
@@ -142,49 +141,71 @@ module _ (kind p : ℕ) (z : ℤ) (f : SFits w64 z) where
     unfolding isCell
     cell-outside r e q = rw (ne-eqb p 0 n, eq-eqb p 1 e) (rw (toZ-ofZ f) at q)
 
-    module _ (m : p ≡ 1 → ⊥) (b : Bool) (h : b ≡ holds (getD schedule kind []) p) where
+    module _ (m : p ≡ 1 → ⊥) (b : Bool) (h : b ≡ hasField kind p) where
       pub cell-field : b ≡ true → (w : Want) → w ≡ wantAt p → (r : Bool) → r ≡ inRange w (bits z) → r ≡ isCell kind p z
-      unfolding isCell hasField
+      unfolding isCell
       cell-field t w v r q = rw (ne-eqb p 0 n, ne-eqb p 1 m, ← h, t, ← v) (rw (toZ-ofZ f) at q)
 
       module _ (t : b ≡ false) where
         pub cell-0 : ofZ w64 z ≡ 0 → true ≡ isCell kind p z
-        unfolding isCell hasField
+        unfolding isCell
         cell-0 e = rw (ne-eqb p 0 n, ne-eqb p 1 m, ← h, t, is-0 z f e)
 
         pub cell-other : (ofZ w64 z ≡ 0 → ⊥) → false ≡ isCell kind p z
-        unfolding isCell hasField
+        unfolding isCell
         cell-other e = rw (ne-eqb p 0 n, ne-eqb p 1 m, ← h, t, bits-no z (pos 0) e)
 
 pub ruleset cell-ways = (cell-kind, cell-outside, cell-field, cell-0, cell-other)
 
+-- ---- the numbers of a row of a kind
+
+module _ (kind p : ℕ) (rows : List ℤ) (q : below rowWidth (cellOf kind rows) ≡ below p (cellOf kind rows)) where
+  pub cells-over : p ≤ 0 → true ≡ below rowWidth (cellOf kind rows)
+  unfolding below
+  cells-over h =
+      let z : p ≡ 0 = omega arith in
+      sym (q ∙ rw z)
+
+  module _ (h : 0 < p) (m : mag (getD rows (p - 1) (pos 0)) < 2 ^ 63) (r : Bool) (e : r ≡ isCell kind (p - 1) (bits (getD rows (p - 1) (pos 0)))) where
+    here : r ≡ cellOf kind rows (p - 1)
+    here = rw (back (getD rows (p - 1) (pos 0)) m) at e
+
+    pub cells-step : not r ≡ false → below rowWidth (cellOf kind rows) ≡ below (p - 1) (cellOf kind rows)
+    cells-step t = q ∙ below-on p (cellOf kind rows) h ∙ rw (← here, not-false r t)
+
+    pub cells-stop : not r ≡ true → false ≡ below rowWidth (cellOf kind rows)
+    cells-stop t = sym (q ∙ below-on p (cellOf kind rows) h ∙ rw (← here, not-true r t))
+
+pub ruleset cells-ways = (cells-over, cells-step, cells-stop)
+
 -- ---- the first row of some rows
+
+-- a number that is not 1 to 5
+no-kind : (z : ℤ) (k : ℕ) → k ≡ natOf z → (k ≡ 1 → ⊥) → (k ≡ 2 → ⊥) → (k ≡ 3 → ⊥) → (k ≡ 4 → ⊥) → (k ≡ 5 → ⊥) → isBetween 1 5 z ≡ true → false ≡ true
+no-kind (pos n) k e a b c d f g =
+    let l = leb-true 1 n (and-left (leb 1 n) (leb n 5) g) in
+    let m = leb-true n 5 (and-right (leb 1 n) (leb n 5) g) in
+    absurd (omega arith)
+no-kind (negsuc n) k e a b c d f g = g
 
 module _ (rows : List ℤ) where
   pub numbers-short : length rows < rowWidth → false ≡ areNumbers rows
   unfolding areNumbers
   numbers-short h = rw (lt-leb rowWidth (length rows) h)
 
-  module _ (p : ℕ) (q : below rowWidth (cellTest rows) ≡ below p (cellTest rows)) where
-    numbers-are : rowWidth ≤ length rows → areNumbers rows ≡ below p (cellTest rows)
-    unfolding areNumbers
-    numbers-are l = rw (le-leb rowWidth (length rows) l) q
+  module _ (l : rowWidth ≤ length rows) (k : ℕ) (e : k ≡ natOf (getD rows 0 (pos 0))) where
+    pub numbers-kind : (kind : ℕ) → k ≡ kind → (r : Bool) → r ≡ below rowWidth (cellOf kind rows) → r ≡ areNumbers rows
+    unfolding areNumbers below
+    numbers-kind kind f r q = rw (le-leb rowWidth (length rows) l, ← e, f) q
 
-    pub numbers-over : rowWidth ≤ length rows → p ≤ 0 → true ≡ areNumbers rows
-    unfolding below
-    numbers-over l h =
-        let z : p ≡ 0 = omega arith in
-        sym (numbers-are l ∙ rw z)
+    pub numbers-no-kind : (k ≡ 1 → ⊥) → (k ≡ 2 → ⊥) → (k ≡ 3 → ⊥) → (k ≡ 4 → ⊥) → (k ≡ 5 → ⊥) → false ≡ areNumbers rows
+    unfolding areNumbers isCell
+    numbers-no-kind a b c d f = go (areNumbers rows) refl
+      where
+        go : (t : Bool) → areNumbers rows ≡ t → false ≡ t
+        go true q =
+            no-kind (getD rows 0 (pos 0)) k e a b c d f
+            (below-at rowWidth (cellTest rows) 0 (and-right (leb rowWidth (length rows)) (below rowWidth (cellTest rows)) q) (omega arith))
+        go false q = refl
 
-    module _ (h : 0 < p) (kind : ℕ) (k : kind ≡ natOf (getD rows 0 (pos 0))) (m : mag (getD rows (p - 1) (pos 0)) < 2 ^ 63)
-        (r : Bool) (e : r ≡ isCell kind (p - 1) (bits (getD rows (p - 1) (pos 0)))) where
-      here : r ≡ cellTest rows (p - 1)
-      here = rw (k, back (getD rows (p - 1) (pos 0)) m) at e
-
-      pub numbers-step : not r ≡ false → below rowWidth (cellTest rows) ≡ below (p - 1) (cellTest rows)
-      numbers-step t = q ∙ below-on p (cellTest rows) h ∙ rw (← here, not-false r t)
-
-      pub numbers-stop : rowWidth ≤ length rows → not r ≡ true → false ≡ areNumbers rows
-      numbers-stop l t = sym (numbers-are l ∙ below-on p (cellTest rows) h ∙ rw (← here, not-true r t))
-
-pub ruleset number-ways = (numbers-short, numbers-over, numbers-step, numbers-stop)
+pub ruleset number-ways = (numbers-short, numbers-kind, numbers-no-kind)

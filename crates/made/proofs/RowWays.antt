@@ -18,8 +18,7 @@ use Rattle.laws.proofs.ListLaws.{below-at, part-count}
 use Rattle.record.specs.declared.Mode.{Mode}
 use Rattle.record.specs.declared.Mode.the-variants.{Loose, Exact}
 use Rattle.token.specs.declared.Want.the-variants.{Int}
-use Rattle.machine.specs.Rows.{rowWidth, codePlace, lettersPlace, islandsPlace, verticesPlace, schedule, isListed}
-use Rattle.machine.specs.Machine.{wantAt}
+use Rattle.kinds.specs.Kinds.{rowWidth, codePlace, lettersPlace, islandsPlace, verticesPlace, schedule, isListed, wantAt}
 use Rattle.sheet.specs.Tables.{Tables}
 use Rattle.made.specs.declared.Turn.the-variants.{Wrong, Strange, On}
 use Rattle.made.specs.Made.{tablesOf, natOf, countAt, kindOf, islandsOf, inRange, hasField, isCell, cellTest, areNumbers, areLetters, sum, fourAtLeast, areCounts, areReals, arePoints, isMade, isCoded}

@@ -1,8 +1,8 @@
 -- The ways through the functions that judge a row's letters, counts and points, each with what the code has in hand there. Assumes nothing.
-use mathlib.Core.Path.{_≡_, refl, sym, _∙_}
-use mathlib.Core.List.{List, []}
+use mathlib.Core.Path.{_≡_, refl, sym, ap, _∙_}
+use mathlib.Core.List.{List, [], _∷_}
 use mathlib.Core.Bool.{Bool, true, false, not, _&&_}
-use Prim.Native.Nat.{ℕ, _+_, _-_, _*_, _/_, _^_, _≤_, _<_}
+use Prim.Native.Nat.{ℕ, zero, suc, _+_, _-_, _*_, _/_, _%_, _^_, _≤_, _<_}
 use native.Mathlib.Omega.{arith}
 use lib.ListN.{length, getD, take, drop, length-drop}
 use lib.Seq.{getD-take, drop-drop}
@@ -10,16 +10,17 @@ use lib.Dec.{leb}
 use lib.IntN.{ℤ, pos}
 use lib.Signed.{mag}
 use mir.Syntax.{w64}
-use mir.Val.{Fits, toZ, ofZ}
+use mir.Val.{Fits, SFits, toZ, ofZ}
+use mir.Facts.{toZ-ofZ}
 use borrow.Author.Tests.{eq-eqb, ne-eqb, le-leb, lt-leb, not-true, not-false}
-use Rattle.laws.specs.Lists.{all, holds, tail}
+use Rattle.laws.specs.Lists.{all, tail}
 use Rattle.laws.specs.Whole.{eqZ}
 use Rattle.laws.proofs.ListLaws.{left, left-none, part-count, rest-is, all-step, all-stop, all-over}
 use Rattle.laws.proofs.Bits.{back, eqZ-yes, bits-yes, bits-no}
 use Rattle.record.specs.Record.{plain}
 use Rattle.number.specs.Number.{isReal}
-use Rattle.machine.specs.Rows.{verticesPlace, schedule}
-use Rattle.made.specs.Made.{hasField, areLetters, sum, fourAtLeast, areCounts, areReals, isClosed, areClosed, ringSizes, arePoints}
+use Rattle.made.specs.Made.{areLetters, sum, fourAtLeast, areCounts, areReals, isClosed, areClosed, ringSizes, arePoints}
+use Rattle.made.proofs.FieldWays.{vertices-line}
 
 -- ---- letters
 
@@ -138,43 +139,105 @@ module _ (kind i v : ℕ) (s : List ℕ) where
   pub counts-border : kind ≡ 1 → (r : Bool) → r ≡ areCounts 1 i v s → r ≡ areCounts kind i v s
   counts-border e r q = rw e q
 
-  module _ (n : kind ≡ 1 → ⊥) (b : Bool) (h : b ≡ holds (getD schedule kind []) verticesPlace) where
-    pub counts-none : b ≡ false → true ≡ areCounts kind i v s
-    unfolding areCounts hasField
-    counts-none t = rw (ne-eqb kind 1 n, ← h, t)
+  module _ (n : kind ≡ 1 → ⊥) where
+    pub counts-none : (kind ≡ 5 → ⊥) → true ≡ areCounts kind i v s
+    unfolding areCounts
+    counts-none m = rw (ne-eqb kind 1 n, vertices-line kind n, ne-eqb kind 5 m)
 
-    module _ (t : b ≡ true) where
+    module _ (e : kind ≡ 5) where
       pub counts-few : v < 2 → false ≡ areCounts kind i v s
-      unfolding areCounts hasField
-      counts-few k = rw (ne-eqb kind 1 n, ← h, t, lt-leb 2 v k)
+      unfolding areCounts
+      counts-few k = rw (ne-eqb kind 1 n, vertices-line kind n, eq-eqb kind 5 e, lt-leb 2 v k)
 
       pub counts-line : 2 ≤ v → true ≡ areCounts kind i v s
-      unfolding areCounts hasField
-      counts-line k = rw (ne-eqb kind 1 n, ← h, t, le-leb 2 v k)
+      unfolding areCounts
+      counts-line k = rw (ne-eqb kind 1 n, vertices-line kind n, eq-eqb kind 5 e, le-leb 2 v k)
 
 pub ruleset count-ways = (counts-border, counts-none, counts-few, counts-line)
 
 -- ---- points within the real range
 
-module _ (s : List ℤ) (i : ℕ) (q : areReals s ≡ areReals (drop i s)) where
-  pub reals-over : length s ≤ i → true ≡ areReals s
+module _ (x y : ℤ) (f : SFits w64 x) {r : Bool} (e : r ≡ isReal (toZ w64 (ofZ w64 x))) where
+  first-is : isReal x ≡ r
+  first-is = sym (rw (toZ-ofZ f) at e)
+
+  pub vertex-not : not r ≡ true → false ≡ (isReal x && isReal y)
+  vertex-not t = rw (first-is ∙ not-true r t)
+
+  pub vertex-is : not r ≡ false → SFits w64 y → {u : Bool} → u ≡ isReal (toZ w64 (ofZ w64 y)) → u ≡ (isReal x && isReal y)
+  vertex-is t g q = rw (first-is ∙ not-false r t) (rw (toZ-ofZ g) at q)
+
+and-nest : (a b c : Bool) → (a && (b && c)) ≡ ((a && b) && c)
+and-nest true b c = refl
+and-nest false b c = refl
+
+and-true : (a : Bool) → (a && true) ≡ a
+and-true true = refl
+and-true false = refl
+
+reals-split : (n : ℕ) (s : List ℤ) → areReals s ≡ (areReals (take n s) && areReals (drop n s))
+unfolding areReals
+reals-split zero s = refl
+reals-split (suc n) [] = refl
+reals-split (suc n) (z ∷ s) = ap (λ (b : Bool). isReal z && b) (reals-split n s) ∙ and-nest (isReal z) (areReals (take n s)) (areReals (drop n s))
+
+reals-two : (s : List ℤ) → 2 ≤ length s → areReals (take 2 s) ≡ (isReal (getD s 0 (pos 0)) && isReal (getD s 1 (pos 0)))
+unfolding areReals
+reals-two [] h = absurd (omega arith)
+reals-two (x ∷ []) h = absurd (omega arith)
+reals-two (x ∷ y ∷ s) h = ap (λ (b : Bool). isReal x && b) (and-true (isReal y))
+
+-- the first vertex, where v is odd
+module _ (v : ℕ) (s : List ℤ) where
+  pub first-none : v % 2 ≡ 0 → true ≡ areReals (take (2 * (v % 2)) s)
   unfolding areReals
-  reals-over h = sym (q ∙ rw (left-none s i h))
+  first-none e = rw e
 
-  module _ (h : i < length s) (m : mag (getD s i (pos 0)) < 2 ^ 63) (r : Bool) (e : r ≡ isReal (toZ w64 (ofZ w64 (getD s i (pos 0))))) where
-    reals-on : areReals s ≡ (r && areReals (drop (i + 1) s))
+  pub first-vertex : (v % 2 ≡ 0 → ⊥) → length s ≡ 2 * v → mag (getD s 0 (pos 0)) < 2 ^ 63 → mag (getD s 1 (pos 0)) < 2 ^ 63
+      → {r : Bool} → r ≡ (isReal (toZ w64 (ofZ w64 (getD s 0 (pos 0)))) && isReal (toZ w64 (ofZ w64 (getD s 1 (pos 0))))) → r ≡ areReals (take (2 * (v % 2)) s)
+  first-vertex n l m k e =
+      let z : 2 * (v % 2) ≡ 2 = omega arith in
+      (rw (back (getD s 0 (pos 0)) m, back (getD s 1 (pos 0)) k) at e) ∙ sym (ap (λ (i : ℕ). areReals (take i s)) z ∙ reals-two s (omega arith))
+
+-- k of v vertices are passed, and an even number is left
+module _ (v : ℕ) (s : List ℤ) (l : length s ≡ 2 * v) where
+  pub reals-start : {r : Bool} → r ≡ areReals (take (2 * (v % 2)) s) → not r ≡ false → areReals s ≡ areReals (drop (2 * (v % 2)) s)
+  reals-start {r} e t = reals-split (2 * (v % 2)) s ∙ rw (sym e ∙ not-false r t)
+
+  pub reals-not : {r : Bool} → r ≡ areReals (take (2 * (v % 2)) s) → not r ≡ true → false ≡ areReals s
+  reals-not {r} e t = sym (reals-split (2 * (v % 2)) s ∙ rw (sym e ∙ not-true r t))
+
+  module _ (k : ℕ) (q : areReals s ≡ areReals (drop (2 * k) s)) where
+    pub reals-over : v ≤ k → true ≡ areReals s
     unfolding areReals
-    reals-on =
-        let f : r ≡ isReal (getD s i (pos 0)) = rw (back (getD s i (pos 0)) m) at e in
-        q ∙ rw (left s i (pos 0) h, f)
+    reals-over h = sym (q ∙ rw (left-none s (2 * k) (omega arith)))
 
-    pub reals-step : not r ≡ false → areReals s ≡ areReals (drop (i + 1) s)
-    reals-step t = reals-on ∙ rw (not-false r t)
+-- two numbers from place i on
+module _ (s : List ℤ) (i : ℕ) (q : areReals s ≡ areReals (drop i s)) (h : i + 1 < length s) (m : mag (getD s i (pos 0)) < 2 ^ 63) (n : mag (getD s (i + 1) (pos 0)) < 2 ^ 63)
+    {r : Bool} (e : r ≡ (isReal (toZ w64 (ofZ w64 (getD s i (pos 0)))) && isReal (toZ w64 (ofZ w64 (getD s (i + 1) (pos 0)))))) where
+  two-on : areReals s ≡ (r && areReals (drop (i + 1 + 1) s))
+  unfolding areReals
+  two-on =
+      let f : r ≡ (isReal (getD s i (pos 0)) && isReal (getD s (i + 1) (pos 0))) = rw (back (getD s i (pos 0)) m, back (getD s (i + 1) (pos 0)) n) at e in
+      q ∙ rw (left s i (pos 0) (omega arith), left s (i + 1) (pos 0) h, f) (and-nest (isReal (getD s i (pos 0))) (isReal (getD s (i + 1) (pos 0))) (areReals (drop (i + 1 + 1) s)))
 
-    pub reals-stop : not r ≡ true → false ≡ areReals s
-    reals-stop t = sym (reals-on ∙ rw (not-true r t))
+  two-stop : not r ≡ true → false ≡ areReals s
+  two-stop t = sym (two-on ∙ rw (not-true r t))
 
-pub ruleset real-ways = (reals-over, reals-step, reals-stop)
+  two-step : not r ≡ false → (o : ℕ) → o ≡ i + 2 → areReals s ≡ areReals (drop o s)
+  two-step t o p =
+      let z : i + 1 + 1 ≡ o = omega arith in
+      let f : areReals s ≡ areReals (drop (i + 1 + 1) s) = two-on ∙ rw (not-false r t) in
+      rw z at f
+
+-- as the code names the two places
+module _ (s : List ℤ) (i j : ℕ) (p : j ≡ i + 1) (q : areReals s ≡ areReals (drop i s)) (h : j < length s) (m : mag (getD s i (pos 0)) < 2 ^ 63) (n : mag (getD s j (pos 0)) < 2 ^ 63)
+    {r : Bool} (e : r ≡ (isReal (toZ w64 (ofZ w64 (getD s i (pos 0)))) && isReal (toZ w64 (ofZ w64 (getD s j (pos 0)))))) where
+  pub pair-stop : not r ≡ true → false ≡ areReals s
+  pair-stop = two-stop s i q (rw p at h) m (rw p at n) (rw p at e)
+
+  pub pair-step : not r ≡ false → (o : ℕ) → o ≡ i + 2 → areReals s ≡ areReals (drop o s)
+  pair-step = two-step s i q (rw p at h) m (rw p at n) (rw p at e)
 
 -- ---- a ring
 

@@ -9,10 +9,9 @@ use Rattle.record.specs.declared.Mode.{Mode}
 use Rattle.record.specs.declared.Mode.the-variants.{Loose, Exact}
 use Rattle.number.specs.Number.{isReal}
 use Rattle.token.specs.Lex.{mayLieOutside}
-use Rattle.machine.specs.Rows.{schedule, codes, isListed}
-use Rattle.machine.specs.Machine.{wantAt}
-use Rattle.header.specs.declared.Header.{Header}
-use Rattle.header.specs.Header.{nameByte, isName, isHeader}
+use Rattle.kinds.specs.Kinds.{schedule, codes, isListed, wantAt}
+use Rattle.heading.specs.declared.Header.{Header}
+use Rattle.heading.specs.Heading.{nameByte, isName, isHeader}
 use Rattle.made.specs.declared.Verdict.{Verdict}
 use Rattle.made.specs.declared.Verdict.the-variants.{Fine, BadHeader, Faulty, Unlisted}
 use Rattle.made.specs.Made.{tablesOf, inRange, hasField, isOutside, isCell, areNumbers, areLetters, sum, areCounts, areReals, isClosed, areClosed, ringSizes, arePoints, isMade, isCoded, judgeRows, judgeOf}

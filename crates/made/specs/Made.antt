@@ -17,11 +17,11 @@ use Rattle.number.specs.Number.{isReal}
 use Rattle.token.specs.declared.Want.{Want}
 use Rattle.token.specs.declared.Want.the-variants.{Key, Text, Int, Real}
 use Rattle.token.specs.Lex.{mayLieOutside}
-use Rattle.machine.specs.Rows.{rowWidth, codePlace, lettersPlace, islandsPlace, verticesPlace, schedule, isListed}
-use Rattle.machine.specs.Machine.{wantAt}
-use Rattle.header.specs.declared.Header.{Header}
-use Rattle.header.specs.Header.{isHeader}
+use Rattle.kinds.specs.Kinds.{rowWidth, codePlace, lettersPlace, islandsPlace, verticesPlace, schedule, isListed, wantAt}
+use Rattle.heading.specs.declared.Header.{Header}
+use Rattle.heading.specs.Heading.{isHeader}
 use Rattle.sheet.specs.Tables.{Tables, empty, _then_}
+use Rattle.made.specs.declared.Fault.{Fault}
 use Rattle.made.specs.declared.Verdict.{Verdict}
 use Rattle.made.specs.declared.Verdict.the-variants.{Fine, BadHeader, Faulty, Unlisted}
 
@@ -91,8 +91,11 @@ unfoldable pub isCell : ℕ → ℕ → ℤ → Bool
 isCell kind p z =
     cond (eqb p 0) (isBetween 1 5 z) (cond (eqb p 1) (isOutside kind z) (cond (hasField kind p) (inRange (wantAt p) z) (eqZ z (pos 0))))
 
+abbrev pub cellOf : ℕ → List ℤ → ℕ → Bool
+cellOf kind rows p = isCell kind p (getD rows p (pos 0))
+
 abbrev pub cellTest : List ℤ → ℕ → Bool
-cellTest rows p = isCell (natOf (getD rows 0 (pos 0))) p (getD rows p (pos 0))
+cellTest rows p = cellOf (natOf (getD rows 0 (pos 0))) rows p
 
 -- the row is wholly held, and each of its numbers is right
 unfoldable pub areNumbers : List ℤ → Bool
@@ -174,6 +177,10 @@ rowOf Fine = 0
 rowOf BadHeader = 0
 rowOf (Faulty k) = k
 rowOf (Unlisted k) = k
+
+-- what is wrong with a sheet that was handed in: the row with 15 and 10
+abbrev pub faultOf : Verdict → Fault
+faultOf v = record { number = numberOf v; row = rowOf v }
 
 -- ---- the part of the tables that the rows use
 

@@ -2,7 +2,7 @@
 use Prim.Native.Nat.{_*_}
 use mathlib.Core.Bool.{cond}
 use Rattle.record.specs.declared.Mode.{Mode}
-use Rattle.machine.specs.Rows.{codePlace, lettersPlace, islandsPlace, verticesPlace}
+use Rattle.kinds.specs.Kinds.{codePlace, lettersPlace, islandsPlace, verticesPlace}
 use Rattle.sheet.specs.Tables.{Tables}
 use Rattle.made.specs.Made.{kindOf, countAt, isMade, isCoded}
 use Rattle.made.specs.declared.Turn.{Turn}

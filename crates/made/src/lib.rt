@@ -2,21 +2,27 @@
 // All of it is proved, and no public function has a `requires`: a sheet is a header, a count of rows and four tables, of any
 // contents and any lengths.
 ghost use mathlib.Core.Path.{_≡_};
-ghost use mathlib.Core.Bool.{_&&_};
-ghost use Prim.Native.Nat.{_-_, _*_, _≤_};
-ghost use lib.ListN.{length, getD};
+ghost use mathlib.Core.Bool.{_&&_, _||_};
+ghost use Prim.Native.Nat.{_-_, _*_, _%_, _≤_, _<_};
+ghost use lib.ListN.{length, getD, take};
 ghost use lib.IntN.{pos};
+ghost use lib.Dec.{eqb};
 ghost use lib.Signed.{leZ};
-ghost use Rattle.laws.specs.Lists.{all};
-ghost use Rattle.made.specs.Made.{tablesOf, natOf, inRange, isOutside, isCell, areNumbers, areLetters, sum, fourAtLeast, areCounts, areReals, isClosed, areClosed, ringSizes, arePoints, isMade, isCoded, judgeRows, judgeOf};
+ghost use Rattle.laws.specs.Lists.{all, below};
+ghost use Rattle.number.specs.Number.{isReal};
+ghost use Rattle.kinds.specs.Kinds.{rowWidth};
+ghost use Rattle.made.specs.Made.{tablesOf, natOf, inRange, hasField, isOutside, isCell, cellOf, areNumbers, areLetters, sum, fourAtLeast, areCounts, areReals, isClosed, areClosed, ringSizes, arePoints, isMade, isCoded, judgeRows, judgeOf, faultOf};
 ghost use Rattle.made.specs.Turn.{rowTurn};
-use header::Header;
-use header::is_header;
-use machine::has_field;
-use machine::is_listed;
-use machine::want_at;
+use heading::Header;
+use heading::is_header;
+use kinds::has_field;
+use kinds::is_listed;
+use kinds::want_at;
 use record::Mode;
 use record::is_plain;
+use record::refusal::CODE;
+use record::refusal::HEADER;
+use record::refusal::NOT_MADE;
 use spelling::is_real;
 use token::Want;
 use token::may_lie_outside;
@@ -27,6 +33,12 @@ pub enum Verdict {
     BadHeader,
     Faulty(usize),
     Unlisted(usize),
+}
+
+// A verdict in the paper's numbers: the refusal, or 0, and the row with 15 and 10.
+pub struct Fault {
+    pub number: usize,
+    pub row: usize,
 }
 
 // Where a row that is judged leads: to its refusal, or past its letters, island counts and numbers of points.
@@ -49,6 +61,9 @@ const LETTERS_PLACE: usize = 9;
 const ISLANDS_PLACE: usize = 10;
 
 const VERTICES_PLACE: usize = 11;
+
+// The kind of a line.
+const LINE: usize = 5;
 
 pub fn wide(n: u16) -> usize
     ensures { λ r. ⌜ r ≡ n ⌝ }
@@ -112,8 +127,38 @@ fn is_outside(kind: usize, z: i64) -> bool
     false
 }
 
+fn is_either(n: usize, a: usize, b: usize) -> bool
+    ensures { λ r. ⌜ r ≡ (eqb n a || eqb n b) ⌝ }
+{
+    if n == a {
+        return true;
+    }
+    if n == b { true } else { false }
+}
+
+// The rows of a kind have a field at a place. Where the kind is a number of the code, this is settled before it runs.
+fn has(kind: usize, place: usize) -> bool
+    requires { ⌜ (1 ≤ kind) × (kind ≤ 5) × (place < rowWidth) ⌝ }
+    ensures { λ r. ⌜ r ≡ hasField kind place ⌝ }
+{
+    match place {
+        2 => kind > 2,
+        3 => kind < 3,
+        4 => kind < 4,
+        5 => kind < 5,
+        6 => kind < 5,
+        7 => is_either(kind, 1, 4),
+        8 => is_either(kind, 1, 4),
+        9 => !is_either(kind, 3, 5),
+        10 => kind < 2,
+        11 => is_either(kind, 1, 5),
+        _ => false,
+    }
+}
+
 // A number that a row of a kind may have at a place.
 fn is_cell(kind: usize, place: usize, z: i64) -> bool
+    requires { ⌜ (1 ≤ kind) × (kind ≤ 5) × (place < rowWidth) ⌝ }
     ensures { λ r. ⌜ r ≡ isCell kind place z ⌝ }
 {
     if place == 0 {
@@ -122,20 +167,17 @@ fn is_cell(kind: usize, place: usize, z: i64) -> bool
     if place == 1 {
         return is_outside(kind, z);
     }
-    if has_field(kind, place) {
+    if has(kind, place) {
         return in_range(want_at(place), z);
     }
     if z == 0 { true } else { false }
 }
 
-// The first row is wholly held, and each of its numbers is right.
-fn are_numbers(rows: &[i64]) -> bool
-    ensures { λ r. ⌜ r ≡ areNumbers (now (rows .entry)) ⌝ }
+// Each number of the first row, of a kind, is right.
+fn are_cells(kind: usize, rows: &[i64]) -> bool
+    requires { ⌜ (1 ≤ kind) × (kind ≤ 5) × (rowWidth ≤ length (now rows)) ⌝ }
+    ensures { λ r. ⌜ r ≡ below rowWidth (cellOf kind (now (rows .entry))) ⌝ }
 {
-    if rows.len() < ROW_WIDTH {
-        return false;
-    }
-    let kind = count_at(rows, 0);
     let mut p = ROW_WIDTH;
     while p > 0 {
         p -= 1;
@@ -144,6 +186,23 @@ fn are_numbers(rows: &[i64]) -> bool
         }
     }
     true
+}
+
+// The first row is wholly held, and each of its numbers is right. The kind is told apart first, so that each kind has its own tests.
+fn are_numbers(rows: &[i64]) -> bool
+    ensures { λ r. ⌜ r ≡ areNumbers (now (rows .entry)) ⌝ }
+{
+    if rows.len() < ROW_WIDTH {
+        return false;
+    }
+    match count_at(rows, 0) {
+        1 => are_cells(1, rows),
+        2 => are_cells(2, rows),
+        3 => are_cells(3, rows),
+        4 => are_cells(4, rows),
+        5 => are_cells(5, rows),
+        _ => false,
+    }
 }
 
 // The first n letters are held: bytes 32 to 126, no blank at an end.
@@ -225,21 +284,49 @@ fn are_counts(kind: usize, i: usize, v: usize, s: &[u16]) -> bool
     if kind == 1 {
         return are_border_counts(i, v, s);
     }
-    if has_field(kind, VERTICES_PLACE) {
+    if kind == LINE {
         return if v < 2 { false } else { true };
     }
     true
 }
 
-fn are_reals(s: &[i64]) -> bool
+fn is_vertex(x: i64, y: i64) -> bool
+    ensures { λ r. ⌜ r ≡ (isReal x && isReal y) ⌝ }
+{
+    if !is_real(x) {
+        return false;
+    }
+    is_real(y)
+}
+
+// Where v is odd, the first vertex.
+fn is_first(v: usize, s: &[i64]) -> bool
+    requires { ⌜ length (now s) ≡ 2 * v ⌝ }
+    ensures { λ r. ⌜ r ≡ areReals (take (2 * (v % 2)) (now (s .entry))) ⌝ }
+{
+    if v % 2 == 0 {
+        return true;
+    }
+    is_vertex(s[0], s[1])
+}
+
+// The numbers of v vertices, two vertices at a time.
+fn are_reals(v: usize, s: &[i64]) -> bool
+    requires { ⌜ length (now s) ≡ 2 * v ⌝ }
     ensures { λ r. ⌜ r ≡ areReals (now (s .entry)) ⌝ }
 {
-    let mut i = 0;
-    while i < s.len() {
-        if !is_real(s[i]) {
+    if !is_first(v, s) {
+        return false;
+    }
+    let mut k = v % 2;
+    while k < v {
+        if !is_vertex(s[2 * k], s[2 * k + 1]) {
             return false;
         }
-        i += 1;
+        if !is_vertex(s[2 * k + 2], s[2 * k + 3]) {
+            return false;
+        }
+        k += 2;
     }
     true
 }
@@ -297,7 +384,7 @@ fn are_points(kind: usize, v: usize, islands: &[u16], s: &[i64]) -> bool
     if s.len() / 2 < v {
         return false;
     }
-    if !are_reals(&s[..2 * v]) {
+    if !are_reals(v, &s[..2 * v]) {
         return false;
     }
     if kind == 1 {
@@ -409,4 +496,25 @@ pub fn judge(
         return Verdict::BadHeader;
     }
     judge_rows(mode, count, rows, letters, islands, points)
+}
+
+// What a verdict says in the paper's numbers.
+pub fn fault_of(v: Verdict) -> Fault
+    ensures { λ r. ⌜ r ≡ faultOf v ⌝ }
+{
+    match v {
+        Verdict::Fine => Fault { number: 0, row: 0 },
+        Verdict::BadHeader => Fault {
+            number: HEADER,
+            row: 0,
+        },
+        Verdict::Faulty(k) => Fault {
+            number: NOT_MADE,
+            row: k,
+        },
+        Verdict::Unlisted(k) => Fault {
+            number: CODE,
+            row: k,
+        },
+    }
 }

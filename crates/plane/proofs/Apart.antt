@@ -4,12 +4,12 @@ use mathlib.Core.Bool.{Bool, true, false}
 use Prim.Native.Nat.{ℕ, _≤_, _+_}
 use native.Mathlib.Omega.{arith}
 use lib.Dec.{leb}
-use lib.IntN.{ℤ, pos, natAbs, _+ℤ_, _-ℤ_}
+use lib.IntN.{ℤ, pos, negsuc, natAbs, _+ℤ_, _-ℤ_}
 use lib.Signed.{ltZ, leZ}
 use mir.Syntax.{w64}
 use mir.Val.{SFits}
 use borrow.Author.Tests.{le-leb, lt-leb}
-use Rattle.laws.proofs.Parts.{N, num, sum, diff, ints, fit-parts, parts-fit}
+use Rattle.laws.proofs.Parts.{P, N, num, sum, diff, ints, fit-parts, parts-fit}
 use Rattle.plane.specs.Rings.{near, reach}
 
 -- a number is at most n both ways
@@ -20,6 +20,13 @@ leZ-near d x e h = go (leZ d (pos reach)) refl
     go true q = sym (le-leb x reach (omega (arith, ints, num d)))
     go false q = sym (lt-leb x reach (omega (arith, ints, num d)))
 
+pub leZ-far : (d : ℤ) → P d ≤ reach → leZ (negsuc 19999999) d ≡ leb (natAbs d) reach
+leZ-far d h = go (leZ (negsuc 19999999) d) refl
+  where
+    go : (t : Bool) → leZ (negsuc 19999999) d ≡ t → t ≡ leb (natAbs d) reach
+    go true q = sym (le-leb (natAbs d) reach (omega (arith, ints, num d)))
+    go false q = sym (lt-leb (natAbs d) reach (omega (arith, ints, num d)))
+
 module _ (a b : ℤ) (fa : SFits w64 a) (fb : SFits w64 b) where
   pub up-fits : ltZ a (pos 0) ≡ true → SFits w64 (a +ℤ pos reach)
   up-fits t = parts-fit (a +ℤ pos reach) (omega (arith, ints, num a, sum a (pos reach), fit-parts a fa)) (omega (arith, ints, num a, sum a (pos reach), fit-parts a fa))
@@ -27,8 +34,8 @@ module _ (a b : ℤ) (fa : SFits w64 a) (fb : SFits w64 b) where
   pub down-fits : ltZ a (pos 0) ≡ false → SFits w64 (a -ℤ pos reach)
   down-fits t = parts-fit (a -ℤ pos reach) (omega (arith, ints, num a, diff a (pos reach), fit-parts a fa)) (omega (arith, ints, num a, diff a (pos reach), fit-parts a fa))
 
-  pub below-fits : ltZ a (pos 0) ≡ true → ltZ (a +ℤ pos reach) b ≡ false → SFits w64 (a -ℤ b)
-  below-fits t u = parts-fit (a -ℤ b) (omega (arith, ints, num a, num b, sum a (pos reach), diff a b, fit-parts a fa, fit-parts b fb)) (omega (arith, ints, num a, num b, sum a (pos reach), diff a b, fit-parts a fa, fit-parts b fb))
+  pub below-fits : ltZ a (pos 0) ≡ true → ltZ (a +ℤ pos reach) b ≡ false → SFits w64 (b -ℤ a)
+  below-fits t u = parts-fit (b -ℤ a) (omega (arith, ints, num a, num b, sum a (pos reach), diff b a, fit-parts a fa, fit-parts b fb)) (omega (arith, ints, num a, num b, sum a (pos reach), diff b a, fit-parts a fa, fit-parts b fb))
 
   pub above-fits : ltZ a (pos 0) ≡ false → ltZ b (a -ℤ pos reach) ≡ false → SFits w64 (b -ℤ a)
   above-fits t u = parts-fit (b -ℤ a) (omega (arith, ints, num a, num b, diff a (pos reach), diff b a, fit-parts a fa, fit-parts b fb)) (omega (arith, ints, num a, num b, diff a (pos reach), diff b a, fit-parts a fa, fit-parts b fb))
@@ -41,11 +48,9 @@ pub far-below : (a b : ℤ) → ltZ b (a -ℤ pos reach) ≡ true → false ≡ 
 unfolding near
 far-below a b t = sym (lt-leb (natAbs (b -ℤ a)) reach (omega (arith, ints, num a, num b, diff a (pos reach), diff b a)))
 
-pub not-above : (a b : ℤ) → ltZ (a +ℤ pos reach) b ≡ false → leZ (a -ℤ b) (pos reach) ≡ near a b
+pub not-above : (a b : ℤ) → ltZ (a +ℤ pos reach) b ≡ false → leZ (negsuc 19999999) (b -ℤ a) ≡ near a b
 unfolding near
-not-above a b t =
-    leZ-near (a -ℤ b) (natAbs (b -ℤ a)) (omega (arith, num a, num b, diff a b, diff b a))
-    (omega (arith, ints, num a, num b, sum a (pos reach), diff a b))
+not-above a b t = leZ-far (b -ℤ a) (omega (arith, ints, num a, num b, sum a (pos reach), diff b a))
 
 pub not-below : (a b : ℤ) → ltZ b (a -ℤ pos reach) ≡ false → leZ (b -ℤ a) (pos reach) ≡ near a b
 unfolding near

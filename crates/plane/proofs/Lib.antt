@@ -2,6 +2,7 @@
 mod Apart
 pub mod RingLaws
 pub mod AreaLaws
+mod AreaWays
 mod AlikeLaws
 pub mod MovedLaws
 pub mod OwnLaws

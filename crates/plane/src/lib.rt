@@ -5,10 +5,10 @@ ghost use mathlib.Core.Path.{_≡_};
 ghost use mathlib.Core.Bool.{Bool, true};
 ghost use Prim.Native.Nat.{ℕ, _+_, _*_, _-_, _≤_, _<_};
 ghost use lib.ListN.{length};
-ghost use lib.IntN.{ℤ, pos, natAbs};
+ghost use lib.IntN.{ℤ, pos, natAbs, _-ℤ_, _*ℤ_};
 ghost use Rattle.laws.specs.Whole.{Within};
-ghost use Rattle.plane.specs.Rings.{most, x-at, y-at, held, near, near-first, all-near, narrow};
-ghost use Rattle.plane.specs.Areas.{sum-limit, east, north, edge-term, signed-sum, areaOf};
+ghost use Rattle.plane.specs.Rings.{reach, x-at, y-at, held, near, near-first, all-near, narrow};
+ghost use Rattle.plane.specs.Areas.{sum-limit, areaOf};
 
 // How far a vertex may lie from its ring's first, in x and in y.
 const REACH: i64 = 20_000_000;
@@ -33,7 +33,7 @@ fn within_reach(a: i64, b: i64) -> bool
         if a + REACH < b {
             return false;
         }
-        return a - b <= REACH;
+        return 0 - REACH <= b - a;
     }
     if b < a - REACH {
         return false;
@@ -101,45 +101,20 @@ pub fn is_narrow(points: &[i64], from: usize, count: usize) -> bool
     true
 }
 
-// Vertex k, taken from the ring's first.
-fn east_of(points: &[i64], from: usize, k: usize) -> i64
-    requires { ⌜ (2 * (from + k) + 1 < length (now points)) × (near-first (now points) from k ≡ true) ⌝ }
-    ensures { λ r. ⌜ r ≡ east (now (points .entry)) from k ⌝ }
+// How far b lies from a that is near it.
+fn away(a: i64, b: i64) -> i64
+    requires { ⌜ near a b ≡ true ⌝ }
+    ensures { λ r. ⌜ r ≡ b -ℤ a ⌝ }
 {
-    x_of(points, from + k) - x_of(points, from)
+    b - a
 }
 
-fn north_of(points: &[i64], from: usize, k: usize) -> i64
-    requires { ⌜ (2 * (from + k) + 1 < length (now points)) × (near-first (now points) from k ≡ true) ⌝ }
-    ensures { λ r. ⌜ r ≡ north (now (points .entry)) from k ⌝ }
+// What an edge adds to the signed sum, its two ends taken from the ring's first vertex.
+fn edge(x1: i64, y1: i64, x2: i64, y2: i64) -> i64
+    requires { ⌜ Within reach x1 × Within reach y1 × Within reach x2 × Within reach y2 ⌝ }
+    ensures { λ r. ⌜ r ≡ x1 *ℤ y2 -ℤ x2 *ℤ y1 ⌝ }
 {
-    y_of(points, from + k) - y_of(points, from)
-}
-
-// What edge k, from vertex k to the next, adds to the signed sum.
-fn edge(points: &[i64], from: usize, k: usize) -> i64
-    requires { ⌜ (2 * (from + (k + 1)) + 1 < length (now points)) × (near-first (now points) from k ≡ true) × (near-first (now points) from (k + 1) ≡ true) ⌝ }
-    ensures { λ r. ⌜ r ≡ edge-term (now (points .entry)) from k ⌝ }
-{
-    let x1 = east_of(points, from, k);
-    let y1 = north_of(points, from, k);
-    let x2 = east_of(points, from, k + 1);
-    let y2 = north_of(points, from, k + 1);
     x1 * y2 - x2 * y1
-}
-
-// The signed sum over the ring's edges: one less than its vertices, the last being the first again.
-fn sum_of(points: &[i64], from: usize, count: usize) -> i64
-    requires { ⌜ (1 ≤ count) × (count ≤ most) × (2 * (from + count) ≤ length (now points)) × (all-near (now points) from count ≡ true) ⌝ }
-    ensures { λ r. ⌜ (r ≡ signed-sum (now (points .entry)) from (count - 1)) × Within sum-limit r ⌝ }
-{
-    let mut s: i64 = 0;
-    let mut k = 0;
-    while k + 1 < count {
-        s += edge(points, from, k);
-        k += 1;
-    }
-    s
 }
 
 fn absolute(z: i64) -> i64
@@ -152,6 +127,36 @@ fn absolute(z: i64) -> i64
     z
 }
 
+// The doubled area of a ring that the table holds: each vertex is fetched once, judged, and its edge added. An edge less than vertices.
+fn area_of(points: &[i64], from: usize, count: usize) -> Area
+    requires { ⌜ held (length (now points)) from count ≡ true ⌝ }
+    ensures { λ r. ⌜ r ≡ areaOf (now (points .entry)) from count ⌝ }
+{
+    let x = x_of(points, from);
+    let y = y_of(points, from);
+    let mut x1: i64 = 0;
+    let mut y1: i64 = 0;
+    let mut s: i64 = 0;
+    let mut k = 0;
+    while k + 1 < count {
+        let a = x_of(points, from + (k + 1));
+        let b = y_of(points, from + (k + 1));
+        if !within_reach(x, a) {
+            return Area::Wide;
+        }
+        if !within_reach(y, b) {
+            return Area::Wide;
+        }
+        let x2 = away(x, a);
+        let y2 = away(y, b);
+        s += edge(x1, y1, x2, y2);
+        x1 = x2;
+        y1 = y2;
+        k += 1;
+    }
+    Area::Doubled(absolute(s))
+}
+
 // The doubled area of the ring of `count` vertices from vertex `from` on.
 pub fn doubled_area(points: &[i64], from: usize, count: usize) -> Area
     ensures { λ r. ⌜ r ≡ areaOf (now (points .entry)) from count ⌝ }
@@ -159,8 +164,5 @@ pub fn doubled_area(points: &[i64], from: usize, count: usize) -> Area
     if !is_ring(points, from, count) {
         return Area::Missing;
     }
-    if !is_narrow(points, from, count) {
-        return Area::Wide;
-    }
-    Area::Doubled(absolute(sum_of(points, from, count)))
+    area_of(points, from, count)
 }

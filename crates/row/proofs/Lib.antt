@@ -1,3 +1,5 @@
+-- The laws of `row` and the ways through its code; `pub mod` lets other crates cite a file.
 pub mod Walk
 pub mod SeekLaws
+pub mod NextWays
 mod SeekWays

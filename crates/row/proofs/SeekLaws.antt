@@ -7,8 +7,8 @@ use lib.ListN.{length}
 use lib.Dec.{ltb}
 use borrow.Author.Tests.{ltb-true}
 use Rattle.record.specs.declared.Mode.the-variants.{Loose}
-use Rattle.header.specs.declared.Header.{Header}
-use Rattle.header.specs.Header.{isHeader}
+use Rattle.heading.specs.declared.Header.{Header}
+use Rattle.heading.specs.Heading.{isHeader}
 use Rattle.sheet.specs.Tables.{Tables}
 use Rattle.made.specs.declared.Verdict.{Verdict}
 use Rattle.made.specs.declared.Verdict.the-variants.{Fine, BadHeader, Faulty, Unlisted}

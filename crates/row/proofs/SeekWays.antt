@@ -1,27 +1,25 @@
--- The ways through the search for a row: the sums over the rows before it, then the answer. Assumes nothing.
-use Prim.Native.Nat.{ℕ, zero, suc, _+_, _-_, _*_, _≤_, _<_}
+-- The ways through the search for a row: the rows before it, then the answer. Assumes nothing.
+use Prim.Native.Nat.{ℕ, zero, suc, _+_, _-_, _≤_, _<_}
 use mathlib.Core.Path.{_≡_, refl, sym, _∙_, ap}
 use mathlib.Core.List.{List}
 use native.Mathlib.Omega.{arith}
-use lib.ListN.{length, getD, drop}
-use lib.IntN.{ℤ, pos}
+use lib.ListN.{length}
+use lib.IntN.{ℤ}
 use borrow.Author.Tests.{lt-ltb, le-ltb}
-use Rattle.laws.specs.Lists.{tail}
-use Rattle.laws.proofs.ListLaws.{rest-is}
 use Rattle.record.specs.declared.Mode.the-variants.{Loose}
-use Rattle.header.specs.declared.Header.{Header}
+use Rattle.heading.specs.declared.Header.{Header}
 use Rattle.sheet.specs.Tables.{Tables}
 use Rattle.made.specs.declared.Verdict.{Verdict}
 use Rattle.made.specs.declared.Verdict.the-variants.{Fine, BadHeader, Faulty, Unlisted}
-use Rattle.made.specs.Made.{natOf, judgeOf}
+use Rattle.made.specs.Made.{judgeOf}
 use Rattle.row.specs.declared.Stand.{Stand}
 use Rattle.row.specs.declared.Sought.the-variants.{At, Missing, Refused}
-use Rattle.row.specs.Walk.{wordMost, cellIn, nextStand, standOf, Stands}
+use Rattle.row.specs.Walk.{wordMost, firstStand, nextStand, standOf, Stands}
 use Rattle.row.specs.Seek.{afterVerdict, soughtOf}
-use Rattle.row.proofs.Walk.{walk-to}
+use Rattle.row.proofs.Walk.{stands-small, walk-to}
 use Rattle.row.proofs.SeekLaws.{fine-rows}
 
--- ---- the sums over the first n rows
+-- ---- past the first n rows
 
 -- a stand only moves on, so an earlier one is within what a later one is within
 stands-one : {a b c e : ℕ} (rows : List ℤ) (k : ℕ) → Stands a b c e (standOf (suc k) rows) → Stands a b c e (standOf k rows)
@@ -40,62 +38,33 @@ stands-before rows (suc m) n k f s =
     let z : k ≡ suc (m + n) = omega arith in
     stands-before rows m n (m + n) refl (stands-one rows (m + n) (rw (← z) s))
 
-pub record Summed (k : ℕ) (rows : List ℤ) (r l i p n : ℕ) : Type 0 where
+pub record Passed (k : ℕ) (rows : List ℤ) (d : Stand) (n : ℕ) : Type 0 where
   pub few : n ≤ k
-  pub is : record { row = r; letters = l; islands = i; points = p } ≡ standOf n rows
+  pub is : d ≡ standOf n rows
 
-pub summed-none : (k : ℕ) (rows : List ℤ) → Summed k rows 0 0 0 0 0
+pub passed-none : (k : ℕ) (rows : List ℤ) → Passed k rows firstStand 0
 unfolding standOf
-summed-none k rows = record { few = omega arith; is = refl }
+passed-none k rows = record { few = omega arith; is = refl }
 
-module _ {k : ℕ} {rows : List ℤ} {r l i p n : ℕ} (s : Summed k rows r l i p n) (pre : Stands (length rows) wordMost wordMost wordMost (standOf k rows)) (h : n < k) where
-  abbrev stand : Stand
-  stand = record { row = r; letters = l; islands = i; points = p }
-
+module _ {k : ℕ} {rows : List ℤ} {d : Stand} {n : ℕ} (s : Passed k rows d n) (pre : Stands (length rows) wordMost wordMost wordMost (standOf k rows)) (h : n < k) where
   before : (m : ℕ) → m ≤ k → Stands (length rows) wordMost wordMost wordMost (standOf m rows)
   before m f = stands-before rows (k - m) m k (omega arith) pre
 
-  here : Stands (length rows) wordMost wordMost wordMost stand
-  here = rw (s .is) (before n (omega arith))
+  pub passed-in : d .row ≤ length rows
+  passed-in = rw (s .is) (before n (omega arith) .row-in)
 
-  next : Stands (length rows) wordMost wordMost wordMost (nextStand rows stand)
+  pub passed-next : length rows ≤ wordMost → Stands wordMost wordMost wordMost wordMost (nextStand rows d)
   unfolding standOf
-  next = rw (s .is) (before (suc n) (omega arith))
+  passed-next l = rw (s .is) (stands-small (before (suc n) (omega arith)) l (omega arith) (omega arith) (omega arith))
 
-  cell : (q m : ℕ) → m ≡ natOf (getD (tail rows r) q (pos 0)) → m ≡ cellIn (drop r rows) q
-  cell q m e = e ∙ ap (λ (t : List ℤ). cellIn t q) (rest-is rows r)
-
-  pub row-in : r ≤ length rows
-  row-in = here .row-in
-
-  pub row-fits : r + 12 ≤ length rows
-  unfolding nextStand
-  row-fits = next .row-in
-
-  pub letters-fit : (m : ℕ) → m ≡ natOf (getD (tail rows r) 9 (pos 0)) → l + m ≤ wordMost
-  unfolding nextStand
-  letters-fit m e = rw (cell 9 m e) (next .letters-in)
-
-  pub islands-fit : (m : ℕ) → m ≡ natOf (getD (tail rows r) 10 (pos 0)) → i + m ≤ wordMost
-  unfolding nextStand
-  islands-fit m e = rw (cell 10 m e) (next .islands-in)
-
-  pub points-fit : (m : ℕ) → m ≡ natOf (getD (tail rows r) 11 (pos 0)) → p + 2 * m ≤ wordMost
-  unfolding nextStand
-  points-fit m e = rw (cell 11 m e) (next .points-in)
-
-  pub summed-on : (a b c : ℕ) → a ≡ natOf (getD (tail rows r) 9 (pos 0)) → b ≡ natOf (getD (tail rows r) 10 (pos 0)) → c ≡ natOf (getD (tail rows r) 11 (pos 0))
-      → Summed k rows (r + 12) (l + a) (i + b) (p + 2 * c) (n + 1)
-  unfolding standOf nextStand
-  summed-on a b c e f g =
+  pub passed-on : (e : Stand) → e ≡ nextStand rows d → Passed k rows e (n + 1)
+  unfolding standOf
+  passed-on e q =
       let z : n + 1 ≡ suc n = omega arith in
-      record {
-        few = omega arith;
-        is = rw (z, ← (s .is), cell 9 a e, cell 10 b f, cell 11 c g);
-      }
+      record { few = omega arith; is = rw (q, z, s .is) }
 
-pub summed-all : {k : ℕ} {rows : List ℤ} {r l i p n : ℕ} → Summed k rows r l i p n → k ≤ n → record { row = r; letters = l; islands = i; points = p } ≡ standOf k rows
-summed-all {k} {rows} {n = n} s h = let z : n ≡ k = omega (arith, s .few) in s .is ∙ ap (λ (m : ℕ). standOf m rows) z
+pub passed-all : {k : ℕ} {rows : List ℤ} {d : Stand} {n : ℕ} → Passed k rows d n → k ≤ n → d ≡ standOf k rows
+passed-all {k} {rows} {n = n} s h = let z : n ≡ k = omega (arith, s .few) in s .is ∙ ap (λ (m : ℕ). standOf m rows) z
 
 -- ---- the answer
 

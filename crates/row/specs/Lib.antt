@@ -1,2 +1,3 @@
+-- The definitions of `row`, in the order to read them.
 pub mod Walk
 pub mod Seek

@@ -5,7 +5,7 @@ use mathlib.Core.Bool.{cond}
 use lib.Dec.{ltb}
 use Rattle.record.specs.declared.Mode.the-variants.{Loose}
 use Rattle.record.specs.Refusals.{noSuch}
-use Rattle.header.specs.declared.Header.{Header}
+use Rattle.heading.specs.declared.Header.{Header}
 use Rattle.sheet.specs.Tables.{Tables}
 use Rattle.made.specs.Made.{judgeOf}
 use Rattle.made.specs.declared.Verdict.{Verdict}

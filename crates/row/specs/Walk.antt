@@ -1,10 +1,12 @@
 -- Where a walk over the rows of a sheet stands in its four tables: letters, island counts and points "stand in three further tables in
 -- element order, with no gaps" (document 01, "Sheet tables"). Assumes nothing: these are definitions.
-use Prim.Native.Nat.{ℕ, zero, suc, _+_, _*_, _≤_}
+use Prim.Native.Nat.{ℕ, zero, suc, _+_, _*_, _%_, _^_, _≤_}
 use mathlib.Core.List.{List}
-use lib.ListN.{getD, drop}
+use mathlib.Core.Bool.{cond}
+use lib.ListN.{length, getD, drop}
+use lib.Dec.{leb}
 use lib.IntN.{ℤ, pos}
-use Rattle.machine.specs.Rows.{rowWidth, lettersPlace, islandsPlace, verticesPlace}
+use Rattle.kinds.specs.Kinds.{rowWidth, lettersPlace, islandsPlace, verticesPlace}
 use Rattle.sheet.specs.Tables.{Tables}
 use Rattle.made.specs.Made.{tablesOf, natOf}
 use Rattle.row.specs.declared.Stand.{Stand}
@@ -29,6 +31,22 @@ nextStand rows d =
       islands = d .islands + cellIn (drop (d .row) rows) islandsPlace;
       points = d .points + 2 * cellIn (drop (d .row) rows) verticesPlace;
     }
+
+-- the same as the code has it, for any numbers: sums wrap, and past the table it stays where it is. A walk over rows that were
+-- judged meets neither.
+abbrev pub wrap : ℕ → ℕ → ℕ
+wrap a b = (a + b) % 2 ^ 64
+
+unfoldable pub standAfter : List ℤ → Stand → Stand
+standAfter rows d =
+    cond (leb (d .row) (length rows))
+    (record {
+      row = wrap (d .row) rowWidth;
+      letters = wrap (d .letters) (cellIn (drop (d .row) rows) lettersPlace);
+      islands = wrap (d .islands) (cellIn (drop (d .row) rows) islandsPlace);
+      points = wrap (d .points) (wrap (cellIn (drop (d .row) rows) verticesPlace) (cellIn (drop (d .row) rows) verticesPlace));
+    })
+    d
 
 -- where row k stands: past the k rows before it
 unfoldable pub standOf : ℕ → List ℤ → Stand

@@ -1,25 +1,29 @@
--- A border added to a tally: its four figures are raised one after the other, and that is its own figures added. Assumes nothing.
-use mathlib.Core.Path.{_≡_, refl, sym, ap, ap₂, _∙_, subst}
+-- A border added to a tally: its four figures are added in their places, and that is its own figures added. Assumes nothing.
+use mathlib.Core.Path.{_≡_, refl, sym, ap, ap₂, _∙_}
 use mathlib.Core.List.{List, [], _∷_, _++_}
 use mathlib.Core.Bool.{Bool, true, false, cond, not, _&&_}
-use Prim.Native.Nat.{ℕ, zero, suc, _+_, _-_, _*_, _≤_, _<_}
+use Prim.Native.Nat.{ℕ, zero, suc, _+_, _-_, _*_, _^_, _≤_, _<_}
 use native.Mathlib.Omega.{arith}
 use lib.Dec.{lit≤}
-use lib.ListN.{length, getD, replicate}
+use lib.ListN.{length, getD, set, replicate, length-append, length-replicate}
 use lib.IntN.{ℤ, pos, _+ℤ_, +ℤ-idr}
-use lib.Signed.{leZ}
+use lib.Signed.{mag, leZ}
+use mir.Syntax.{w64}
+use mir.Val.{SFits, toZ, ofZ}
+use mir.Facts.{toZ-ofZ, toZ-pos}
 use borrow.Author.Tests.{not-true, not-false, lt-leb}
+use Rattle.laws.proofs.Bits.{back}
 use Rattle.laws.proofs.Chains.{and-off-second}
-use Rattle.laws.proofs.Choice.{true≢false, false≢true, and-left, and-right, and-false, cond-elim, cond-false}
-use Rattle.border.specs.declared.Class.{Class}
-use Rattle.border.specs.declared.Class.the-variants.{Confine, Other, Road, Water, Building, Parcel}
-use Rattle.border.specs.Classes.{indexOf}
+use Rattle.laws.proofs.Choice.{and-left, and-right, and-false, cond-elim}
 use Rattle.border.specs.declared.Border.{Border}
+use Rattle.classes.specs.declared.Class.{Class}
+use Rattle.classes.specs.declared.Class.the-variants.{Confine, Other, Road, Water, Building, Parcel}
+use Rattle.classes.specs.Classes.{indexOf}
 use Rattle.tally.specs.declared.Tally.{Tally}
 use Rattle.tally.specs.declared.Added.{Added}
-use Rattle.tally.specs.Tally.{limit, isFigure, isTally, plus, figuresOf, raise, raisedOf, refusedAt, withFigures, addOf}
-use Rattle.tally.proofs.TallyLaws.{plus-none}
-use Rattle.tally.proofs.TallyWays.{tally-set}
+use Rattle.tally.specs.Tally.{limit, isFigure, isTally, plus, figuresOf, refusedAt, withFigures, addOf, isFit, areFit, Good, tallyOn, grown}
+use Rattle.tally.proofs.TallyLaws.{plus-none, plus-length}
+use Rattle.tally.proofs.TallyWays.{tally-at, figure-fits}
 
 -- four figures behind m, and nothing else
 abbrev own : ℕ → ℕ → ℤ → ℤ → ℤ → ℤ → List ℤ
@@ -29,27 +33,35 @@ and-true : (a : Bool) → (a && true) ≡ a
 and-true true = refl
 and-true false = refl
 
+-- both tests of two pairs
+pairs : (a b c d : Bool) → ((a && b) && (c && d)) ≡ ((a && c) && (b && d))
+pairs true true c d = refl
+pairs true false true d = refl
+pairs true false false d = refl
+pairs false b c d = refl
+
+eight : (p q r s p′ q′ r′ s′ : Bool) → ((p && (q && (r && s))) && (p′ && (q′ && (r′ && s′)))) ≡ ((p && p′) && ((q && q′) && ((r && r′) && (s && s′))))
+eight p q r s p′ q′ r′ s′ =
+    pairs p (q && (r && s)) p′ (q′ && (r′ && s′))
+    ∙ ap (λ (x : Bool). (p && p′) && x) (pairs q (r && s) q′ (r′ && s′) ∙ ap (λ (x : Bool). (q && q′) && x) (pairs r s r′ s′))
+
 none-tally : (r : ℕ) → isTally (replicate r (pos 0)) ≡ true
 unfolding isTally isFigure
 none-tally zero = refl
 none-tally (suc r) = none-tally r
 
--- they are raised one behind the other
+-- they are added in their places
 module _ (a b c d : ℤ) where
-  abbrev one : ℕ → List ℤ → List ℤ
-  one m s = raise s m a
-
-  abbrev two : ℕ → List ℤ → List ℤ
-  two m s = raise (one m s) (suc m) b
-
-  abbrev three : ℕ → List ℤ → List ℤ
-  three m s = raise (two m s) (suc (suc m)) c
-
   abbrev four : ℕ → List ℤ → List ℤ
-  four m s = raise (three m s) (suc (suc (suc m))) d
+  four m s =
+      set
+      (set
+      (set (set s m (getD s m (pos 0) +ℤ a)) (suc m) (getD s (suc m) (pos 0) +ℤ b))
+      (suc (suc m)) (getD s (suc (suc m)) (pos 0) +ℤ c))
+      (suc (suc (suc m))) (getD s (suc (suc (suc m))) (pos 0) +ℤ d)
 
   plus-own : (m r : ℕ) (s : List ℤ) → length s ≡ m + (4 + r) → plus s (own m r a b c d) ≡ four m s
-  unfolding plus raise
+  unfolding plus
   plus-own zero r (x ∷ y ∷ z ∷ w ∷ s) h = ap (λ (u : List ℤ). (x +ℤ a) ∷ (y +ℤ b) ∷ (z +ℤ c) ∷ (w +ℤ d) ∷ u) (plus-none s r (omega arith))
   plus-own zero r [] h = absurd (omega arith)
   plus-own zero r (x ∷ []) h = absurd (omega arith)
@@ -67,15 +79,15 @@ module _ (a b c d : ℤ) where
   own-tally zero r = rw (none-tally r, and-true (isFigure d))
   own-tally (suc m) r = own-tally m r
 
-  -- and so are the raised ones
+  -- and so are the sums
   abbrev Keeps : ℕ → List ℤ → Bool
   Keeps m s =
       isFigure (getD s m (pos 0) +ℤ a)
-      && (isFigure (getD (one m s) (suc m) (pos 0) +ℤ b)
-      && (isFigure (getD (two m s) (suc (suc m)) (pos 0) +ℤ c) && isFigure (getD (three m s) (suc (suc (suc m))) (pos 0) +ℤ d)))
+      && (isFigure (getD s (suc m) (pos 0) +ℤ b)
+      && (isFigure (getD s (suc (suc m)) (pos 0) +ℤ c) && isFigure (getD s (suc (suc (suc m))) (pos 0) +ℤ d)))
 
   four-tally : (m r : ℕ) (s : List ℤ) → length s ≡ m + (4 + r) → isTally s ≡ true → isTally (four m s) ≡ Keeps m s
-  unfolding isTally raise
+  unfolding isTally
   four-tally zero r (x ∷ y ∷ z ∷ w ∷ s) h e =
       rw (and-right (isFigure w) (isTally s) (and-right (isFigure z) (isFigure w && isTally s) (and-right (isFigure y) (isFigure z && (isFigure w && isTally s)) (and-right (isFigure x) (isFigure y && (isFigure z && (isFigure w && isTally s))) e))), and-true (isFigure (w +ℤ d)))
   four-tally zero r [] h e = absurd (omega arith)
@@ -85,41 +97,23 @@ module _ (a b c d : ℤ) where
   four-tally (suc m) r [] h e = absurd (omega arith)
   four-tally (suc m) r (x ∷ s) h e = rw (and-left (isFigure x) (isTally s) e) (four-tally m r s (omega arith) (and-right (isFigure x) (isTally s) e))
 
--- ---- one step
+  -- figure by figure
+  abbrev Fits : ℕ → List ℤ → Bool
+  Fits m s =
+      isFit (getD s m (pos 0)) a
+      && (isFit (getD s (suc m) (pos 0)) b
+      && (isFit (getD s (suc (suc m)) (pos 0)) c && isFit (getD s (suc (suc (suc m))) (pos 0)) d))
+
+  fits-are : (m : ℕ) (s : List ℤ) → (Owns && Keeps m s) ≡ Fits m s
+  unfolding isFit
+  fits-are m s =
+      eight (isFigure a) (isFigure b) (isFigure c) (isFigure d) (isFigure (getD s m (pos 0) +ℤ a)) (isFigure (getD s (suc m) (pos 0) +ℤ b))
+      (isFigure (getD s (suc (suc m)) (pos 0) +ℤ c)) (isFigure (getD s (suc (suc (suc m))) (pos 0) +ℤ d))
+
+-- ---- the border
 
 abbrev fitting : List ℤ → Added
 fitting s = record { fits = true; tally = record { figures = s } }
-
-module _ (s : List ℤ) (i : ℕ) (z : ℤ) where
-  step-go : isFigure z ≡ true → isFigure (getD s i (pos 0) +ℤ z) ≡ true → raisedOf (fitting s) i z ≡ fitting (raise s i z)
-  unfolding raisedOf
-  step-go e f = rw (e, f)
-
-module _ (a : Added) (i : ℕ) (z : ℤ) where
-  -- what fits now fitted before
-  step-back : raisedOf a i z .fits ≡ true → (a .fits ≡ true) × (isFigure z ≡ true) × (isFigure (getD (a .tally .figures) i (pos 0) +ℤ z) ≡ true)
-  unfolding raisedOf
-  step-back e = go (a .fits) (isFigure z) (isFigure (getD (a .tally .figures) i (pos 0) +ℤ z)) refl refl refl e
-    where
-      go : (p q r : Bool) → a .fits ≡ p → isFigure z ≡ q → isFigure (getD (a .tally .figures) i (pos 0) +ℤ z) ≡ r
-          → cond (p && (q && r)) (fitting (raise (a .tally .figures) i z)) (refusedAt (a .tally)) .fits ≡ true
-          → (a .fits ≡ true) × (isFigure z ≡ true) × (isFigure (getD (a .tally .figures) i (pos 0) +ℤ z) ≡ true)
-      go true true true p q r e = (p, q, r)
-      go true true false p q r e = absurd (false≢true e)
-      go true false t p q r e = absurd (false≢true e)
-      go false f t p q r e = absurd (false≢true e)
-
-  -- a tally stays one
-  pub step-tally : isTally (a .tally .figures) ≡ true → {r : Added} → r ≡ raisedOf a i z → isTally (r .tally .figures) ≡ true
-  unfolding raisedOf raise
-  step-tally h {r} e = subst (λ (x : Added). isTally (x .tally .figures) ≡ true) (sym e)
-      (cond-elim (λ (x : Added). isTally (x .tally .figures) ≡ true) (a .fits && (isFigure z && isFigure (getD (a .tally .figures) i (pos 0) +ℤ z)))
-      (fitting (raise (a .tally .figures) i z)) (refusedAt (a .tally))
-      (λ t. tally-set (a .tally .figures) i (getD (a .tally .figures) i (pos 0) +ℤ z) h
-      (and-right (isFigure z) (isFigure (getD (a .tally .figures) i (pos 0) +ℤ z)) (and-right (a .fits) (isFigure z && isFigure (getD (a .tally .figures) i (pos 0) +ℤ z)) t)))
-      (λ t. h))
-
--- ---- the four steps, and the border
 
 index-below : (c : Class) → indexOf c ≤ 5
 index-below Confine = lit≤ tt
@@ -129,120 +123,196 @@ index-below Water = lit≤ tt
 index-below Building = lit≤ tt
 index-below Parcel = lit≤ tt
 
+pub index-most : (c : Class) {k : ℕ} → k ≡ indexOf c → k ≤ 5
+index-most c e = omega (arith, index-below c)
+
+-- added in one, the same is judged
+with-is : (a b c d : ℤ) (m r : ℕ) (s : List ℤ) → length s ≡ m + (4 + r) → isTally s ≡ true
+    → withFigures (tallyOn s) (own m r a b c d) ≡ cond (Fits a b c d m s) (fitting (four a b c d m s)) (refusedAt (tallyOn s))
+unfolding withFigures
+with-is a b c d m r s l h = rw (h, own-tally a b c d m r, plus-own a b c d m r s l, four-tally a b c d m r s l h, fits-are a b c d m s)
+
+pub own-count : (c : Class) (o : ℤ) (n : ℕ) (i : ℤ) → length (figuresOf (indexOf c) o (pos n) i) ≡ 24
+unfolding figuresOf
+own-count c o n i =
+    let k = indexOf c in
+    let l = index-below c in
+    rw (
+      length-append (replicate (4 * k) (pos 0)) (pos 1 ∷ o ∷ pos n ∷ i ∷ replicate (4 * (5 - k)) (pos 0)),
+      length-replicate (4 * k) (pos 0),
+      length-replicate (4 * (5 - k)) (pos 0),
+    ) (omega arith)
+
+-- a tally stays one
+pub grown-good : (s : List ℤ) → Good s → (c : Class) (o : ℤ) (n : ℕ) (i : ℤ) → Good (grown s (indexOf c) o n i .tally .figures)
+unfolding withFigures
+grown-good s g c o n i =
+    let own = figuresOf (indexOf c) o (pos n) i in
+    cond-elim (λ (x : Added). Good (x .tally .figures)) (isTally s && (isTally own && isTally (plus s own))) (fitting (plus s own)) (refusedAt (tallyOn s))
+    (λ t. record {
+      each = and-right (isTally own) (isTally (plus s own)) (and-right (isTally s) (isTally own && isTally (plus s own)) t);
+      count = plus-length s own (g .count ∙ sym (own-count c o n i)) ∙ g .count;
+    })
+    (λ t. g)
+
+figure-past : (n : ℕ) → limit < n → isFigure (pos n) ≡ false
+unfolding isFigure
+figure-past n h = sym (and-off-second (leZ (pos 0) (pos n)) (leZ (pos n) (pos limit)) (lt-leb n limit h))
+
+-- ---- four figures and a border's, as the code has them
+
+-- a signed number in a local
+abbrev bits : ℤ → ℤ
+bits z = toZ w64 (ofZ w64 z)
+
+count-is : (n : ℕ) → n ≤ limit → toZ w64 n ≡ pos n
+count-is n h = toZ-pos w64 {n = n} (omega arith)
+
 all-four : (p q r s : Bool) → (p && (q && (r && s))) ≡ true → (p ≡ true) × (q ≡ true) × (r ≡ true) × (s ≡ true)
 all-four p q r s e =
     let f = and-right p (q && (r && s)) e in
     let g = and-right q (r && s) f in
     (and-left p (q && (r && s)) e, and-left q (r && s) f, and-left r s g, and-right r s g)
 
-pub index-most : (c : Class) {k : ℕ} → k ≡ indexOf c → k ≤ 5
-index-most c e = omega (arith, index-below c)
+module _ (y z : ℤ) (e : isFit y z ≡ true) where
+  more-fits : SFits w64 z
+  unfolding isFit
+  more-fits = figure-fits z (and-left (isFigure z) (isFigure (y +ℤ z)) e)
 
-module _ (s : List ℤ) (a b c d : ℤ) (m : ℕ) where
-  abbrev chain : Added
-  chain = raisedOf (raisedOf (raisedOf (raisedOf (fitting s) m a) (suc m) b) (suc (suc m)) c) (suc (suc (suc m))) d
+  sum-fits : SFits w64 (y +ℤ z)
+  unfolding isFit
+  sum-fits = figure-fits (y +ℤ z) (and-right (isFigure z) (isFigure (y +ℤ z)) e)
 
-  abbrev Fit : Bool
-  Fit = Owns a b c d && Keeps a b c d m s
+module _ (a b c d outer : ℤ) (n : ℕ) (inner : ℤ) where
+  pub fit-many : limit < n → false ≡ areFit a b c d outer n inner
+  unfolding areFit isFit
+  fit-many e = rw (figure-past n e, and-false (isFigure outer && isFigure (b +ℤ outer)), and-false (isFigure (pos 1) && isFigure (a +ℤ pos 1)))
 
-  chain-go : Fit ≡ true → chain ≡ fitting (four a b c d m s)
-  chain-go e =
-      let o = all-four (isFigure a) (isFigure b) (isFigure c) (isFigure d) (and-left (Owns a b c d) (Keeps a b c d m s) e) in
-      let k =
-      all-four (isFigure (getD s m (pos 0) +ℤ a)) (isFigure (getD (one a b c d m s) (suc m) (pos 0) +ℤ b))
-      (isFigure (getD (two a b c d m s) (suc (suc m)) (pos 0) +ℤ c)) (isFigure (getD (three a b c d m s) (suc (suc (suc m))) (pos 0) +ℤ d))
-      (and-right (Owns a b c d) (Keeps a b c d m s) e) in
-      ap (λ (x : Added). raisedOf (raisedOf (raisedOf x (suc m) b) (suc (suc m)) c) (suc (suc (suc m))) d) (step-go s m a (o .0) (k .0))
-      ∙ ap (λ (x : Added). raisedOf (raisedOf x (suc (suc m)) c) (suc (suc (suc m))) d) (step-go (one a b c d m s) (suc m) b (o .1) (k .1))
-      ∙ ap (λ (x : Added). raisedOf x (suc (suc (suc m))) d) (step-go (two a b c d m s) (suc (suc m)) c (o .2) (k .2))
-      ∙ step-go (three a b c d m s) (suc (suc (suc m))) d (o .3) (k .3)
+  module _ (fa : SFits w64 a) {p : Bool} (ep : p ≡ isFit (bits a) (pos 1)) where
+    first : p ≡ isFit a (pos 1)
+    first = rw (toZ-ofZ fa) at ep
 
-  chain-back : chain .fits ≡ true → Fit ≡ true
-  chain-back e =
-      let r1 : Added = raisedOf (fitting s) m a in
-      let r2 : Added = raisedOf r1 (suc m) b in
-      let r3 : Added = raisedOf r2 (suc (suc m)) c in
-      let e4 = step-back r3 (suc (suc (suc m))) d e in
-      let e3 = step-back r2 (suc (suc m)) c (e4 .0) in
-      let e2 = step-back r1 (suc m) b (e3 .0) in
-      let e1 = step-back (fitting s) m a (e2 .0) in
-      let q1 = step-go s m a (e1 .1) (e1 .2) in
-      let g2 = subst (λ (x : Added). isFigure (getD (x .tally .figures) (suc m) (pos 0) +ℤ b) ≡ true) q1 (e2 .2) in
-      let q2 = ap (λ (x : Added). raisedOf x (suc m) b) q1 ∙ step-go (one a b c d m s) (suc m) b (e2 .1) g2 in
-      let g3 = subst (λ (x : Added). isFigure (getD (x .tally .figures) (suc (suc m)) (pos 0) +ℤ c) ≡ true) q2 (e3 .2) in
-      let q3 = ap (λ (x : Added). raisedOf x (suc (suc m)) c) q2 ∙ step-go (two a b c d m s) (suc (suc m)) c (e3 .1) g3 in
-      let g4 = subst (λ (x : Added). isFigure (getD (x .tally .figures) (suc (suc (suc m))) (pos 0) +ℤ d) ≡ true) q3 (e4 .2) in
-      rw (e1 .1, e2 .1, e3 .1, e4 .1, e1 .2, g2, g3, g4)
+    pub fit-first : not p ≡ true → false ≡ areFit a b c d outer n inner
+    unfolding areFit
+    fit-first t = rw (sym first ∙ not-true p t)
 
-  -- added in one, the same is judged
-  with-is : (r : ℕ) → length s ≡ m + (4 + r) → isTally s ≡ true
-      → withFigures (record { figures = s }) (own m r a b c d) ≡ cond Fit (fitting (four a b c d m s)) (refusedAt (record { figures = s }))
-  unfolding withFigures
-  with-is r l h = rw (h, own-tally a b c d m r, plus-own a b c d m r s l, four-tally a b c d m r s l h)
+    module _ (tp : not p ≡ false) (fb : SFits w64 b) (fo : SFits w64 outer) {q : Bool} (eq : q ≡ isFit (bits b) (bits outer)) where
+      second : q ≡ isFit b outer
+      second = rw (toZ-ofZ fb, toZ-ofZ fo) at eq
 
-  module _ (r : ℕ) (l : length s ≡ m + (4 + r)) (h : isTally s ≡ true) where
-    chain-fits : chain .fits ≡ true → chain ≡ withFigures (record { figures = s }) (own m r a b c d)
-    chain-fits e = chain-go (chain-back e) ∙ sym (with-is r l h ∙ rw (chain-back e))
+      pub fit-second : not q ≡ true → false ≡ areFit a b c d outer n inner
+      unfolding areFit
+      fit-second t = rw (sym first ∙ not-false p tp, sym second ∙ not-true q t)
 
-    chain-not : chain .fits ≡ false → refusedAt (record { figures = s }) ≡ withFigures (record { figures = s }) (own m r a b c d)
-    chain-not e = sym (with-is r l h ∙ cond-false Fit (fitting (four a b c d m s)) (refusedAt (record { figures = s })) (go Fit refl))
-      where
-        go : (o : Bool) → Fit ≡ o → Fit ≡ false
-        go true q = absurd (true≢false (sym (ap (λ (x : Added). x .fits) (chain-go q)) ∙ e))
-        go false q = q
+      module _ (tq : not q ≡ false) (fc : SFits w64 c) (small : n ≤ limit) {r : Bool} (er : r ≡ isFit (bits c) (toZ w64 n)) where
+        third : r ≡ isFit c (pos n)
+        third = rw (toZ-ofZ fc, count-is n small) at er
 
-figure-past : (n : ℕ) → limit < n → isFigure (pos n) ≡ false
-unfolding isFigure
-figure-past n h = sym (and-off-second (leZ (pos 0) (pos n)) (leZ (pos n) (pos limit)) (lt-leb n limit h))
+        pub fit-third : not r ≡ true → false ≡ areFit a b c d outer n inner
+        unfolding areFit
+        fit-third t = rw (sym first ∙ not-false p tp, sym second ∙ not-false q tq, sym third ∙ not-true r t)
 
--- as the code has it
+        pub fit-fourth : not r ≡ false → SFits w64 d → SFits w64 inner → {x : Bool} → x ≡ isFit (bits d) (bits inner) → x ≡ areFit a b c d outer n inner
+        unfolding areFit
+        fit-fourth t fd fi e = rw (sym first ∙ not-false p tp, sym second ∙ not-false q tq, sym third ∙ not-false r t) (rw (toZ-ofZ fd, toZ-ofZ fi) at e)
+
+module _ (s : List ℤ) (k : ℕ) (c : Class) (e : k ≡ indexOf c) (g : Good s) (outer : ℤ) (n : ℕ) (inner : ℤ) where
+  abbrev figure : ℕ → ℤ
+  figure i = getD s i (pos 0)
+
+  abbrev fit : Bool
+  fit = areFit (figure (4 * k)) (figure (4 * k + 1)) (figure (4 * k + 2)) (figure (4 * k + 3)) outer n inner
+
+  abbrev sums : List ℤ
+  sums =
+      set
+      (set (set (set s (4 * k) (figure (4 * k) +ℤ pos 1)) (4 * k + 1) (figure (4 * k + 1) +ℤ outer)) (4 * k + 2) (figure (4 * k + 2) +ℤ pos n))
+      (4 * k + 3) (figure (4 * k + 3) +ℤ inner)
+
+  grown-is : grown s (indexOf c) outer n inner ≡ cond fit (fitting sums) (refusedAt (tallyOn s))
+  unfolding figuresOf areFit
+  grown-is =
+      let e1 : 4 * k + 1 ≡ suc (4 * k) = omega arith in
+      let e2 : 4 * k + 2 ≡ suc (suc (4 * k)) = omega arith in
+      let e3 : 4 * k + 3 ≡ suc (suc (suc (4 * k))) = omega arith in
+      rw (e1, e2, e3, ← e) (with-is (pos 1) outer (pos n) inner (4 * k) (4 * (5 - k)) s (omega (arith, index-most c e, g .count)) (g .each))
+
+  -- each is read into a local
+  module _ (m0 : mag (figure (4 * k)) < 2 ^ 63) (m1 : mag (figure (4 * k + 1)) < 2 ^ 63) (m2 : mag (figure (4 * k + 2)) < 2 ^ 63) (m3 : mag (figure (4 * k + 3)) < 2 ^ 63) where
+    pub grow-figures : (isFigure (bits (figure (4 * k))) ≡ true) × (isFigure (bits (figure (4 * k + 1))) ≡ true) × (isFigure (bits (figure (4 * k + 2))) ≡ true) × (isFigure (bits (figure (4 * k + 3))) ≡ true)
+    grow-figures =
+        rw (back (figure (4 * k)) m0, back (figure (4 * k + 1)) m1, back (figure (4 * k + 2)) m2, back (figure (4 * k + 3)) m3)
+        (tally-at s (4 * k) (g .each), tally-at s (4 * k + 1) (g .each), tally-at s (4 * k + 2) (g .each), tally-at s (4 * k + 3) (g .each))
+
+    module _ (fo : SFits w64 outer) (fi : SFits w64 inner) {r : Bool}
+        (q : r ≡ areFit (bits (figure (4 * k))) (bits (figure (4 * k + 1))) (bits (figure (4 * k + 2))) (bits (figure (4 * k + 3))) (bits outer) n (bits inner)) where
+      judged : r ≡ fit
+      judged = rw (back (figure (4 * k)) m0, back (figure (4 * k + 1)) m1, back (figure (4 * k + 2)) m2, back (figure (4 * k + 3)) m3, toZ-ofZ fo, toZ-ofZ fi) at q
+
+      pub grow-not : not r ≡ true → (false ≡ grown s (indexOf c) outer n inner .fits) × (s ≡ grown s (indexOf c) outer n inner .tally .figures)
+      grow-not t = rw (grown-is, sym judged ∙ not-true r t) (refl, refl)
+
+      module _ (t : not r ≡ false) where
+        fits : fit ≡ true
+        fits = sym judged ∙ not-false r t
+
+        each : (isFit (figure (4 * k)) (pos 1) ≡ true) × (isFit (figure (4 * k + 1)) outer ≡ true) × (isFit (figure (4 * k + 2)) (pos n) ≡ true) × (isFit (figure (4 * k + 3)) inner ≡ true)
+        unfolding areFit
+        each = all-four (isFit (figure (4 * k)) (pos 1)) (isFit (figure (4 * k + 1)) outer) (isFit (figure (4 * k + 2)) (pos n)) (isFit (figure (4 * k + 3)) inner) fits
+
+        pub grow-first : SFits w64 (bits (figure (4 * k)) +ℤ pos 1)
+        grow-first = rw (back (figure (4 * k)) m0) (sum-fits (figure (4 * k)) (pos 1) (each .0))
+
+        pub grow-second : SFits w64 (bits (figure (4 * k + 1)) +ℤ bits outer)
+        grow-second = rw (back (figure (4 * k + 1)) m1, toZ-ofZ fo) (sum-fits (figure (4 * k + 1)) outer (each .1))
+
+        pub grow-count : SFits w64 (pos n)
+        grow-count = more-fits (figure (4 * k + 2)) (pos n) (each .2)
+
+        count : toZ w64 n ≡ pos n
+        count = toZ-pos w64 {n = n} (grow-count .sfits)
+
+        pub grow-third : SFits w64 (bits (figure (4 * k + 2)) +ℤ toZ w64 n)
+        grow-third = rw (back (figure (4 * k + 2)) m2, count) (sum-fits (figure (4 * k + 2)) (pos n) (each .2))
+
+        pub grow-fourth : SFits w64 (bits (figure (4 * k + 3)) +ℤ bits inner)
+        grow-fourth = rw (back (figure (4 * k + 3)) m3, toZ-ofZ fi) (sum-fits (figure (4 * k + 3)) inner (each .3))
+
+        pub grow-is : (true ≡ grown s (indexOf c) outer n inner .fits)
+            × (set
+            (set
+            (set (set s (4 * k) (bits (bits (figure (4 * k)) +ℤ pos 1))) (4 * k + 1) (bits (bits (figure (4 * k + 1)) +ℤ bits outer)))
+            (4 * k + 2) (bits (bits (figure (4 * k + 2)) +ℤ toZ w64 n)))
+            (4 * k + 3) (bits (bits (figure (4 * k + 3)) +ℤ bits inner))
+            ≡ grown s (indexOf c) outer n inner .tally .figures)
+        grow-is =
+            rw (
+              toZ-ofZ grow-first,
+              toZ-ofZ grow-second,
+              toZ-ofZ grow-third,
+              toZ-ofZ grow-fourth,
+              back (figure (4 * k)) m0,
+              back (figure (4 * k + 1)) m1,
+              back (figure (4 * k + 2)) m2,
+              back (figure (4 * k + 3)) m3,
+              toZ-ofZ fo,
+              toZ-ofZ fi,
+              count,
+              grown-is,
+              fits,
+            ) (refl, refl)
+
+-- ---- the public function
+
 module _ (t : Tally) (b : Border) (outer inner : ℤ) where
-  abbrev added : ℕ → ℕ → ℕ → ℕ → ℕ → Added
-  added m m1 m2 m3 n = raisedOf (raisedOf (raisedOf (raisedOf (record { fits = true; tally = t }) m (pos 1)) m1 outer) m2 (pos n)) m3 inner
-
-  pub add-none : {x : Bool} → x ≡ isTally (t .figures) → not x ≡ true → {r : Added} → r ≡ refusedAt t → r ≡ addOf t b outer inner
+  pub add-none : {x : Bool} → x ≡ isTally (t .figures) → not x ≡ true → refusedAt t ≡ addOf t b outer inner
   unfolding addOf withFigures
-  add-none {x} e f q = q ∙ rw (sym e ∙ not-true x f)
+  add-none {x} e f = rw (sym e ∙ not-true x f)
 
-  pub add-many : limit < b .islands → {r : Added} → r ≡ refusedAt t → r ≡ addOf t b outer inner
-  unfolding addOf withFigures figuresOf
-  add-many e q =
-      q
-      ∙ rw (
-        own-tally (pos 1) outer (pos (b .islands)) inner (4 * indexOf (b .class)) (4 * (5 - indexOf (b .class))),
-        figure-past (b .islands) e,
-        and-false (isFigure outer),
-        and-false (isFigure (pos 1)),
-        and-false (isTally (t .figures)),
-      )
-
-  module _ (l : length (t .figures) ≡ 24) {x : Bool} (e : x ≡ isTally (t .figures)) (f : not x ≡ false) {k : ℕ} (c : k ≡ indexOf (b .class)) where
-    places : (n : ℕ) → added (4 * k) (4 * k + 1) (4 * k + 2) (4 * k + 3) n ≡ chain (t .figures) (pos 1) outer (pos n) inner (4 * indexOf (b .class))
-    places n =
-        let e1 : 4 * k + 1 ≡ suc (4 * k) = omega arith in
-        let e2 : 4 * k + 2 ≡ suc (suc (4 * k)) = omega arith in
-        let e3 : 4 * k + 3 ≡ suc (suc (suc (4 * k))) = omega arith in
-        rw (e1, e2, e3, c)
-
-    room : length (t .figures) ≡ 4 * indexOf (b .class) + (4 + 4 * (5 - indexOf (b .class)))
-    room = omega (arith, index-below (b .class))
-
-    module _ (z : ℤ) (w : z ≡ pos (b .islands)) {o i : ℤ} (p : o ≡ outer) (q : i ≡ inner)
-        {r1 r2 r3 r4 : Added} (q1 : r1 ≡ raisedOf (record { fits = true; tally = t }) (4 * k) (pos 1)) (q2 : r2 ≡ raisedOf r1 (4 * k + 1) o)
-        (q3 : r3 ≡ raisedOf r2 (4 * k + 2) z) (q4 : r4 ≡ raisedOf r3 (4 * k + 3) i) where
-      all : r4 ≡ chain (t .figures) (pos 1) outer (pos (b .islands)) inner (4 * indexOf (b .class))
-      all = rw (q4, q3, q2, q1, w, p, q) (places (b .islands))
-
-      pub add-is : not (r4 .fits) ≡ false → r4 ≡ addOf t b outer inner
-      unfolding addOf figuresOf
-      add-is g =
-          all
-          ∙ chain-fits (t .figures) (pos 1) outer (pos (b .islands)) inner (4 * indexOf (b .class)) (4 * (5 - indexOf (b .class))) room (sym e ∙ not-false x f)
-          (sym (ap (λ (y : Added). y .fits) all) ∙ not-false (r4 .fits) g)
-
-      pub add-past : not (r4 .fits) ≡ true → {r : Added} → r ≡ refusedAt t → r ≡ addOf t b outer inner
-      unfolding addOf figuresOf
-      add-past g u =
-          u
-          ∙ chain-not (t .figures) (pos 1) outer (pos (b .islands)) inner (4 * indexOf (b .class)) (4 * (5 - indexOf (b .class))) room (sym e ∙ not-false x f)
-          (sym (ap (λ (y : Added). y .fits) all) ∙ not-true (r4 .fits) g)
+  pub add-is : SFits w64 outer → SFits w64 inner → {r : Bool} {s : List ℤ} → (r ≡ grown (t .figures) (indexOf (b .class)) (bits outer) (b .islands) (bits inner) .fits)
+      × (s ≡ grown (t .figures) (indexOf (b .class)) (bits outer) (b .islands) (bits inner) .tally .figures) → record { fits = r; tally = tallyOn s } ≡ addOf t b outer inner
+  unfolding addOf
+  add-is f g {r} {s} e =
+      let p : r ≡ grown (t .figures) (indexOf (b .class)) outer (b .islands) inner .fits = rw (toZ-ofZ f, toZ-ofZ g) at (e .0) in
+      let q : s ≡ grown (t .figures) (indexOf (b .class)) outer (b .islands) inner .tally .figures = rw (toZ-ofZ f, toZ-ofZ g) at (e .1) in
+      rw (p, q)

@@ -8,13 +8,14 @@ use lib.ListN.{length, getD}
 use lib.IntN.{ℤ, pos, _+ℤ_}
 use Rattle.laws.proofs.Choice.{false≢true, and-left, and-right}
 use Rattle.laws.proofs.Parts.{sum, eq-parts}
-use Rattle.header.specs.declared.Header.{Header}
+use Rattle.heading.specs.declared.Header.{Header}
 use Rattle.sheet.specs.Tables.{Tables}
 use Rattle.made.specs.Made.{restOf}
 use Rattle.border.specs.declared.Border.{Border}
-use Rattle.border.specs.declared.Class.{Class}
-use Rattle.border.specs.declared.Class.the-variants.{Confine, Other, Road, Water, Building, Parcel}
-use Rattle.border.specs.Classes.{indexOf, isBorder, borderOf}
+use Rattle.classes.specs.declared.Class.{Class}
+use Rattle.classes.specs.declared.Class.the-variants.{Confine, Other, Road, Water, Building, Parcel}
+use Rattle.classes.specs.Classes.{indexOf}
+use Rattle.border.specs.Borders.{isBorder, borderOf}
 use Rattle.area.specs.declared.Areas.{Areas}
 use Rattle.area.specs.declared.Areas.the-variants.{Of, Wide, Missing}
 use Rattle.tally.specs.declared.Tally.{Tally}

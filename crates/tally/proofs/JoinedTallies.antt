@@ -8,14 +8,14 @@ use native.Mathlib.Omega.{arith}
 use lib.ListN.{length, length-append}
 use Rattle.record.specs.declared.Mode.{Mode}
 use Rattle.record.specs.Refusals.{fileMost}
-use Rattle.header.specs.declared.Header.{Header}
-use Rattle.machine.specs.Rows.{rowWidth}
+use Rattle.heading.specs.declared.Header.{Header}
+use Rattle.kinds.specs.Kinds.{rowWidth}
 use Rattle.sheet.specs.Tables.{Tables, _then_}
 use Rattle.sheet.specs.Reading.{sheet, reading, joined}
 use Rattle.sheet.proofs.Meaning.{reading-meaning}
 use Rattle.sheet.proofs.Join.{joining}
 use Rattle.made.specs.Made.{usedOf}
-use Rattle.writer.proofs.ReadMade.{reading-made}
+use Rattle.layout.proofs.ReadMade.{reading-made}
 use Rattle.tally.specs.declared.Tally.{Tally}
 use Rattle.tally.specs.declared.Taken.{Taken}
 use Rattle.tally.specs.declared.Refusal.the-variants.{None}

@@ -1,3 +1,4 @@
+-- The laws of `tally` and the ways through its code; `pub mod` lets other crates cite a file.
 pub mod TallyLaws
 pub mod TallyWays
 pub mod AddWays

@@ -6,7 +6,7 @@ use native.Mathlib.Omega.{arith}
 use lib.ListN.{length, take, drop, List·getD-append, take-append-drop}
 use lib.Seq.{take-at, drop-at, length-take-le, getD-take}
 use lib.IntN.{ℤ, pos}
-use Rattle.header.specs.declared.Header.{Header}
+use Rattle.heading.specs.declared.Header.{Header}
 use Rattle.sheet.specs.Tables.{Tables, _then_}
 use Rattle.made.specs.Made.{natOf, cellAt, countAt, islandsOf, pointsOf, firstOf, restOf}
 use Rattle.made.proofs.RowWays.{Held}

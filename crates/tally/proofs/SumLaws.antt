@@ -9,11 +9,12 @@ use lib.IntN.{ℤ, pos, _+ℤ_}
 use lib.Signed.{leZ}
 use Rattle.laws.proofs.Choice.{true≢false, false≢true, and-left, and-right, and-both, cond-elim}
 use Rattle.laws.proofs.Parts.{num, sum, ints, le-true}
-use Rattle.header.specs.declared.Header.{Header}
+use Rattle.heading.specs.declared.Header.{Header}
 use Rattle.sheet.specs.Tables.{Tables}
 use Rattle.made.specs.Made.{restOf}
 use Rattle.border.specs.declared.Border.{Border}
-use Rattle.border.specs.Classes.{indexOf, isBorder, borderOf}
+use Rattle.classes.specs.Classes.{indexOf}
+use Rattle.border.specs.Borders.{isBorder, borderOf}
 use Rattle.area.specs.declared.Areas.{Areas}
 use Rattle.area.specs.declared.Areas.the-variants.{Of, Wide, Missing}
 use Rattle.tally.specs.declared.Tally.{Tally}
@@ -23,7 +24,7 @@ use Rattle.tally.specs.Tally.{isTally, noFigures, emptyTally, plus, figu
 use Rattle.tally.specs.Take.{takenWith, bordersAreas, afterAdded, afterAreas, borderTaken, rowTaken, isNone, onward, tallyRows}
 use Rattle.tally.specs.Sums.{ownOf, areaFigures, areaFits, rowFigures, rowFits, rowsFigures, rowsFit}
 use Rattle.tally.proofs.TallyLaws.{plus-assoc, plus-none, plus-length, noneBelow, tally-above, tally-before}
-use Rattle.tally.proofs.AddWays.{index-most}
+use Rattle.tally.proofs.AddWays.{own-count}
 
 abbrev tallyAt : List ℤ → Tally
 tallyAt s = record { figures = s }
@@ -31,16 +32,7 @@ tallyAt s = record { figures = s }
 -- ---- lengths
 
 own-length : (b : Border) (o i : ℤ) → length (ownOf b o i) ≡ 24
-unfolding figuresOf
-own-length b o i =
-    let k = indexOf (b .class) in
-    omega (
-      arith,
-      index-most (b .class) refl,
-      length-append (replicate (4 * k) (pos 0)) (pos 1 ∷ o ∷ pos (b .islands) ∷ i ∷ replicate (4 * (5 - k)) (pos 0)),
-      length-replicate (4 * k) (pos 0),
-      length-replicate (4 * (5 - k)) (pos 0),
-    )
+own-length b o i = own-count (b .class) o (b .islands) i
 
 area-length : (b : Border) (x : Areas) → length (areaFigures b x) ≡ 24
 area-length b (Of o i) = own-length b o i

@@ -1,7 +1,7 @@
 -- The ways through the functions that take a border of a sheet, each with what the code has in hand there. Assumes nothing.
-use mathlib.Core.Path.{_≡_, sym, ap, _∙_}
+use mathlib.Core.Path.{_≡_, refl, sym, ap, _∙_, subst}
 use mathlib.Core.List.{List, []}
-use mathlib.Core.Bool.{Bool, true, false, not}
+use mathlib.Core.Bool.{Bool, true, false, cond, not}
 use Prim.Native.Nat.{ℕ, _*_, _^_, _≤_, _<_}
 use native.Mathlib.Omega.{arith}
 use lib.ListN.{length, getD, take}
@@ -12,8 +12,8 @@ use mir.Val.{Fits, toZ, ofZ}
 use borrow.Author.Tests.{not-true, not-false}
 use Rattle.laws.specs.Lists.{tail}
 use Rattle.laws.proofs.Bits.{back}
-use Rattle.laws.proofs.ListLaws.{rest-is, part-count}
-use Rattle.header.specs.declared.Header.{Header}
+use Rattle.laws.proofs.ListLaws.{part-count}
+use Rattle.heading.specs.declared.Header.{Header}
 use Rattle.sheet.specs.Tables.{Tables}
 use Rattle.record.specs.declared.Mode.the-variants.{Loose}
 use Rattle.made.specs.declared.Verdict.{Verdict}
@@ -23,65 +23,101 @@ use Rattle.made.proofs.RowWays.{made-held}
 use Rattle.row.specs.declared.Stand.{Stand}
 use Rattle.row.specs.declared.Sought.{Sought}
 use Rattle.row.specs.declared.Sought.the-variants as Sought
-use Rattle.row.specs.Walk.{leftAt}
 use Rattle.row.specs.Seek.{soughtOf}
 use Rattle.row.proofs.Walk.{tails-are}
 use Rattle.row.proofs.SeekLaws.{fine-rows, stood}
-use Rattle.border.specs.declared.Border.{Border}
-use Rattle.border.specs.Classes.{isBorder, borderOf}
-use Rattle.border.proofs.BorderLaws.{border-lists}
+use Rattle.classes.specs.declared.Class.{Class}
+use Rattle.classes.specs.Classes.{classOf, indexOf}
+use Rattle.border.specs.Borders.{isBorder, borderOf}
 use Rattle.area.specs.declared.Areas.{Areas}
 use Rattle.area.specs.declared.Areas.the-variants as Areas
 use Rattle.area.specs.BorderRings.{areasOf}
 use Rattle.tally.specs.declared.Tally.{Tally}
 use Rattle.tally.specs.declared.Added.{Added}
+use Rattle.tally.specs.declared.Refusal.{Refusal}
 use Rattle.tally.specs.declared.Refusal.the-variants.{None, Sheet, Missing, Full, Wide}
 use Rattle.tally.specs.declared.Taken.{Taken}
-use Rattle.tally.specs.Tally.{emptyTally, isTally, addOf}
-use Rattle.tally.specs.Take.{takenWith, afterAdded, afterAreas, borderTaken, rowTaken, takenAt, takenOf, tallyRows, afterVerdict, tallyOf}
-
-pub told-taken : (a : Added) (k : ℕ) → a .fits ≡ true → takenWith (a .tally) None ≡ afterAdded k a
-told-taken a k e = rw e
-
-pub told-full : (a : Added) (k : ℕ) → a .fits ≡ false → takenWith (a .tally) (Full k) ≡ afterAdded k a
-told-full a k e = rw e
+use Rattle.tally.specs.Tally.{emptyTally, isTally, addOf, Good, tallyOn, grown}
+use Rattle.tally.specs.Take.{takenWith, afterAdded, afterAreas, Took, borderTaken, rowTaken, frontTaken, takenAt, takenOf, tallyRows, afterVerdict, tallyOf}
+use Rattle.tally.proofs.AddWays.{grown-good}
 
 -- ---- the border, and the row, at the front of the tables
 
-module _ (h : Header) (k : ℕ) (rows : List ℤ) (letters islands : List ℕ) (points : List ℤ) (a : Tally) where
+module _ (h : Header) (k : ℕ) (rows : List ℤ) (letters islands : List ℕ) (points : List ℤ) where
   abbrev front : Tables
   front = tablesOf rows letters islands points
 
-  module _ (n : ℕ) (p : n ≡ natOf (getD rows 10 (pos 0))) where
-    pub islands-part : isMade front ≡ true → n ≡ length (take n islands)
-    islands-part m = part-count n islands (omega (arith, made-held front m .islands, p))
+  module _ (m : isMade front ≡ true) (n : ℕ) where
+    pub letters-part : n ≡ natOf (getD rows 9 (pos 0)) → n ≡ length (take n letters)
+    letters-part p = part-count n letters (omega (arith, made-held front m .letters, p))
 
-    module _ (v : ℕ) (q : v ≡ natOf (getD rows 11 (pos 0))) (r : Areas) (e : r ≡ areasOf v (take n islands) points) where
-      found : (x : Areas) → r ≡ x → afterAreas h k front a x ≡ borderTaken h k front a
+    pub islands-part : n ≡ natOf (getD rows 10 (pos 0)) → n ≡ length (take n islands)
+    islands-part p = part-count n islands (omega (arith, made-held front m .islands, p))
+
+  module _ (s : List ℤ) (g : Good s) where
+    module _ (n : ℕ) (p : n ≡ natOf (getD rows 10 (pos 0))) (v : ℕ) (q : v ≡ natOf (getD rows 11 (pos 0))) (r : Areas) (e : r ≡ areasOf v (take n islands) points) where
+      found : (x : Areas) → r ≡ x → afterAreas h k front (tallyOn s) x ≡ borderTaken h k front (tallyOn s)
       unfolding borderTaken
       found x f = rw (← f, e, p, q)
 
-      pub border-missing : r ≡ Areas.Missing → takenWith a Missing ≡ borderTaken h k front a
-      border-missing f = found Areas.Missing f
+      kept : (x : Areas) → r ≡ x → (z : Refusal) → afterAreas h k front (tallyOn s) x ≡ takenWith (tallyOn s) z → Took (borderTaken h k front (tallyOn s)) s z
+      kept x f z w = subst (λ (y : Taken). Took y s z) (sym w ∙ found x f) (record { tally-is = refl; refusal-is = refl; good = g })
 
-      pub border-wide : r ≡ Areas.Wide → takenWith a (Wide k) ≡ borderTaken h k front a
-      border-wide f = found Areas.Wide f
+      pub border-missing : r ≡ Areas.Missing → Took (borderTaken h k front (tallyOn s)) s Missing
+      border-missing f = kept Areas.Missing f Missing refl
 
-      pub border-told : (o i : ℤ) → r ≡ Areas.Of o i → mag o < 2 ^ 63 → mag i < 2 ^ 63
-          → (b : Border) → b ≡ borderOf h (tablesOf rows letters [] []) → (x : Added) → x ≡ addOf a b (toZ w64 (ofZ w64 o)) (toZ w64 (ofZ w64 i))
-          → (y : Taken) → y ≡ afterAdded k x → y ≡ borderTaken h k front a
-      border-told o i f u w b s x t y z = rw (z, t, s, border-lists h front, back o u, back i w) (found (Areas.Of o i) f)
+      pub border-wide : r ≡ Areas.Wide → Took (borderTaken h k front (tallyOn s)) s (Wide k)
+      border-wide f = kept Areas.Wide f (Wide k) refl
 
-  module _ (b : Bool) (o : b ≡ isBorder (tablesOf rows [] [] [])) where
-    pub row-none : not b ≡ true → takenWith a None ≡ rowTaken h k front a
-    unfolding rowTaken
-    row-none e = rw (← o, not-true b e)
+      module _ (o i : ℤ) (f : r ≡ Areas.Of o i) (u : mag o < 2 ^ 63) (w : mag i < 2 ^ 63) (l : ℕ) (j : l ≡ natOf (getD rows 9 (pos 0)))
+          (c : Class) (d : c ≡ classOf (h .kind) (h .name) (take l letters)) {x : Bool} {z : List ℤ}
+          (a : (x ≡ grown s (indexOf c) (toZ w64 (ofZ w64 o)) n (toZ w64 (ofZ w64 i)) .fits) × (z ≡ grown s (indexOf c) (toZ w64 (ofZ w64 o)) n (toZ w64 (ofZ w64 i)) .tally .figures)) where
+        abbrev added : Added
+        added = grown s (indexOf c) o n i
 
-    pub row-taken : not b ≡ false → (x : Taken) → x ≡ borderTaken h k front a → x ≡ rowTaken h k front a
-    unfolding rowTaken
-    row-taken e x q = q ∙ rw (← o, not-false b e)
+        fits-is : x ≡ added .fits
+        fits-is = rw (back o u, back i w) at (a .0)
 
-pub ruleset border-ways = (border-missing, border-wide, border-told)
+        figures-are : z ≡ added .tally .figures
+        figures-are = rw (back o u, back i w) at (a .1)
+
+        all : afterAdded k added ≡ borderTaken h k front (tallyOn s)
+        unfolding addOf borderOf
+        all = (rw (d, j, p)) ∙ found (Areas.Of o i) f
+
+        told : (y : Refusal) → cond x None (Full k) ≡ y → Took (borderTaken h k front (tallyOn s)) z y
+        told y t =
+            subst (λ (b : Taken). Took b z y) all
+            (record { tally-is = ap tallyOn figures-are; refusal-is = sym t ∙ ap (λ (b : Bool). cond b None (Full k)) fits-is; good = subst Good (sym figures-are) (grown-good s g c o n i) })
+
+        pub border-taken : x ≡ true → Took (borderTaken h k front (tallyOn s)) z None
+        border-taken t = told None (rw t)
+
+        pub border-full : x ≡ false → Took (borderTaken h k front (tallyOn s)) z (Full k)
+        border-full t = told (Full k) (rw t)
+
+    module _ (b : Bool) (o : b ≡ isBorder (tablesOf rows [] [] [])) where
+      pub row-none : b ≡ false → Took (rowTaken h k front (tallyOn s)) s None
+      unfolding rowTaken
+      row-none e = rw (← o, e) (record { tally-is = refl; refusal-is = refl; good = g })
+
+      pub row-taken : b ≡ true → {z : List ℤ} {r : Refusal} → Took (borderTaken h k front (tallyOn s)) z r → Took (rowTaken h k front (tallyOn s)) z r
+      unfolding rowTaken
+      row-taken e t = rw (← o, e) t
+
+  -- a tally that is handed in
+  module _ (a : Tally) (b : Bool) (o : b ≡ isBorder (tablesOf rows [] [] [])) where
+    pub front-none : not b ≡ true → takenWith a Missing ≡ frontTaken h k front a
+    front-none e = rw (← o, not-true b e)
+
+    module _ (e : not b ≡ false) (x : Bool) (q : x ≡ isTally (a .figures)) where
+      pub front-full : not x ≡ true → takenWith a (Full k) ≡ frontTaken h k front a
+      front-full f = rw (← o, not-false b e, ← q, not-true x f)
+
+      pub front-is : not x ≡ false → {z : List ℤ} {r : Refusal} → Took (borderTaken h k front a) z r → takenWith (tallyOn z) r ≡ frontTaken h k front a
+      front-is f t = rw (← o, not-false b e, ← q, not-false x f, t .tally-is, t .refusal-is)
+
+pub ruleset border-ways = (border-missing, border-wide)
 
 pub ruleset row-ways = (row-none, row-taken)
 
@@ -130,19 +166,8 @@ module _ (a : Tally) (h : Header) (count : ℕ) (rows : List ℤ) (letters islan
     pub part-made : isMade part ≡ true
     part-made = rw (tails-are sheet d) (stood h count sheet k d r e f .made)
 
-    module _ (b : Bool) (o : b ≡ isBorder (tablesOf (tail rows (d .row)) [] [] [])) where
-      kind-is : b ≡ isBorder (leftAt sheet d)
-      kind-is = o ∙ ap (λ (l : List ℤ). isBorder (tablesOf l [] [] [])) (rest-is rows (d .row))
-
-      pub take-none : not b ≡ true → takenWith a Missing ≡ takenOf a h count sheet k
-      take-none u = rw (← kind-is, not-true b u) at (sought (Sought.At d) f)
-
-      module _ (u : not b ≡ false) (x : Bool) (q : x ≡ isTally (a .figures)) where
-        pub take-full : not x ≡ true → takenWith a (Full k) ≡ takenOf a h count sheet k
-        take-full w = rw (← kind-is, not-false b u, ← q, not-true x w) at (sought (Sought.At d) f)
-
-        pub take-is : not x ≡ false → (y : Taken) → y ≡ borderTaken h k part a → y ≡ takenOf a h count sheet k
-        take-is w y z = z ∙ ap (λ (t : Tables). borderTaken h k t a) (tails-are sheet d) ∙ (rw (← kind-is, not-false b u, ← q, not-false x w) at (sought (Sought.At d) f))
+    pub take-is : (y : Taken) → y ≡ frontTaken h k part a → y ≡ takenOf a h count sheet k
+    take-is y q = q ∙ ap (λ (t : Tables). frontTaken h k t a) (tails-are sheet d) ∙ sought (Sought.At d) f
 
 pub ruleset stand-ways = (row-in, letters-in, islands-in, points-in, row-fits, islands-fit, points-fit, part-made)
 

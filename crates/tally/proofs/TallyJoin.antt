@@ -8,15 +8,15 @@ use lib.ListN.{length}
 use lib.IntN.{ℤ}
 use Rattle.laws.proofs.Choice.{false≢true, and-left, and-right, and-both}
 use Rattle.record.specs.declared.Mode.the-variants.{Loose}
-use Rattle.header.specs.declared.Header.{Header}
-use Rattle.header.specs.Header.{isHeader}
+use Rattle.heading.specs.declared.Header.{Header}
+use Rattle.heading.specs.Heading.{isHeader}
 use Rattle.sheet.specs.Tables.{Tables, _then_}
 use Rattle.made.specs.declared.Verdict.{Verdict}
 use Rattle.made.specs.declared.Verdict.the-variants.{Fine, BadHeader, Faulty, Unlisted}
 use Rattle.made.specs.Made.{firstOf, restOf, isMade, isCoded, judgeRows, judgeOf, usedOf}
 use Rattle.made.proofs.RowWays.{Held, made-held}
 use Rattle.row.proofs.SeekLaws.{fine-rows}
-use Rattle.border.specs.Classes.{borderOf}
+use Rattle.border.specs.Borders.{borderOf}
 use Rattle.tally.specs.declared.Tally.{Tally}
 use Rattle.tally.specs.declared.Refusal.the-variants.{None}
 use Rattle.tally.specs.declared.Taken.{Taken}

@@ -4,7 +4,7 @@ use mathlib.Core.List.{List, [], _∷_}
 use mathlib.Core.Bool.{Bool, true, false, not}
 use Prim.Native.Nat.{ℕ, zero, suc, _+_, _^_, _≤_, _<_}
 use native.Mathlib.Omega.{arith}
-use lib.ListN.{length, getD, set, drop}
+use lib.ListN.{length, getD, drop}
 use lib.IntN.{ℤ, pos, _+ℤ_, _-ℤ_}
 use lib.Signed.{mag, ltZ, leZ}
 use mir.Syntax.{w64}
@@ -16,9 +16,8 @@ use Rattle.laws.proofs.Chains.{and-on, and-off, and-off-second}
 use Rattle.laws.proofs.Parts.{num, sum, diff, ints, parts-fit, le-true, lt-true, le-not-lt}
 use Rattle.laws.proofs.Bits.{back}
 use Rattle.laws.proofs.ListLaws.{left, left-none}
-use Rattle.tally.specs.declared.Added.{Added}
 use Rattle.tally.proofs.TallyLaws.{figure-from, figure-to}
-use Rattle.tally.specs.Tally.{limit, isFigure, isTally, raise, raisedOf, refusedAt}
+use Rattle.tally.specs.Tally.{limit, isFigure, isTally, isFit}
 
 -- a signed number in a local
 abbrev bits : ℤ → ℤ
@@ -60,17 +59,10 @@ tally-at [] i e = refl
 tally-at (z ∷ s) zero e = and-left (isFigure z) (isTally s) e
 tally-at (z ∷ s) (suc i) e = tally-at s i (and-right (isFigure z) (isTally s) e)
 
-pub tally-set : (s : List ℤ) (i : ℕ) (z : ℤ) → isTally s ≡ true → isFigure z ≡ true → isTally (set s i z) ≡ true
-unfolding isTally
-tally-set [] i z e f = refl
-tally-set (y ∷ s) zero z e f = and-both (isFigure z) (isTally s) f (and-right (isFigure y) (isTally s) e)
-tally-set (y ∷ s) (suc i) z e f =
-    and-both (isFigure y) (isTally (set s i z)) (and-left (isFigure y) (isTally s) e) (tally-set s i z (and-right (isFigure y) (isTally s) e) f)
-
--- ---- a figure that is raised: the sum keeps the limit just where the figure is at most what is left of it
+-- ---- a figure that grows: the sum keeps the limit just where the figure is at most what is left of it
 
 module _ (z : ℤ) (e : isFigure z ≡ true) where
-  figure-fits : SFits w64 z
+  pub figure-fits : SFits w64 z
   figure-fits =
       let a = figure-from z e in
       let b = figure-to z e in
@@ -83,13 +75,13 @@ module _ (z : ℤ) (e : isFigure z ≡ true) where
       parts-fit (pos limit -ℤ z) (omega (arith, ints, num z, diff (pos limit) z)) (omega (arith, ints, num z, diff (pos limit) z))
 
 module _ (y z : ℤ) (d : isFigure y ≡ true) (e : isFigure z ≡ true) where
-  sum-past : ltZ (pos limit -ℤ z) y ≡ true → isFigure (y +ℤ z) ≡ false
+  sum-past : leZ y (pos limit -ℤ z) ≡ false → isFigure (y +ℤ z) ≡ false
   unfolding isFigure
   sum-past t =
       sym (and-off-second (leZ (pos 0) (y +ℤ z)) (leZ (y +ℤ z) (pos limit))
       (le-not-lt (y +ℤ z) (pos limit) true (lt-true (pos limit) (y +ℤ z) (omega (arith, ints, num z, num y, sum y z, diff (pos limit) z)))))
 
-  sum-within : ltZ (pos limit -ℤ z) y ≡ false → isFigure (y +ℤ z) ≡ true
+  sum-within : leZ y (pos limit -ℤ z) ≡ true → isFigure (y +ℤ z) ≡ true
   unfolding isFigure
   sum-within t =
       let a = figure-from y d in
@@ -97,42 +89,28 @@ module _ (y z : ℤ) (d : isFigure y ≡ true) (e : isFigure z ≡ true) where
       and-both (leZ (pos 0) (y +ℤ z)) (leZ (y +ℤ z) (pos limit)) (le-true (pos 0) (y +ℤ z) (omega (arith, ints, num z, num y, sum y z)))
       (le-true (y +ℤ z) (pos limit) (omega (arith, ints, num z, num y, sum y z, diff (pos limit) z)))
 
--- as the code has it: a figure of the tally, in a local
-module _ (a : Added) (i : ℕ) (z : ℤ) (f : SFits w64 z) (h : isTally (a .tally .figures) ≡ true) where
-  abbrev y : ℤ
-  y = getD (a .tally .figures) i (pos 0)
+  sum-judged : leZ y (pos limit -ℤ z) ≡ isFigure (y +ℤ z)
+  sum-judged = go (leZ y (pos limit -ℤ z)) refl
+    where
+      go : (t : Bool) → leZ y (pos limit -ℤ z) ≡ t → t ≡ isFigure (y +ℤ z)
+      go true t = sym (sum-within t)
+      go false t = sym (sum-past t)
 
-  module _ {r : Added} (q : r ≡ refusedAt (a .tally)) where
-    pub raised-shut : not (a .fits) ≡ true → r ≡ raisedOf a i z
-    unfolding raisedOf
-    raised-shut e = q ∙ rw (not-true (a .fits) e)
+-- as the code has it
+module _ (y z : ℤ) (f : SFits w64 y) (g : SFits w64 z) {b : Bool} (p : b ≡ isFigure (bits z)) where
+  pub fit-none : not b ≡ true → false ≡ isFit y z
+  unfolding isFit
+  fit-none t = rw (sym (ap isFigure (toZ-ofZ g)) ∙ sym p ∙ not-true b t)
 
-    pub raised-none : not (a .fits) ≡ false → {b : Bool} → b ≡ isFigure (bits z) → not b ≡ true → r ≡ raisedOf a i z
-    unfolding raisedOf
-    raised-none e {b} p t = q ∙ rw (not-false (a .fits) e, sym (ap isFigure (toZ-ofZ f)) ∙ sym p ∙ not-true b t)
+  module _ (t : not b ≡ false) where
+    more-is : isFigure z ≡ true
+    more-is = sym (ap isFigure (toZ-ofZ g)) ∙ sym p ∙ not-false b t
 
-  pub left-asked : {b : Bool} → b ≡ isFigure (bits z) → not b ≡ false → SFits w64 (pos limit -ℤ bits z)
-  left-asked {b} p t = rw (toZ-ofZ f) (left-fits z (sym (ap isFigure (toZ-ofZ f)) ∙ sym p ∙ not-false b t))
+    pub fit-asked : SFits w64 (pos limit -ℤ bits z)
+    fit-asked = rw (toZ-ofZ g) (left-fits z more-is)
 
-  module _ (e : not (a .fits) ≡ false) {b : Bool} (p : b ≡ isFigure (bits z)) (t : not b ≡ false) (m : mag y < 2 ^ 63) where
-    test : {o : Bool} → ltZ (toZ w64 (ofZ w64 (pos limit -ℤ bits z))) (bits y) ≡ o → ltZ (pos limit -ℤ z) y ≡ o
-    test k = rw (toZ-ofZ f, toZ-ofZ (left-fits z (sym (ap isFigure (toZ-ofZ f)) ∙ sym p ∙ not-false b t)), back y m) at k
+    pub fit-is : isFigure y ≡ true → leZ (bits y) (toZ w64 (ofZ w64 (pos limit -ℤ bits z))) ≡ isFit y z
+    unfolding isFit
+    fit-is d = rw (toZ-ofZ f, toZ-ofZ g, toZ-ofZ (left-fits z more-is), more-is) (sum-judged y z d more-is)
 
-    pub raised-past : {r : Added} → r ≡ refusedAt (a .tally) → ltZ (toZ w64 (ofZ w64 (pos limit -ℤ bits z))) (bits y) ≡ true → r ≡ raisedOf a i z
-    unfolding raisedOf
-    raised-past q k =
-        let g : isFigure z ≡ true = sym (ap isFigure (toZ-ofZ f)) ∙ sym p ∙ not-false b t in
-        q ∙ rw (not-false (a .fits) e, g, sum-past y z (tally-at (a .tally .figures) i h) g (test k))
-
-    module _ (k : ltZ (toZ w64 (ofZ w64 (pos limit -ℤ bits z))) (bits y) ≡ false) where
-      raised-within : isFigure (y +ℤ z) ≡ true
-      raised-within = sum-within y z (tally-at (a .tally .figures) i h) (sym (ap isFigure (toZ-ofZ f)) ∙ sym p ∙ not-false b t) (test k)
-
-      pub sum-asked : SFits w64 (bits y +ℤ bits z)
-      sum-asked = rw (back y m, toZ-ofZ f) (figure-fits (y +ℤ z) raised-within)
-
-      pub raised-is : record { fits = true; tally = record { figures = set (a .tally .figures) i (toZ w64 (ofZ w64 (bits y +ℤ bits z))) } } ≡ raisedOf a i z
-      unfolding raisedOf raise
-      raised-is = rw (toZ-ofZ sum-asked, back y m, toZ-ofZ f, not-false (a .fits) e, sym (ap isFigure (toZ-ofZ f)) ∙ sym p ∙ not-false b t, raised-within)
-
-pub ruleset raised-ways = (raised-shut, raised-none, left-asked, raised-past, sum-asked, raised-is)
+pub ruleset fit-ways = (fit-none, fit-asked, fit-is)

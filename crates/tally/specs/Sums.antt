@@ -4,11 +4,12 @@ use mathlib.Core.List.{List}
 use mathlib.Core.Bool.{Bool, true, false, cond, _&&_}
 use lib.ListN.{getD}
 use lib.IntN.{ℤ, pos, _+ℤ_}
-use Rattle.header.specs.declared.Header.{Header}
+use Rattle.heading.specs.declared.Header.{Header}
 use Rattle.sheet.specs.Tables.{Tables}
 use Rattle.made.specs.Made.{restOf}
 use Rattle.border.specs.declared.Border.{Border}
-use Rattle.border.specs.Classes.{indexOf, isBorder, borderOf}
+use Rattle.classes.specs.Classes.{indexOf}
+use Rattle.border.specs.Borders.{isBorder, borderOf}
 use Rattle.area.specs.declared.Areas.{Areas}
 use Rattle.area.specs.declared.Areas.the-variants.{Of, Wide, Missing}
 use Rattle.tally.specs.Tally.{isTally, noFigures, plus, figuresOf}

@@ -1,12 +1,16 @@
 -- A border of a sheet taken into a running tally, and the tally of a whole sheet: document 01, "Areas": "Borders go in row order, 17 before 18,
 -- the refusal naming the row". Assumes nothing: these are definitions.
 use Prim.Native.Nat.{ℕ, zero, suc, _+_}
+use mathlib.Core.Path.{_≡_}
+use mathlib.Core.List.{List}
 use mathlib.Core.Bool.{Bool, true, false, cond}
+use lib.IntN.{ℤ}
 use Rattle.record.specs.declared.Mode.the-variants.{Loose}
 use Rattle.record.specs.Refusals.{tooWide, pastLimit, noSuch}
-use Rattle.machine.specs.Rows.{verticesPlace}
-use Rattle.header.specs.declared.Header.{Header}
+use Rattle.kinds.specs.Kinds.{verticesPlace}
+use Rattle.heading.specs.declared.Header.{Header}
 use Rattle.sheet.specs.Tables.{Tables}
+use Rattle.made.specs.declared.Fault.{Fault}
 use Rattle.made.specs.declared.Verdict.{Verdict}
 use Rattle.made.specs.declared.Verdict.the-variants.{Fine, BadHeader, Faulty, Unlisted}
 use Rattle.made.specs.Made.{countAt, islandsOf, restOf, judgeOf}
@@ -14,7 +18,7 @@ use Rattle.row.specs.declared.Sought.{Sought}
 use Rattle.row.specs.declared.Sought.the-variants as Sought
 use Rattle.row.specs.Walk.{leftAt}
 use Rattle.row.specs.Seek.{soughtOf}
-use Rattle.border.specs.Classes.{isBorder, borderOf}
+use Rattle.border.specs.Borders.{isBorder, borderOf}
 use Rattle.area.specs.declared.Areas.{Areas}
 use Rattle.area.specs.declared.Areas.the-variants as Areas
 use Rattle.area.specs.BorderRings.{areasOf}
@@ -23,7 +27,7 @@ use Rattle.tally.specs.declared.Added.{Added}
 use Rattle.tally.specs.declared.Refusal.{Refusal}
 use Rattle.tally.specs.declared.Refusal.the-variants.{None, Sheet, Missing, Full, Wide}
 use Rattle.tally.specs.declared.Taken.{Taken}
-use Rattle.tally.specs.Tally.{emptyTally, isTally, addOf}
+use Rattle.tally.specs.Tally.{emptyTally, isTally, Good, tallyOn, addOf}
 
 abbrev pub takenWith : Tally → Refusal → Taken
 takenWith a r = record { tally = a; refusal = r }
@@ -46,15 +50,23 @@ afterAreas h k t a Areas.Missing = takenWith a Missing
 unfoldable pub borderTaken : Header → ℕ → Tables → Tally → Taken
 borderTaken h k t a = afterAreas h k t a (bordersAreas t)
 
+-- what is answered, where the figures are altered in place
+pub record Took (x : Taken) (figures : List ℤ) (r : Refusal) : Type 0 where
+  pub tally-is : tallyOn figures ≡ x .tally
+  pub refusal-is : r ≡ x .refusal
+  pub good : Good figures
+
 -- any other row alters nothing
 unfoldable pub rowTaken : Header → ℕ → Tables → Tally → Taken
 rowTaken h k t a = cond (isBorder t) (borderTaken h k t a) (takenWith a None)
 
 -- ---- a running tally takes row k: 6, 15, 19, then 18 for the tally handed in, then 17, then 18. Refused, it is as it was handed in
 
+abbrev pub frontTaken : Header → ℕ → Tables → Tally → Taken
+frontTaken h k t a = cond (isBorder t) (cond (isTally (a .figures)) (borderTaken h k t a) (takenWith a (Full k))) (takenWith a Missing)
+
 abbrev pub takenAt : Header → Tables → ℕ → Tally → Sought → Taken
-takenAt h t k a (Sought.At d) =
-    cond (isBorder (leftAt t d)) (cond (isTally (a .figures)) (borderTaken h k (leftAt t d) a) (takenWith a (Full k))) (takenWith a Missing)
+takenAt h t k a (Sought.At d) = frontTaken h k (leftAt t d) a
 takenAt h t k a Sought.Missing = takenWith a Missing
 takenAt h t k a (Sought.Refused v) = takenWith a (Sheet v)
 
@@ -101,3 +113,7 @@ rowOf (Sheet v) = Rattle.made.specs.Made.rowOf v
 rowOf Missing = 0
 rowOf (Full k) = k
 rowOf (Wide k) = k
+
+-- 17 and 18 name the row
+abbrev pub refusedOf : Refusal → Fault
+refusedOf r = record { number = numberOf r; row = rowOf r }

@@ -1,12 +1,13 @@
 -- Tallies: document 01, "Areas": "for each class, borders, outer total, islands, island total". Assumes nothing: these are definitions.
 use Prim.Native.Nat.{ℕ, _-_, _*_}
+use mathlib.Core.Path.{_≡_}
 use mathlib.Core.List.{List, [], _∷_, _++_}
 use mathlib.Core.Bool.{Bool, true, false, cond, _&&_}
-use lib.ListN.{getD, set, replicate}
+use lib.ListN.{length, replicate}
 use lib.IntN.{ℤ, pos, _+ℤ_}
 use lib.Signed.{leZ}
 use Rattle.border.specs.declared.Border.{Border}
-use Rattle.border.specs.Classes.{indexOf}
+use Rattle.classes.specs.Classes.{indexOf}
 use Rattle.tally.specs.declared.Tally.{Tally}
 use Rattle.tally.specs.declared.Added.{Added}
 
@@ -55,13 +56,23 @@ withFigures t own =
 unfoldable pub addOf : Tally → Border → ℤ → ℤ → Added
 addOf t b outer inner = withFigures t (figuresOf (indexOf (b .class)) outer (pos (b .islands)) inner)
 
--- ---- a step of it
+-- ---- a class's four figures, in place
 
--- one figure raised, where nothing was refused before
-unfoldable pub raise : List ℤ → ℕ → ℤ → List ℤ
-raise s i z = set s i (getD s i (pos 0) +ℤ z)
+-- what is added to a figure is one, and so is the sum
+unfoldable pub isFit : ℤ → ℤ → Bool
+isFit y z = isFigure z && isFigure (y +ℤ z)
 
-unfoldable pub raisedOf : Added → ℕ → ℤ → Added
-raisedOf a i z =
-    cond (a .fits && (isFigure z && isFigure (getD (a .tally .figures) i (pos 0) +ℤ z))) (record { fits = true; tally = record { figures = raise (a .tally .figures) i z } })
-    (refusedAt (a .tally))
+unfoldable pub areFit : ℤ → ℤ → ℤ → ℤ → ℤ → ℕ → ℤ → Bool
+areFit a b c d outer n inner = isFit a (pos 1) && (isFit b outer && (isFit c (pos n) && isFit d inner))
+
+-- the figures of a tally
+pub record Good (s : List ℤ) : Type 0 where
+  pub each : isTally s ≡ true
+  pub count : length s ≡ figureCount
+
+abbrev pub tallyOn : List ℤ → Tally
+tallyOn s = record { figures = s }
+
+-- figures with those of a border of class k that has n islands
+abbrev pub grown : List ℤ → ℕ → ℤ → ℕ → ℤ → Added
+grown s k outer n inner = withFigures (tallyOn s) (figuresOf k outer (pos n) inner)

@@ -2,26 +2,35 @@
 // All of it is proved, and no public function has a `requires`.
 ghost use mathlib.Core.Path.{_≡_};
 ghost use mathlib.Core.Bool.{true};
-ghost use Prim.Native.Nat.{_<_};
+ghost use lib.ListN.{length};
 ghost use Rattle.record.specs.declared.Mode.the-variants.{Loose};
 ghost use Rattle.made.specs.declared.Verdict.the-variants.{Fine};
 ghost use Rattle.made.specs.Made.{tablesOf, isMade, judgeRows};
-ghost use Rattle.tally.specs.Tally.{figureCount, emptyTally, isFigure, isTally, refusedAt, raisedOf, addOf};
-ghost use Rattle.tally.specs.Take.{afterAdded, borderTaken, rowTaken, takenOf, isNone, tallyRows, tallyOf};
+ghost use Rattle.row.specs.Walk.{leftAt, Stands};
+ghost use Rattle.classes.specs.Classes.{indexOf};
+ghost use Rattle.tally.specs.Tally.{emptyTally, isFigure, isTally, isFit, areFit, Good, tallyOn, grown, addOf};
+ghost use Rattle.tally.specs.Take.{Took, borderTaken, rowTaken, frontTaken, takenOf, isNone, tallyRows, tallyOf, refusedOf};
 use area::Areas;
 use area::areas_of;
 use border::Border;
-use border::border_of;
-use border::index_of;
 use border::is_border;
-use header::Header;
+use classes::Class;
+use classes::class_of;
+use classes::index_of;
+use heading::Header;
+use made::Fault;
 use made::Verdict;
 use made::count_at;
+use made::fault_of;
 use made::judge;
 use record::Mode;
+use record::refusal::NO_SUCH;
+use record::refusal::PAST_LIMIT;
+use record::refusal::TOO_WIDE;
 use row::Sought;
 use row::Stand;
 use row::seek;
+use row::stand_next;
 
 // The classes in their order, each with its four figures.
 pub struct Tally {
@@ -51,8 +60,6 @@ pub struct Taken {
 }
 
 const FIGURES: usize = 24;
-
-const ROW_WIDTH: usize = 12;
 
 const LETTERS_PLACE: usize = 9;
 
@@ -98,121 +105,151 @@ fn is_tally(t: Tally) -> bool
     true
 }
 
-// It does not fit.
-fn refused(t: Tally) -> Added
-    ensures { λ r. ⌜ r ≡ refusedAt t ⌝ }
+// A figure and what is added to it are figures, and so is their sum. It is only taken where it keeps the limit.
+fn is_fit(figure: i64, more: i64) -> bool
+    requires { ⌜ isFigure figure ≡ true ⌝ }
+    ensures { λ r. ⌜ r ≡ isFit figure more ⌝ }
 {
-    Added {
-        fits: false,
-        tally: t,
-    }
-}
-
-// Figure i raised, where nothing was refused before. The sum is only taken where it keeps the limit.
-fn raised(a: Added, i: usize, more: i64) -> Added
-    requires { ⌜ (isTally (a .tally .figures) ≡ true) × (i < figureCount) ⌝ }
-    ensures { λ r. ⌜ r ≡ raisedOf a i more ⌝ }
-{
-    let t = a.tally;
-    let fits = a.fits;
-    if !fits {
-        return refused(t);
-    }
     if !is_figure(more) {
-        return refused(t);
+        return false;
     }
-    let figure = t.figures[i];
-    if figure > LIMIT - more {
-        return refused(t);
-    }
-    let mut u = t;
-    u.figures[i] = figure + more;
-    Added {
-        fits: true,
-        tally: u,
-    }
+    figure <= LIMIT - more
 }
 
-// The tally with a border of these areas. It is judged after the whole border, and refused alters nothing.
+// A class's four figures with those of a border.
+fn are_fit(a: i64, b: i64, c: i64, d: i64, outer: i64, islands: usize, inner: i64) -> bool
+    requires { ⌜ (isFigure a ≡ true) × (isFigure b ≡ true) × (isFigure c ≡ true) × (isFigure d ≡ true) ⌝ }
+    ensures { λ r. ⌜ r ≡ areFit a b c d outer islands inner ⌝ }
+{
+    if islands > MOST {
+        return false;
+    }
+    if !is_fit(a, 1) {
+        return false;
+    }
+    if !is_fit(b, outer) {
+        return false;
+    }
+    if !is_fit(c, islands as i64) {
+        return false;
+    }
+    is_fit(d, inner)
+}
+
+// The figures take those of a border in place. It is judged after the whole border, and refused alters nothing.
+fn grow(figures: &mut [i64; 24], class: Class, outer: i64, islands: usize, inner: i64) -> bool
+    requires { ⌜ Good (now figures) ⌝ }
+    ensures { λ r. ⌜ (r ≡ grown (now (figures .entry)) (indexOf class) outer islands inner .fits) × (now (figures .exit) ≡ grown (now (figures .entry)) (indexOf class) outer islands inner .tally .figures) ⌝ }
+{
+    let k = CLASS_FIGURES * index_of(class);
+    let a = figures[k];
+    let b = figures[k + 1];
+    let c = figures[k + 2];
+    let d = figures[k + 3];
+    if !are_fit(a, b, c, d, outer, islands, inner) {
+        return false;
+    }
+    figures[k] = a + 1;
+    figures[k + 1] = b + outer;
+    figures[k + 2] = c + islands as i64;
+    figures[k + 3] = d + inner;
+    true
+}
+
+// The tally with a border of these areas.
 pub fn add(t: Tally, b: Border, outer: i64, inner: i64) -> Added
     ensures { λ r. ⌜ r ≡ addOf t b outer inner ⌝ }
 {
     if !is_tally(t) {
-        return refused(t);
-    }
-    let n = b.islands;
-    if n > MOST {
-        return refused(t);
-    }
-    let class = b.class;
-    let k = CLASS_FIGURES * index_of(class);
-    let borders = raised(
-        Added {
-            fits: true,
+        return Added {
+            fits: false,
             tally: t,
-        },
-        k,
-        1,
-    );
-    let outers = raised(borders, k + 1, outer);
-    let islands = raised(outers, k + 2, n as i64);
-    let inners = raised(islands, k + 3, inner);
-    let fits = inners.fits;
-    if !fits {
-        return refused(t);
-    }
-    inners
-}
-
-// 18 names the row.
-fn told(a: Added, row: usize) -> Taken
-    ensures { λ r. ⌜ r ≡ afterAdded row a ⌝ }
-{
-    let tally = a.tally;
-    let fits = a.fits;
-    if fits {
-        return Taken {
-            tally,
-            refusal: Refusal::None,
         };
     }
-    Taken {
-        tally,
-        refusal: Refusal::Full(row),
-    }
+    let mut figures = t.figures;
+    let class = b.class;
+    let fits = grow(&mut figures, class, outer, b.islands, inner);
+    let tally = Tally { figures };
+    Added { fits, tally }
 }
 
 // The border at the front of the tables, which is row `row` of the sheet: 17 for any of its rings, then 18.
 fn take_border(
-    t: Tally,
+    figures: &mut [i64; 24],
     header: Header,
     row: usize,
     rows: &[i64],
     letters: &[u8],
     islands: &[u16],
     points: &[i64],
-) -> Taken
-    requires { ⌜ isMade (tablesOf (now rows) (now letters) (now islands) (now points)) ≡ true ⌝ }
-    ensures { λ r. ⌜ r ≡ borderTaken header row (tablesOf (now (rows .entry)) (now (letters .entry)) (now (islands .entry)) (now (points .entry))) t ⌝ }
+) -> Refusal
+    requires { ⌜ Good (now figures) × (isMade (tablesOf (now rows) (now letters) (now islands) (now points)) ≡ true) ⌝ }
+    ensures { λ r. ⌜ Took (borderTaken header row (tablesOf (now (rows .entry)) (now (letters .entry)) (now (islands .entry)) (now (points .entry))) (tallyOn (now (figures .entry)))) (now (figures .exit)) r ⌝ }
 {
     let n = count_at(rows, ISLANDS_PLACE);
     match areas_of(count_at(rows, VERTICES_PLACE), &islands[..n], points) {
-        Areas::Missing => Taken {
-            tally: t,
-            refusal: Refusal::Missing,
-        },
-        Areas::Wide => Taken {
-            tally: t,
-            refusal: Refusal::Wide(row),
-        },
+        Areas::Missing => Refusal::Missing,
+        Areas::Wide => Refusal::Wide(row),
         Areas::Of { outer, inner } => {
-            told(add(t, border_of(header, rows, letters), outer, inner), row)
+            let l = count_at(rows, LETTERS_PLACE);
+            if grow(figures, class_of(header, &letters[..l]), outer, n, inner) {
+                return Refusal::None;
+            }
+            Refusal::Full(row)
         }
     }
 }
 
 // The row at the front of the tables: any that is no border alters nothing.
 fn take_row(
+    figures: &mut [i64; 24],
+    header: Header,
+    row: usize,
+    rows: &[i64],
+    letters: &[u8],
+    islands: &[u16],
+    points: &[i64],
+) -> Refusal
+    requires { ⌜ Good (now figures) × (isMade (tablesOf (now rows) (now letters) (now islands) (now points)) ≡ true) ⌝ }
+    ensures { λ r. ⌜ Took (rowTaken header row (tablesOf (now (rows .entry)) (now (letters .entry)) (now (islands .entry)) (now (points .entry))) (tallyOn (now (figures .entry)))) (now (figures .exit)) r ⌝ }
+{
+    if is_border(rows) {
+        return take_border(figures, header, row, rows, letters, islands, points);
+    }
+    Refusal::None
+}
+
+// The row where a walk over the rows stands.
+fn take_here(
+    figures: &mut [i64; 24],
+    header: Header,
+    row: usize,
+    d: Stand,
+    rows: &[i64],
+    letters: &[u8],
+    islands: &[u16],
+    points: &[i64],
+) -> Refusal
+    requires { ⌜ Good (now figures) × Stands (length (now rows)) (length (now letters)) (length (now islands)) (length (now points)) d × (isMade (leftAt (tablesOf (now rows) (now letters) (now islands) (now points)) d) ≡ true) ⌝ }
+    ensures { λ r. ⌜ Took (rowTaken header row (leftAt (tablesOf (now (rows .entry)) (now (letters .entry)) (now (islands .entry)) (now (points .entry))) d) (tallyOn (now (figures .entry)))) (now (figures .exit)) r ⌝ }
+{
+    let r = d.row;
+    let l = d.letters;
+    let i = d.islands;
+    let p = d.points;
+    take_row(
+        figures,
+        header,
+        row,
+        &rows[r..],
+        &letters[l..],
+        &islands[i..],
+        &points[p..],
+    )
+}
+
+// The row at the front of the tables, which is row `row` of a sheet, into a tally that is handed in.
+fn take_at(
     t: Tally,
     header: Header,
     row: usize,
@@ -222,15 +259,24 @@ fn take_row(
     points: &[i64],
 ) -> Taken
     requires { ⌜ isMade (tablesOf (now rows) (now letters) (now islands) (now points)) ≡ true ⌝ }
-    ensures { λ r. ⌜ r ≡ rowTaken header row (tablesOf (now (rows .entry)) (now (letters .entry)) (now (islands .entry)) (now (points .entry))) t ⌝ }
+    ensures { λ r. ⌜ r ≡ frontTaken header row (tablesOf (now (rows .entry)) (now (letters .entry)) (now (islands .entry)) (now (points .entry))) t ⌝ }
 {
     if !is_border(rows) {
         return Taken {
             tally: t,
-            refusal: Refusal::None,
+            refusal: Refusal::Missing,
         };
     }
-    take_border(t, header, row, rows, letters, islands, points)
+    if !is_tally(t) {
+        return Taken {
+            tally: t,
+            refusal: Refusal::Full(row),
+        };
+    }
+    let mut figures = t.figures;
+    let refusal = take_border(&mut figures, header, row, rows, letters, islands, points);
+    let tally = Tally { figures };
+    Taken { tally, refusal }
 }
 
 // A running tally takes the border of row `row`; refused, it is as it was handed in.
@@ -260,19 +306,7 @@ pub fn take(
             let l = d.letters;
             let i = d.islands;
             let p = d.points;
-            if !is_border(&rows[r..]) {
-                return Taken {
-                    tally: t,
-                    refusal: Refusal::Missing,
-                };
-            }
-            if !is_tally(t) {
-                return Taken {
-                    tally: t,
-                    refusal: Refusal::Full(row),
-                };
-            }
-            take_border(
+            take_at(
                 t,
                 header,
                 row,
@@ -327,7 +361,7 @@ fn tally_rows(
     requires { ⌜ judgeRows Loose count 0 (tablesOf (now rows) (now letters) (now islands) (now points)) ≡ Fine ⌝ }
     ensures { λ r. ⌜ r ≡ tallyRows header count 0 (tablesOf (now (rows .entry)) (now (letters .entry)) (now (islands .entry)) (now (points .entry))) emptyTally ⌝ }
 {
-    let mut t = empty();
+    let mut figures = [0i64; 24];
     let mut d = Stand {
         row: 0,
         letters: 0,
@@ -336,38 +370,19 @@ fn tally_rows(
     };
     let mut k = 0;
     while k < count {
-        let r = d.row;
-        let l = d.letters;
-        let i = d.islands;
-        let p = d.points;
-        let left = &rows[r..];
-        let taken = take_row(
-            t,
-            header,
-            k,
-            left,
-            &letters[l..],
-            &islands[i..],
-            &points[p..],
-        );
-        let refusal = taken.refusal;
+        let refusal = take_here(&mut figures, header, k, d, rows, letters, islands, points);
         if !is_none(refusal) {
             return Taken {
                 tally: empty(),
                 refusal,
             };
         }
-        t = taken.tally;
-        d = Stand {
-            row: r + ROW_WIDTH,
-            letters: l + count_at(left, LETTERS_PLACE),
-            islands: i + count_at(left, ISLANDS_PLACE),
-            points: p + 2 * count_at(left, VERTICES_PLACE),
-        };
+        d = stand_next(rows, d);
         k += 1;
     }
+    let tally = Tally { figures };
     Taken {
-        tally: t,
+        tally,
         refusal: Refusal::None,
     }
 }
@@ -397,6 +412,28 @@ pub fn tally_sheet(
         Verdict::Unlisted(k) => Taken {
             tally: empty(),
             refusal: Refusal::Sheet(Verdict::Unlisted(k)),
+        },
+    }
+}
+
+// What was refused, in the paper's numbers.
+pub fn refused_of(r: Refusal) -> Fault
+    ensures { λ f. ⌜ f ≡ refusedOf r ⌝ }
+{
+    match r {
+        Refusal::None => Fault { number: 0, row: 0 },
+        Refusal::Sheet(v) => fault_of(v),
+        Refusal::Missing => Fault {
+            number: NO_SUCH,
+            row: 0,
+        },
+        Refusal::Full(k) => Fault {
+            number: PAST_LIMIT,
+            row: k,
+        },
+        Refusal::Wide(k) => Fault {
+            number: TOO_WIDE,
+            row: k,
         },
     }
 }

@@ -10,9 +10,6 @@ are-border-counts-requires c κs = search needs
 returns : tie.Need-returns
 returns c = search (count-ways, needs)
 
-has-field-requires : tie.Need-has-field-requires
-has-field-requires c κs = search needs
-
 returns-2 : tie.Need-returns-2
 returns-2 c = search (count-ways, needs)
 
@@ -25,4 +22,4 @@ returns-4 c = search (count-ways, needs)
 pub are-counts-spec : {M : Type 1} → statement M
 are-counts-spec =
     tie.close
-    (tie.spec are-border-counts-requires returns has-field-requires returns-2 returns-3 returns-4)
+    (tie.spec are-border-counts-requires returns returns-2 returns-3 returns-4)

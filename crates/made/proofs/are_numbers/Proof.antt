@@ -1,67 +1,62 @@
--- `made::are_numbers` meets its contract: the numbers from p on are right. Assumes nothing.
-use Rattle.made.specs.Made.{cellTest}
-use Rattle.machine.specs.Rows.{rowWidth}
-use Rattle.laws.specs.Lists.{below}
-use Prim.Native.Nat.{_≤_}
-use mathlib.Core.Path.{_≡_}
+-- `made::are_numbers` meets its contract: the ways are in `NumberWays`. Assumes nothing.
 use Rattle.made.proofs.NumberWays.{number-ways}
 use borrow.Author.Needs.{needs}
 use Rattle.made.proofs.are_numbers.Statement.{statement}
 use Rattle.made.proofs.are_numbers.Tie as tie
 
-abbrev Inv-loop : tie.InvT-loop
-Inv-loop rows kind p₀ p = (p ≤ rowWidth) × (below rowWidth (cellTest rows) ≡ below p (cellTest rows))
-
-abbrev μ-loop : tie.MeasureT-loop
-μ-loop rows kind p₀ p = p
-
-returns : tie.Need-returns Inv-loop μ-loop
+returns : tie.Need-returns
 returns c = search (number-ways, needs)
 
-count-at-requires : tie.Need-count-at-requires Inv-loop μ-loop
-count-at-requires c κs = search (number-ways, needs)
+count-at-requires : tie.Need-count-at-requires
+count-at-requires c κs = search needs
 
-loop-holds : tie.Need-loop-holds Inv-loop μ-loop
-loop-holds c = search (number-ways, needs)
+are-cells-requires : tie.Need-are-cells-requires
+are-cells-requires c κs = search needs
 
-sub-p : tie.Need-sub-p Inv-loop μ-loop
-sub-p c = search (number-ways, needs)
+are-cells-requires-2 : tie.Need-are-cells-requires-2
+are-cells-requires-2 c κs = search needs
 
-mul-is-cell : tie.Need-mul-is-cell Inv-loop μ-loop
-mul-is-cell c = search (number-ways, needs)
+are-cells-requires-3 : tie.Need-are-cells-requires-3
+are-cells-requires-3 c κs = search needs
 
-shared-slice-copy-out-is-cell : tie.Need-shared-slice-copy-out-is-cell Inv-loop μ-loop
-shared-slice-copy-out-is-cell c = search (number-ways, needs)
+are-cells-requires-4 : tie.Need-are-cells-requires-4
+are-cells-requires-4 c κs = search needs
 
-is-cell-requires : tie.Need-is-cell-requires Inv-loop μ-loop
-is-cell-requires c κs = search (number-ways, needs)
+are-cells-requires-5 : tie.Need-are-cells-requires-5
+are-cells-requires-5 c κs = search needs
 
-returns-2 : tie.Need-returns-2 Inv-loop μ-loop
+returns-2 : tie.Need-returns-2
 returns-2 c = search (number-ways, needs)
 
-loop-less : tie.Need-loop-less Inv-loop μ-loop
-loop-less c = search (number-ways, needs)
-
-loop-again : tie.Need-loop-again Inv-loop μ-loop
-loop-again c = search (number-ways, needs)
-
-returns-3 : tie.Need-returns-3 Inv-loop μ-loop
+returns-3 : tie.Need-returns-3
 returns-3 c = search (number-ways, needs)
+
+returns-4 : tie.Need-returns-4
+returns-4 c = search (number-ways, needs)
+
+returns-5 : tie.Need-returns-5
+returns-5 c = search (number-ways, needs)
+
+returns-6 : tie.Need-returns-6
+returns-6 c = search (number-ways, needs)
+
+returns-7 : tie.Need-returns-7
+returns-7 c = search (number-ways, needs)
 
 pub are-numbers-spec : {M : Type 1} → statement M
 are-numbers-spec =
     tie.close
     (tie.spec
-    Inv-loop
-    μ-loop
     returns
     count-at-requires
-    loop-holds
-    sub-p
-    mul-is-cell
-    shared-slice-copy-out-is-cell
-    is-cell-requires
+    are-cells-requires
+    are-cells-requires-2
+    are-cells-requires-3
+    are-cells-requires-4
+    are-cells-requires-5
     returns-2
-    loop-less
-    loop-again
-    returns-3)
+    returns-3
+    returns-4
+    returns-5
+    returns-6
+    returns-7)

@@ -1,5 +1,6 @@
 -- `made::are_points` meets its contract: the ways are in `TableWays`. Assumes nothing.
-use Rattle.made.proofs.TableWays.{point-ways, points-rest}
+use mathlib.Core.Path.{sym}
+use Rattle.made.proofs.TableWays.{point-ways, points-count, points-rest}
 use borrow.Author.Needs.{needs}
 use Rattle.made.proofs.are_points.Statement.{statement}
 use Rattle.made.proofs.are_points.Tie as tie
@@ -14,7 +15,7 @@ slice-aggregate-are-reals : tie.Need-slice-aggregate-are-reals
 slice-aggregate-are-reals c = search (point-ways, needs)
 
 are-reals-requires : tie.Need-are-reals-requires
-are-reals-requires c κs = search needs
+are-reals-requires c κs = let s = c .before .before .before in sym (points-count (s .args .kind) (s .args .v) (s .args .islands .now) (s .args .s .now) (c .before .if1 .left))
 
 returns-2 : tie.Need-returns-2
 returns-2 c = search (point-ways, needs)

@@ -16,8 +16,8 @@ is-outside-requires c κs = search needs
 returns-2 : tie.Need-returns-2
 returns-2 c = search (cell-ways, needs)
 
-has-field-requires : tie.Need-has-field-requires
-has-field-requires c κs = search needs
+has-requires : tie.Need-has-requires
+has-requires c κs = search needs
 
 want-at-requires : tie.Need-want-at-requires
 want-at-requires c κs = search needs
@@ -42,7 +42,7 @@ is-cell-spec =
     returns
     is-outside-requires
     returns-2
-    has-field-requires
+    has-requires
     want-at-requires
     in-range-requires
     returns-3

@@ -1,7 +1,7 @@
 -- `made::judge_rows` meets its contract: the rows passed are made, so what is left of each table begins inside it. The turn is in `JudgeWays`. Assumes nothing.
 use Prim.Native.Nat.{ℕ, _+_, _-_}
 use native.Mathlib.Omega.{arith}
-use Rattle.machine.specs.Rows.{rowWidth}
+use Rattle.kinds.specs.Kinds.{rowWidth}
 use Rattle.made.specs.Made.{tablesOf}
 use Rattle.made.proofs.JudgeWays.{Judged, judged-none, judged-all, judged-wrong, judged-strange, judged-on}
 use borrow.Author.Needs.{needs}

@@ -6,6 +6,7 @@ use lib.Signed.{ltZ}
 use mir.Syntax.{w64}
 use mir.Val.{SFits}
 use mir.Facts.{toZ-ofZ}
+use borrow.Author.Needs.{needs}
 use Rattle.plane.specs.Rings.{reach}
 use Rattle.plane.proofs.Apart.{up-fits, down-fits, below-fits, above-fits, far-above, far-below, not-above, not-below}
 use Rattle.plane.proofs.within_reach.Statement.{statement}
@@ -35,11 +36,14 @@ module _ (c : tie.Else2) where
   reached : ltZ (c .before .before .args .a +ℤ pos reach) (c .before .before .args .b) ≡ false
   reached = let s = c .before .before in simp (toZ-ofZ (s .fits .a), toZ-ofZ (s .fits .b), toZ-ofZ (up (c .before))) at (c .if2 .left)
 
-  below : SFits w64 (c .before .before .args .a -ℤ c .before .before .args .b)
+  below : SFits w64 (c .before .before .args .b -ℤ c .before .before .args .a)
   below = let s = c .before .before in below-fits (s .args .a) (s .args .b) (s .fits .a) (s .fits .b) (negative (c .before)) reached
 
 sub-result : tie.Need-sub-result
-sub-result c = let s = c .before .before in simp (toZ-ofZ (s .fits .a), toZ-ofZ (s .fits .b)) (below c)
+sub-result c = search needs
+
+sub-result-2 : tie.Need-sub-result-2
+sub-result-2 c = let s = c .before .before in simp (toZ-ofZ (s .fits .a), toZ-ofZ (s .fits .b)) (below c)
 
 returns-2 : tie.Need-returns-2
 returns-2 c = let s = c .before .before in simp (toZ-ofZ (s .fits .a), toZ-ofZ (s .fits .b), toZ-ofZ (below c)) (not-above (s .args .a) (s .args .b) (reached c))
@@ -57,8 +61,8 @@ module _ (c : tie.Else3) where
   above : SFits w64 (c .before .before .args .b -ℤ c .before .before .args .a)
   above = let s = c .before .before in above-fits (s .args .a) (s .args .b) (s .fits .a) (s .fits .b) (not-negative (c .before)) reached-3
 
-sub-result-2 : tie.Need-sub-result-2
-sub-result-2 c = let s = c .before .before in simp (toZ-ofZ (s .fits .a), toZ-ofZ (s .fits .b)) (above c)
+sub-result-3 : tie.Need-sub-result-3
+sub-result-3 c = let s = c .before .before in simp (toZ-ofZ (s .fits .a), toZ-ofZ (s .fits .b)) (above c)
 
 returns-4 : tie.Need-returns-4
 returns-4 c = let s = c .before .before in simp (toZ-ofZ (s .fits .a), toZ-ofZ (s .fits .b), toZ-ofZ (above c)) (not-below (s .args .a) (s .args .b) (reached-3 c))
@@ -66,4 +70,4 @@ returns-4 c = let s = c .before .before in simp (toZ-ofZ (s .fits .a), toZ-ofZ (
 pub within-reach-spec : {M : Type 1} → statement M
 within-reach-spec =
     tie.close
-    (tie.spec add-if2 returns sub-result returns-2 sub-if3 returns-3 sub-result-2 returns-4)
+    (tie.spec add-if2 returns sub-result sub-result-2 returns-2 sub-if3 returns-3 sub-result-3 returns-4)

@@ -1,5 +1,5 @@
 -- `tally::take_border` meets its contract: the ways are in `TakeWays`. Assumes nothing.
-use Rattle.tally.proofs.TakeWays.{islands-part, border-ways}
+use Rattle.tally.proofs.TakeWays.{letters-part, islands-part, border-ways, border-taken, border-full}
 use borrow.Author.Needs.{needs}
 use Rattle.tally.proofs.take_border.Statement.{statement}
 use Rattle.tally.proofs.take_border.Tie as tie
@@ -25,23 +25,29 @@ enum-told-2 c = search needs
 enum-known-outer : tie.Need-enum-known-outer
 enum-known-outer c = search needs
 
-border-of-requires : tie.Need-border-of-requires
-border-of-requires c κs = search needs
+count-at-requires-3 : tie.Need-count-at-requires-3
+count-at-requires-3 c κs = search needs
 
-add-requires : tie.Need-add-requires
-add-requires c κs = search needs
+slice-aggregate-class-of : tie.Need-slice-aggregate-class-of
+slice-aggregate-class-of c = search (letters-part, needs)
 
-told-requires : tie.Need-told-requires
-told-requires c κs = search needs
+class-of-requires : tie.Need-class-of-requires
+class-of-requires c κs = search needs
+
+grow-requires : tie.Need-grow-requires
+grow-requires c κs = search needs
 
 returns : tie.Need-returns
-returns c = search (border-ways, needs)
+returns c = search (border-taken, needs)
 
 returns-2 : tie.Need-returns-2
 returns-2 c = search (border-ways, needs)
 
 returns-3 : tie.Need-returns-3
 returns-3 c = search (border-ways, needs)
+
+returns-4 : tie.Need-returns-4
+returns-4 c = search (border-full, needs)
 
 pub take-border-spec : {M : Type 1} → statement M
 take-border-spec =
@@ -54,9 +60,11 @@ take-border-spec =
     enum-told
     enum-told-2
     enum-known-outer
-    border-of-requires
-    add-requires
-    told-requires
+    count-at-requires-3
+    slice-aggregate-class-of
+    class-of-requires
+    grow-requires
     returns
     returns-2
-    returns-3)
+    returns-3
+    returns-4)

@@ -42,9 +42,9 @@ use denote.Triple.Table.{entered, cited}
 use denote.Triple.Walked.{says, Stays, stay-ref, stay-none, stay-none-slice, walkOf, AllGo, goes-none, goes-ref, goes-none-slice, Walks, ends-at, walked, walk-meets}
 use denote.Triple.Clauses.{ensured, lasts}
 use denote.Exit.{yes}
-use Rattle.header.specs.declared.Header.{Header}
-use Rattle.header.proofs.Header as D
-use Rattle.header.proofs.Header.Laws as D′
+use Rattle.heading.specs.declared.Header.{Header}
+use Rattle.heading.proofs.Header as D
+use Rattle.heading.proofs.Header.Laws as D′
 use Rattle.made.specs.Made as Made
 use Rattle.tally.specs.declared.Tally.{Tally}
 use Rattle.tally.specs.declared.Taken.{Taken}
