@@ -1,5 +1,6 @@
 -- The laws of the definitions of crate `crossing`; the functions' proofs stand in folders of their names.
 mod EdgeLaws
+mod RunLaws
 pub mod SearchLaws
 pub mod VerdictLaws
 pub mod SharedLaws

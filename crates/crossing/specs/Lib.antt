@@ -1,5 +1,6 @@
 -- The definitions that the contracts of crate `crossing` cite.
 pub mod Edges
 pub mod Search
+pub mod Runs
 pub mod Shared
 mod Examples

@@ -6,10 +6,12 @@ ghost use mathlib.Core.Bool.{Bool, true};
 ghost use Prim.Native.Nat.{ℕ, _+_, _*_, _-_, _≤_, _<_};
 ghost use lib.ListN.{length};
 ghost use lib.IntN.{ℤ, _+ℤ_, _-ℤ_, _*ℤ_};
+ghost use lib.Signed.{ltZ};
 ghost use Rattle.laws.specs.Whole.{Within, lowZ, highZ};
 ghost use Rattle.plane.specs.Rings.{all-near};
 ghost use Rattle.crossing.specs.Edges.{span, Close, point-at, side, dot, equal-ends, neighbours-overlap, spans-overlap, beside-line, boxes-overlap, edges-meet};
 ghost use Rattle.crossing.specs.Search.{faulty-pair, FirstFault, verdictOf};
+ghost use Rattle.crossing.specs.Runs.{along, Run, Skip, span-meets};
 
 pub struct Point {
     pub x: i64,
@@ -183,6 +185,95 @@ fn faulty_pair(
     edges_meet(a, b, c, d)
 }
 
+// Whether vertex v lies below a bound, along an axis: 0 is x, 1 is y.
+fn is_below(points: &[i64], axis: usize, v: usize, bound: i64) -> bool
+    requires { ⌜ (axis ≤ 1) × (2 * v + 1 < length (now points)) ⌝ }
+    ensures { λ r. ⌜ r ≡ ltZ (along (now (points .entry)) axis v) bound ⌝ }
+{
+    points[2 * v + axis] < bound
+}
+
+fn is_above(points: &[i64], axis: usize, v: usize, bound: i64) -> bool
+    requires { ⌜ (axis ≤ 1) × (2 * v + 1 < length (now points)) ⌝ }
+    ensures { λ r. ⌜ r ≡ ltZ bound (along (now (points .entry)) axis v) ⌝ }
+{
+    bound < points[2 * v + axis]
+}
+
+// Vertex j lies below a bound, along an axis: the last vertex, up to `stop`, that is reached through such vertices alone.
+fn run_below(points: &[i64], from: usize, axis: usize, j: usize, stop: usize, bound: i64) -> usize
+    requires { ⌜ (axis ≤ 1) × (j ≤ stop) × (2 * (from + (stop + 1)) ≤ length (now points)) × (ltZ (along (now points) axis (from + j)) bound ≡ true) ⌝ }
+    ensures { λ r. ⌜ Run (λ k. ltZ (along (now (points .entry)) axis (from + k)) bound) j stop r ⌝ }
+{
+    let mut e = j;
+    while e < stop {
+        if is_below(points, axis, from + (e + 1), bound) {
+            e += 1;
+            continue;
+        }
+        return e;
+    }
+    e
+}
+
+// The same above a bound.
+fn run_above(points: &[i64], from: usize, axis: usize, j: usize, stop: usize, bound: i64) -> usize
+    requires { ⌜ (axis ≤ 1) × (j ≤ stop) × (2 * (from + (stop + 1)) ≤ length (now points)) × (ltZ bound (along (now points) axis (from + j)) ≡ true) ⌝ }
+    ensures { λ r. ⌜ Run (λ k. ltZ bound (along (now (points .entry)) axis (from + k))) j stop r ⌝ }
+{
+    let mut e = j;
+    while e < stop {
+        if is_above(points, axis, from + (e + 1), bound) {
+            e += 1;
+            continue;
+        }
+        return e;
+    }
+    e
+}
+
+// An edge from j on, up to `stop`, before which none shares a number with the span from a to b, along an axis.
+fn skip(points: &[i64], from: usize, axis: usize, j: usize, stop: usize, a: i64, b: i64) -> usize
+    requires { ⌜ (axis ≤ 1) × (j ≤ stop) × (2 * (from + (stop + 1)) ≤ length (now points)) ⌝ }
+    ensures { λ r. ⌜ Skip (span-meets (now (points .entry)) from axis a b) j stop r ⌝ }
+{
+    let low = lower(a, b);
+    if is_below(points, axis, from + j, low) {
+        return run_below(points, from, axis, j, stop, low);
+    }
+    let high = higher(a, b);
+    if is_above(points, axis, from + j, high) {
+        return run_above(points, from, axis, j, stop, high);
+    }
+    j
+}
+
+// The next edge from j on that is to be paired with edge i, from a to b; those before it lie beyond one side of its box. Neighbours are not passed over.
+fn onward(
+    points: &[i64],
+    from: usize,
+    edges: usize,
+    i: usize,
+    j: usize,
+    a: Point,
+    b: Point,
+) -> usize
+    requires { ⌜ (i < j) × (j ≤ edges) × (2 * (from + (edges + 1)) ≤ length (now points)) × (a ≡ point-at (now points) (from + i)) × (b ≡ point-at (now points) (from + (i + 1))) ⌝ }
+    ensures { λ r. ⌜ Skip (faulty-pair (now (points .entry)) from edges i) j edges r ⌝ }
+{
+    if j < i + 2 {
+        return j;
+    }
+    if j + 1 >= edges {
+        return j;
+    }
+    let r = skip(points, from, 0, j, edges - 1, a.x, b.x);
+    if j < r {
+        return r;
+    }
+    skip(points, from, 1, j, edges - 1, a.y, b.y)
+}
+
 // The first faulty pair: each edge in turn with itself and those after it, the search left at once. With none the first is `edges`.
 fn search(points: &[i64], from: usize, edges: usize) -> Pair
     requires { ⌜ (2 * (from + (edges + 1)) ≤ length (now points)) × (all-near (now points) from (edges + 1) ≡ true) ⌝ }
@@ -198,7 +289,7 @@ fn search(points: &[i64], from: usize, edges: usize) -> Pair
             if faulty_pair(points, from, edges, i, j, a, b) {
                 break 'rows;
             }
-            j += 1;
+            j = onward(points, from, edges, i, j + 1, a, b);
         }
         i += 1;
     }

@@ -15,22 +15,23 @@ use borrow.Author.Tests.{le-leb}
 use Rattle.laws.specs.Lists.{tail, over}
 use Rattle.laws.specs.Text.{text}
 use Rattle.laws.proofs.ListLaws.{left, left-none, rest-is}
+use Rattle.spelling.specs.Stored.{Stored}
 use Rattle.spelling.specs.Spelling.{countText}
-use Rattle.header.specs.declared.Header.{Header}
+use Rattle.heading.specs.declared.Header.{Header}
 use Rattle.made.specs.Made.{natOf}
 use Rattle.writer.specs.Put.{Put}
-use Rattle.writer.proofs.Putting.{Putting, putting-start, putting-room, putting-on, putting-end, putting-last, put-part}
+use Rattle.writer.proofs.Putting.{Putting, putting-start, putting-room, putting-on, putting-end, putting-last, stored-on, put-part}
 use Rattle.listing.specs.Listing.{blank, lineEnd, figure, figures, lineOf, mapLine, classWords, figureAt, fourOf, classLines, rowsLine, refusedLine, sheetLines}
 
 -- ---- a figure
 
 module _ (l : List ℕ) (at n : ℕ) (room : at + length (figure n) ≤ length l) where
-  pub blank-room : at + length blank ≤ length l
-  blank-room = putting-room (putting-start l at (figure n) room) blank (countText n) refl
-
-  module _ {d : List ℕ} {next : ℕ} (w : Put l at blank d next) where
+  module _ {d : List ℕ} {next : ℕ} (w : Stored l at blank d next) where
     digits-left : Putting l at (figure n) d next (countText n)
-    digits-left = putting-on (putting-start l at (figure n) room) blank (countText n) refl w
+    digits-left = stored-on (putting-start l at (figure n) room) blank (countText n) refl w
+
+    pub digits-at : next ≤ length d
+    digits-at = omega (arith, digits-left .room)
 
     digits-room : length (countText n) ≤ length (tail d next)
     digits-room = rw (rest-is d next) (omega (arith, digits-left .room, length-drop next d))
@@ -103,18 +104,18 @@ module _ (l : List ℕ) (h : Header) (room : length (mapLine h) ≤ length l) wh
   unfolding mapLine
   map-start = putting-start l 0 (mapLine h) (omega (arith, room))
 
-  pub map-kind : {d : List ℕ} {n : ℕ} → Put l 0 (text "MAP") d n → Putting l 0 (mapLine h) d n (figure (h .kind) ++ (blank ++ (h .name ++ scale)))
-  map-kind w = putting-on map-start (text "MAP") (figure (h .kind) ++ (blank ++ (h .name ++ scale))) refl w
+  pub map-kind : {d : List ℕ} {n : ℕ} → Stored l 0 (text "MAP") d n → Putting l 0 (mapLine h) d n (figure (h .kind) ++ (blank ++ (h .name ++ scale)))
+  map-kind w = stored-on map-start (text "MAP") (figure (h .kind) ++ (blank ++ (h .name ++ scale))) refl w
 
-  module _ {d : List ℕ} {n : ℕ} (w : Put l 0 (text "MAP") d n) {e : List ℕ} {m : ℕ} (k : Put d n (figure (h .kind)) e m) where
+  module _ {d : List ℕ} {n : ℕ} (w : Stored l 0 (text "MAP") d n) {e : List ℕ} {m : ℕ} (k : Put d n (figure (h .kind)) e m) where
     pub map-blank : Putting l 0 (mapLine h) e m (blank ++ (h .name ++ scale))
     map-blank = putting-on (map-kind w) (figure (h .kind)) (blank ++ (h .name ++ scale)) refl k
 
-    pub map-name : {f : List ℕ} {i : ℕ} → Put e m blank f i → Putting l 0 (mapLine h) f i (h .name ++ scale)
-    map-name b = putting-on map-blank blank (h .name ++ scale) refl b
+    pub map-name : {f : List ℕ} {i : ℕ} → Stored e m blank f i → Putting l 0 (mapLine h) f i (h .name ++ scale)
+    map-name b = stored-on map-blank blank (h .name ++ scale) refl b
 
-    pub map-scale : {f : List ℕ} {i : ℕ} → Put e m blank f i → {g : List ℕ} {j : ℕ} → Put f i (h .name) g j → Putting l 0 (mapLine h) g j scale
-    map-scale b p = putting-on (map-name b) (h .name) scale refl p
+    pub map-scale : {f : List ℕ} {i : ℕ} → Stored e m blank f i → {g : List ℕ} {j : ℕ} → Stored f i (h .name) g j → Putting l 0 (mapLine h) g j scale
+    map-scale b p = stored-on (map-name b) (h .name) scale refl p
 
 -- ---- the lines of the classes
 

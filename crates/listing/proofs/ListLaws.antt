@@ -16,13 +16,13 @@ use Rattle.record.specs.declared.Mode.the-variants.{Loose}
 use Rattle.number.specs.Number.{realMost}
 use Rattle.spelling.specs.Spelling.{countText}
 use Rattle.spelling.proofs.DigitLaws.{digits-most}
-use Rattle.header.specs.declared.Header.{Header}
-use Rattle.header.specs.Header.{nameByte, isName, isHeader}
+use Rattle.heading.specs.declared.Header.{Header}
+use Rattle.heading.specs.Heading.{nameByte, isName, isHeader}
 use Rattle.sheet.specs.Tables.{Tables}
 use Rattle.sheet.specs.Reading.{Reading, sheet, refused, reading}
 use Rattle.sheet.proofs.Meaning.{reading-meaning}
 use Rattle.made.specs.Made.{natOf}
-use Rattle.writer.proofs.ReadMade.{reading-made}
+use Rattle.layout.proofs.ReadMade.{reading-made}
 use Rattle.tally.specs.Take.{tallyOf, numberOf, rowOf}
 use Rattle.listing.specs.Listing.{blank, figure, figures, lineOf, mapLine, classWords, fourOf, classLines, rowsLine, refusedLine, sheetLines, talliedText, sheetText, readText, inputMost, listingOf}
 use Rattle.listing.specs.Listed.{listedOf, outputOf, textMost}

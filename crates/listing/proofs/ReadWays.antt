@@ -10,7 +10,7 @@ use lib.IntN.{ℤ, pos}
 use borrow.Author.Tests.{le-leb, lt-leb, eq-eqb, ne-eqb}
 use Rattle.laws.specs.Lists.{over}
 use Rattle.record.specs.declared.Mode.the-variants.{Loose}
-use Rattle.header.specs.declared.Header.{Header}
+use Rattle.heading.specs.declared.Header.{Header}
 use Rattle.sheet.specs.Tables.{Tables}
 use Rattle.sheet.specs.Reading.{Reading, sheet, refused, reading}
 use Rattle.reader.specs.declared.Needs.{Needs}
@@ -21,6 +21,8 @@ use Rattle.reader.specs.Read.{needsOf, Rooms, roomsOf, holdsAll, refusedWith, a
 use Rattle.reader.proofs.Bytes.{tables-whole, Enough, enough-holds}
 use Rattle.made.specs.Made.{tablesOf}
 use Rattle.writer.specs.Put.{Put}
+use Rattle.writer.proofs.Putting.{stored-put}
+use Rattle.spelling.specs.Stored.{Stored}
 use Rattle.tally.specs.declared.Taken.{Taken}
 use Rattle.tally.specs.Take.{tallyOf, numberOf, rowOf}
 use Rattle.listing.proofs.ListLaws.{refused-most, read-most}
@@ -199,16 +201,17 @@ module _ (s l text : List ℕ) (size : ℕ) (w : Put l 0 s text size) where
   text-in = omega (arith, size-is, ap length (w .is), length-append s (drop (0 + length s) l))
 
   module _ (out : List ℕ) where
-    pub text-room : size ≤ length out → 0 + length (take size text) ≤ length out
+    text-room : size ≤ length out → 0 + length (take size text) ≤ length out
     text-room h = rw text-is (omega (arith, size-is))
 
     pub answer-none : length out < size → (NoRoom size ≡ listedOf s (length out)) × (out ≡ outputOf (NoRoom size) s out)
     unfolding listedOf
     answer-none h = (rw (lt-leb (length s) (length out) (omega (arith, size-is)), size-is), refl)
 
-    pub answer-wrote : size ≤ length out → (d : List ℕ) (r : ℕ) → Put out 0 (take size text) d r
+    pub answer-wrote : size ≤ length out → (d : List ℕ) (r : ℕ) → Stored out 0 (take size text) d r
         → (Wrote size ≡ listedOf s (length out)) × (d ≡ outputOf (Wrote size) s out)
     unfolding listedOf
-    answer-wrote h d r p =
+    answer-wrote h d r w =
+        let p = stored-put (text-room h) w in
         let z : 0 + length s ≡ length s = omega arith in
         (rw (le-leb (length s) (length out) (omega (arith, size-is)), size-is), p .is ∙ rw (text-is, z))

@@ -9,18 +9,18 @@ use lib.IntN.{ℤ}
 use borrow.Author.Tests.{eqb-true}
 use Rattle.laws.proofs.Choice.{and-right, cond-elim, cond-first}
 use Rattle.record.specs.declared.Mode.the-variants.{Loose}
-use Rattle.header.specs.declared.Header.{Header}
-use Rattle.machine.specs.Rows.{codePlace}
+use Rattle.heading.specs.declared.Header.{Header}
+use Rattle.kinds.specs.Kinds.{codePlace}
 use Rattle.sheet.specs.Tables.{Tables}
 use Rattle.sheet.specs.Reading.{sheet, reading}
 use Rattle.sheet.proofs.Meaning.{reading-meaning}
 use Rattle.made.specs.declared.Verdict.the-variants.{Fine, Faulty, Unlisted}
 use Rattle.made.specs.Made.{countAt, kindOf, restOf, isMade, isCoded, judgeRows, judgeOf}
-use Rattle.border.specs.Classes.{isBorder, borderOf}
+use Rattle.border.specs.Borders.{isBorder, borderOf}
 use Rattle.area.specs.declared.Areas.{Areas}
 use Rattle.area.specs.declared.Areas.the-variants as Areas
 use Rattle.area.proofs.AreaLaws.{areas-there}
-use Rattle.writer.proofs.ReadMade.{reading-made}
+use Rattle.layout.proofs.ReadMade.{reading-made}
 use Rattle.tally.specs.declared.Tally.{Tally}
 use Rattle.tally.specs.declared.Added.{Added}
 use Rattle.tally.specs.declared.Refusal.{Refusal}

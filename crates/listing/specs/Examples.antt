@@ -5,7 +5,7 @@ use lib.ListN.{replicate}
 use lib.IntN.{ℤ, pos}
 use Rattle.laws.specs.Text.{text}
 use Rattle.spelling.specs.Spelling.{digits, countText}
-use Rattle.header.specs.declared.Header.{Header}
+use Rattle.heading.specs.declared.Header.{Header}
 use Rattle.listing.specs.Listing.{lineEnd, figures, lineOf, mapLine, classWords, fourOf, classLines, rowsLine, refusedLine, sheetLines}
 
 header : Header

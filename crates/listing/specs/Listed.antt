@@ -6,7 +6,7 @@ use lib.ListN.{length, take}
 use lib.Dec.{leb}
 use Rattle.laws.specs.Lists.{over}
 use Rattle.record.specs.Refusals.{noRoom}
-use Rattle.machine.specs.Rows.{rowWidth}
+use Rattle.kinds.specs.Kinds.{rowWidth}
 use Rattle.sheet.specs.Tables.{Tables}
 use Rattle.made.specs.Made.{tablesOf}
 use Rattle.reader.specs.declared.Needs.{Needs}

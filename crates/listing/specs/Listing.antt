@@ -10,8 +10,8 @@ use Rattle.laws.specs.Text.{text}
 use Rattle.record.specs.declared.Mode.the-variants.{Loose}
 use Rattle.record.specs.Refusals.{tooLong}
 use Rattle.spelling.specs.Spelling.{countText}
-use Rattle.header.specs.declared.Header.{Header}
-use Rattle.machine.specs.Rows.{rowWidth}
+use Rattle.heading.specs.declared.Header.{Header}
+use Rattle.kinds.specs.Kinds.{rowWidth}
 use Rattle.sheet.specs.Tables.{Tables}
 use Rattle.sheet.specs.Reading.{Reading, sheet, refused, reading}
 use Rattle.made.specs.Made.{natOf}

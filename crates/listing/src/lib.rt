@@ -8,24 +8,17 @@ ghost use Rattle.record.specs.declared.Mode.the-variants.{Loose};
 ghost use Rattle.sheet.specs.Reading.{reading};
 ghost use Rattle.made.specs.Made.{tablesOf, natOf};
 ghost use Rattle.writer.specs.Put.{Put};
-ghost use Rattle.tally.specs.Take.{numberOf, rowOf};
 ghost use Rattle.listing.specs.Listing.{inputMost, figure, figures, lineOf, mapLine, classWords, fourOf, classLines, refusedLine, sheetLines, sheetText, readText, listingOf};
 ghost use Rattle.listing.specs.Listed.{listedOf, outputOf, textMost, usedIn, UsedFits};
-use header::Header;
-use made::Verdict;
+use heading::Header;
 use made::count_at;
 use reader::Answer;
 use reader::Needs;
 use reader::read;
-use record::refusal::CODE;
-use record::refusal::HEADER;
-use record::refusal::NO_SUCH;
-use record::refusal::NOT_MADE;
-use record::refusal::PAST_LIMIT;
 use record::refusal::TOO_LONG;
-use record::refusal::TOO_WIDE;
+use spelling::put_bytes;
 use spelling::spell_count;
-use tally::Refusal;
+use tally::refused_of;
 use tally::tally_sheet;
 
 // The length of the text that was written; or no room (14), with the needed length.
@@ -34,7 +27,7 @@ pub enum Listed {
     NoRoom(usize),
 }
 
-// The refusals of a tally.
+// More input is not listed (1).
 pub const INPUT_MOST: usize = 8192;
 
 // No listing is longer.
@@ -52,21 +45,6 @@ const POINTS_ROOM: usize = 1365;
 const ROW_WIDTH: usize = 12;
 
 const CLASS_FIGURES: usize = 4;
-
-// Copies bytes to a place; the answer is the place behind them.
-fn put_bytes(out: &mut [u8], at: usize, s: &[u8]) -> usize
-    requires { ⌜ at + length (now s) ≤ length (now out) ⌝ }
-    ensures { λ r. ⌜ Put (now (out .entry)) at (now (s .entry)) (now (out .exit)) r ⌝ }
-{
-    let mut next = at;
-    let mut i = 0;
-    while i < s.len() {
-        out[next] = s[i];
-        next += 1;
-        i += 1;
-    }
-    next
-}
 
 // A blank and a figure.
 fn put_figure(out: &mut [u8], at: usize, n: usize) -> usize
@@ -170,54 +148,6 @@ fn put_sheet(out: &mut [u8], header: Header, count: usize, tally: &[i64]) -> usi
     put_line(out, classes_end, b"ROWS", &rows)
 }
 
-fn verdict_number(v: Verdict) -> usize
-    ensures { λ r. ⌜ r ≡ Rattle.made.specs.Made.numberOf v ⌝ }
-{
-    match v {
-        Verdict::Fine => 0,
-        Verdict::BadHeader => HEADER,
-        Verdict::Faulty(_) => NOT_MADE,
-        Verdict::Unlisted(_) => CODE,
-    }
-}
-
-fn verdict_row(v: Verdict) -> usize
-    ensures { λ r. ⌜ r ≡ Rattle.made.specs.Made.rowOf v ⌝ }
-{
-    match v {
-        Verdict::Fine => 0,
-        Verdict::BadHeader => 0,
-        Verdict::Faulty(k) => k,
-        Verdict::Unlisted(k) => k,
-    }
-}
-
-// The number of a tally's refusal, 0 where it refused nothing.
-fn number_of(x: Refusal) -> usize
-    ensures { λ r. ⌜ r ≡ numberOf x ⌝ }
-{
-    match x {
-        Refusal::None => 0,
-        Refusal::Sheet(v) => verdict_number(v),
-        Refusal::Missing => NO_SUCH,
-        Refusal::Full(_) => PAST_LIMIT,
-        Refusal::Wide(_) => TOO_WIDE,
-    }
-}
-
-// The row that it names.
-fn row_of(x: Refusal) -> usize
-    ensures { λ r. ⌜ r ≡ rowOf x ⌝ }
-{
-    match x {
-        Refusal::None => 0,
-        Refusal::Sheet(v) => verdict_row(v),
-        Refusal::Missing => 0,
-        Refusal::Full(k) => k,
-        Refusal::Wide(k) => k,
-    }
-}
-
 // The lines of a sheet, or the tally's refusal.
 fn put_tallied(
     out: &mut [u8],
@@ -234,12 +164,13 @@ fn put_tallied(
     let taken = tally_sheet(header, count, rows, letters, islands, points);
     let tally = taken.tally;
     let refusal = taken.refusal;
-    let number = number_of(refusal);
+    let fault = refused_of(refusal);
+    let number = fault.number;
     if number == 0 {
         let figures = tally.figures;
         return put_sheet(out, header, count, &figures);
     }
-    put_refused(out, number, row_of(refusal), 0)
+    put_refused(out, number, fault.row, 0)
 }
 
 // The same for tables of which only a part is used.

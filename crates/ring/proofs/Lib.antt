@@ -1,1 +1,2 @@
+-- The laws of `ring` and the ways through its code; `pub mod` lets other crates cite a file.
 mod RingWays

@@ -1,7 +1,7 @@
 -- The ways through the ring check, each with what the code has in hand there. Assumes nothing.
 use Prim.Native.Nat.{ℕ}
 use mathlib.Core.Path.{_≡_, _∙_, ap}
-use Rattle.header.specs.declared.Header.{Header}
+use Rattle.heading.specs.declared.Header.{Header}
 use Rattle.sheet.specs.Tables.{Tables}
 use Rattle.made.specs.declared.Verdict.{Verdict as Fault}
 use Rattle.crossing.specs.declared.Verdict.{Verdict}

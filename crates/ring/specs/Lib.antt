@@ -1,1 +1,2 @@
+-- The definitions of `ring`, in the order to read them.
 pub mod RingCheck

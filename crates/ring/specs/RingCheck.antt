@@ -4,7 +4,7 @@ use Prim.Native.Nat.{ℕ}
 use mathlib.Core.List.{List}
 use lib.IntN.{ℤ}
 use Rattle.record.specs.Refusals.{tooWide, noSuch}
-use Rattle.header.specs.declared.Header.{Header}
+use Rattle.heading.specs.declared.Header.{Header}
 use Rattle.sheet.specs.Tables.{Tables}
 use Rattle.crossing.specs.declared.Verdict.{Verdict}
 use Rattle.crossing.specs.declared.Verdict.the-variants as Verdict

@@ -7,7 +7,7 @@ use area::RingAnswer;
 use area::ring_at;
 use crossing::Verdict;
 use crossing::first_fault;
-use header::Header;
+use heading::Header;
 use made::Verdict as Fault;
 
 // The ring is simple; or the first faulty pair; 17; no such border or ring (19); or what is wrong with the sheet (6, 15).

@@ -1,11 +1,11 @@
 -- The ways through the code: the loop that places digits, and a lemma for each answer. Assumes nothing.
-use Prim.Native.Nat.{ℕ, suc, _+_, _-_, _/_, _%_, _^_, _≤_, _<_, zero-le}
+use Prim.Native.Nat.{ℕ, suc, _+_, _-_, _*_, _/_, _%_, _^_, _≤_, _<_, zero-le}
 use mathlib.Core.Path.{_≡_, refl, sym, _∙_, ap}
 use mathlib.Core.List.{List, [], _∷_, _++_, append-assoc, append-nil}
 use mathlib.Core.Bool.{Bool, true, false, cond, _&&_}
 use native.Mathlib.Omega.{arith}
-use lib.ListN.{length, getD, take, drop, set, replicate, length-append, length-set, length-replicate, replicate-append-replicate, drop-of-length-le}
-use lib.Seq.{take-at, drop-at, take-length, sets-eq, length-take-le}
+use lib.ListN.{length, getD, take, drop, set, replicate, length-append, length-replicate, replicate-append-replicate, drop-of-length-le}
+use lib.Seq.{take-at, drop-at, take-length, take-append-le, drop-append-add, drop-drop, sets-eq, length-take-le}
 use lib.Dec.{T, leb}
 use lib.IntN.{ℤ, pos, negsuc, negℤ, natAbs, _-ℤ_, +ℤ-idl}
 use lib.Signed.{ltZ, leZ, nonNeg}
@@ -13,10 +13,11 @@ use mir.Syntax.{w64}
 use mir.Val.{SFits, Fits, toZ, ofZ}
 use mir.ValLaws.{toZ-ofZ}
 use borrow.Author.Tests.{lt-leb, le-leb, ltb-true, ltb-false, leb-false}
-use Rattle.laws.specs.Lists.{over, pasted}
+use Rattle.laws.specs.Lists.{tail, over, pasted}
 use Rattle.laws.proofs.Choice.{false≢true}
-use Rattle.laws.proofs.TableLaws.{pasted-none, pasted-front, pasted-before, pasted-one, length-pasted, length-over, over-next, over-whole}
+use Rattle.laws.proofs.TableLaws.{pasted-none, pasted-front, pasted-before, pasted-one, pasted-part, length-pasted, length-over, over-next, over-whole}
 use Rattle.number.specs.Number.{isReal}
+use Rattle.spelling.specs.Stored.{hasRoom, Stored}
 use Rattle.spelling.specs.Spelling.{digits, places, countText, aligned, integerText, minus, decimal, realText}
 use Rattle.spelling.proofs.DigitLaws.{digits-few, digits-more, shorter}
 use Rattle.spelling.proofs.SpellingLaws.{body-length, decimal-length, in-plus, in-minus}
@@ -39,9 +40,6 @@ placing-start l end n h k e =
 module _ (l : List ℕ) (end n : ℕ) (text : List ℕ) (at rest : ℕ) (p : Placing l end n text at rest) where
   placing-length : length text ≡ length l
   placing-length = ap length (p .is) ∙ length-pasted l at (p .done) (omega (arith, p .ends, p .inside))
-
-  pub placing-kept : (v : ℕ) → length (set text (at - 1) v) ≡ length l
-  placing-kept v = length-set text (at - 1) v ∙ placing-length
 
   stored : (v : ℕ) → set text (at - 1) v ≡ pasted l (at - 1) (v ∷ p .done)
   stored v = rw (p .is) (pasted-before l (at - 1) at v (p .done) (omega (arith, p .room)) (omega (arith, p .ends, p .inside)))
@@ -76,12 +74,59 @@ module _ (l : List ℕ) (end n : ℕ) (text : List ℕ) (at rest : ℕ) (p : Pla
   pub placing-at : at - 1 < length text
   placing-at = omega (arith, placing-length, p .room, p .inside, p .ends)
 
+-- two digits at once
+
+module _ (l : List ℕ) (end n : ℕ) (text : List ℕ) (at rest : ℕ) (p : Placing l end n text at rest) where
+  module _ (v : ℕ) (e : v ≡ 48 + rest % 10) (h : 10 ≤ rest) where
+    one-less : Placing l end n (set text (at - 1) v) (at - 1) (rest / 10)
+    one-less = placing-step l end n text at rest p v e h
+
+    pub two-room : 2 ≤ at
+    two-room = omega (arith, one-less .room)
+
+    pub two-at : at - 2 < length (set text (at - 1) v)
+    two-at = omega (arith, placing-at l end n (set text (at - 1) v) (at - 1) (rest / 10) one-less, two-room)
+
+    two-less : at - 1 - 1 ≡ at - 2
+    two-less = omega (arith, two-room)
+
+    pub placing-two : (u : ℕ) → u ≡ 48 + rest / 10 % 10 → 100 ≤ rest → Placing l end n (set (set text (at - 1) v) (at - 2) u) (at - 2) (rest / 100)
+    placing-two u f k =
+        let q : rest / 10 / 10 ≡ rest / 100 = omega arith in
+        rw (two-less, q) at (placing-step l end n (set text (at - 1) v) (at - 1) (rest / 10) one-less u f (omega arith))
+
+    pub placing-both : (u : ℕ) → u ≡ 48 + rest / 10 % 10 → rest < 100
+        → (at - 2 + length (digits end n) ≡ end) × (set (set text (at - 1) v) (at - 2) u ≡ pasted l (at - 2) (digits end n))
+    placing-both u f k = rw two-less at (placing-end l end n (set text (at - 1) v) (at - 1) (rest / 10) one-less u f (omega arith))
+
+  -- the digits that are missing, placed by themselves
+  pub placing-lead : (r : ℕ) (d : List ℕ) → (r + length (digits at rest) ≡ at) × (d ≡ pasted text r (digits at rest))
+      → (r + length (digits end n) ≡ end) × (d ≡ pasted l r (digits end n))
+  placing-lead r d e = (
+    omega (arith, e .0, p .ends, ap length (p .split), length-append (digits at rest) (p .done)),
+    e .1 ∙ rw (p .is) (pasted-front l r at (digits at rest) (p .done) (e .0) (omega (arith, p .ends, p .inside))) ∙ ap (pasted l r) (sym (p .split)),
+  )
+
+  pub placing-size : length text ≡ length l
+  placing-size = placing-length l end n text at rest p
+
 -- ---- point and places
 
-pub places-put : (l : List ℕ) (m a b c : ℕ) → 12 ≤ length l → a ≡ 48 + m / 10 / 10 % 10 → b ≡ 48 + m / 10 % 10 → c ≡ 48 + m % 10
+-- the code's product, below 1000
+hundredth : (m : ℕ) → m < 1000 → m * 41 / 4096 ≡ m / 100
+hundredth m h = omega arith
+
+pub places-put : (l : List ℕ) (m a b c : ℕ) → 12 ≤ length l → m < 1000
+    → a ≡ 48 + m * 41 / 4096 % 10 → b ≡ 48 + (m - 100 * (m * 41 / 4096)) / 10 → c ≡ 48 + (m - 100 * (m * 41 / 4096)) % 10
     → set (set (set (set l 8 46) 9 a) 10 b) 11 c ≡ pasted l 8 (46 ∷ places 3 m)
 unfolding places
-places-put l m a b c h p q r = sets-eq (46 ∷ a ∷ b ∷ c ∷ []) l 8 (omega arith) ∙ rw (p, q, r)
+places-put l m a b c h k p q r =
+    let f = hundredth m k in
+    let g : m / 10 / 10 ≡ m / 100 = omega arith in
+    let x : a ≡ 48 + m / 10 / 10 % 10 = p ∙ rw (f, g) in
+    let y : b ≡ 48 + m / 10 % 10 = q ∙ rw f (let e : 48 + (m - 100 * (m / 100)) / 10 ≡ 48 + m / 10 % 10 = omega arith in e) in
+    let z : c ≡ 48 + m % 10 = r ∙ rw f (let e : 48 + (m - 100 * (m / 100)) % 10 ≡ 48 + m % 10 = omega arith in e) in
+    sets-eq (46 ∷ a ∷ b ∷ c ∷ []) l 8 (omega arith) ∙ rw (x, y, z)
 
 -- ---- the sign; a signed number is read back from its bits
 
@@ -181,20 +226,27 @@ itself-asks z f h e = rw (back z f) (go z (rw (back z f) at e), omega (arith, ab
 abbrev blanks : ℕ → List ℕ
 blanks w = replicate w 32
 
--- stored at the end of blanks, a text is aligned
-aligned-put : (w i : ℕ) (s : List ℕ) → i + length s ≡ w → pasted (blanks w) i s ≡ aligned w s
+-- stored over n blanks, up to their end or past it, a text is aligned
+aligned-over : (w n i : ℕ) (s l : List ℕ) → i + length s ≡ w → i ≤ n → n ≤ w → pasted (over (blanks n) l) i s ≡ over (aligned w s) l
 unfolding aligned
-aligned-put w i s e =
-    let n : w - length s ≡ i = omega arith in
-    let a : take i (blanks w) ≡ blanks i
-    = rw (← e, ← replicate-append-replicate {A = ℕ} i (length s) 32) (take-at (blanks i) (blanks (length s)) i (length-replicate {A = ℕ} i 32)) in
-    let b : drop (i + length s) (blanks w) ≡ []
-    = drop-of-length-le (blanks w) {i = i + length s} (omega (arith, length-replicate {A = ℕ} w 32)) in
-    rw (n, a, b) (append-nil (blanks i ++ s))
+aligned-over w n i s l e h k =
+    let o : w - length s ≡ i = omega arith in
+    let z : length (blanks n) ≡ n = length-replicate {A = ℕ} n 32 in
+    let y : length (blanks i) ≡ i = length-replicate {A = ℕ} i 32 in
+    let r : List ℕ = drop (length (blanks n)) l in
+    let f : n ≡ i + (n - i) = omega arith in
+    let t : take i (blanks n) ≡ blanks i
+    = ap (λ (m : ℕ). take i (blanks m)) f ∙ rw (← replicate-append-replicate {A = ℕ} i (n - i) 32) (take-at (blanks i) (blanks (n - i)) i y) in
+    let a : take i (blanks n ++ r) ≡ blanks i = take-append-le i (blanks n) r (omega arith) ∙ t in
+    let q : i + length s ≡ length (blanks n) + (w - n) = omega arith in
+    let m : length (blanks n) + (w - n) ≡ length (blanks i ++ s) = omega (arith, length-append (blanks i) s) in
+    let b : drop (i + length s) (blanks n ++ r) ≡ drop (length (blanks i ++ s)) l
+    = ap (λ (x : ℕ). drop x (blanks n ++ r)) q ∙ drop-append-add (blanks n) r (w - n) ∙ drop-drop (w - n) (length (blanks n)) l ∙ ap (λ (x : ℕ). drop x l) m in
+    rw (o, a, b)
 
-pub integer-made : (v r : ℕ) (text : List ℕ) → (r + length (digits 4 v) ≡ 4) × (text ≡ pasted (blanks 4) r (digits 4 v)) → text ≡ integerText v
+pub integer-made : (v r : ℕ) (l d : List ℕ) → (r + length (digits 4 v) ≡ 4) × (d ≡ pasted (over (blanks 4) l) r (digits 4 v)) → d ≡ over (integerText v) l
 unfolding integerText
-integer-made v r text e = e .1 ∙ aligned-put 4 r (digits 4 v) (e .0)
+integer-made v r l d e = e .1 ∙ aligned-over 4 4 r (digits 4 v) l (e .0) (omega (arith, e .0)) (omega arith)
 
 -- digits at the end of an array are the part from their start on
 part-made : (w r : ℕ) (s text : List ℕ) → r + length s ≡ w → text ≡ pasted (blanks w) r s → take (w - r) (drop r text) ≡ s
@@ -218,22 +270,24 @@ module _ (z y : ℤ) (m : ℕ) (i : y ≡ z) (h : isReal z ≡ true) (e : m ≡ 
       let w : r + length (digits 8 (natAbs z / 1000)) ≡ 8 = rw (e, i) at q in
       rw i (omega (arith, sign-room z h))
 
--- places, digits and sign, each before the last
-pub real-made : (z y : ℤ) (m r : ℕ) (a b text : List ℕ) → y ≡ z → isReal z ≡ true → m ≡ natAbs y
-    → a ≡ pasted (blanks 12) 8 (46 ∷ places 3 (m % 1000))
+-- places, digits and sign over blanks, each before the last
+pub real-made : (z y : ℤ) (m r : ℕ) (l a b d : List ℕ) → 12 ≤ length l → y ≡ z → isReal z ≡ true → m ≡ natAbs y
+    → a ≡ pasted (over (blanks 8) l) 8 (46 ∷ places 3 (m % 1000))
     → (r + length (digits 8 (m / 1000)) ≡ 8) × (b ≡ pasted a r (digits 8 (m / 1000)))
-    → text ≡ pasted b (r - length (minus y)) (minus y) → text ≡ realText z
+    → d ≡ pasted b (r - length (minus y)) (minus y) → d ≡ over (realText z) l
 unfolding realText decimal
-real-made z y m r a b text i h n p q e =
+real-made z y m r l a b d room i h n p q e =
     let k : m ≡ natAbs z = n ∙ ap natAbs i in
+    let base : List ℕ = over (blanks 8) l in
+    let f : length base ≡ length l = length-over (blanks 8) l (omega arith) in
     let s = minus z ++ decimal (natAbs z) in
     let g : length (minus z) + length (digits 8 (natAbs z / 1000)) ≤ 8 = sign-room z h in
     let w : r + length (digits 8 (natAbs z / 1000)) ≡ 8 = rw k at (q .0) in
-    let x : b ≡ pasted (blanks 12) r (decimal (natAbs z))
-    = q .1 ∙ rw (p, k) (pasted-front (blanks 12) r 8 (digits 8 (natAbs z / 1000)) (46 ∷ places 3 (natAbs z % 1000)) w (omega arith)) in
+    let x : b ≡ pasted base r (decimal (natAbs z))
+    = q .1 ∙ rw (p, k) (pasted-front base r 8 (digits 8 (natAbs z / 1000)) (46 ∷ places 3 (natAbs z % 1000)) w (omega arith)) in
     let o : r - length (minus z) + length (minus z) ≡ r = omega arith in
-    e ∙ rw (i, x) (pasted-front (blanks 12) (r - length (minus z)) r (minus z) (decimal (natAbs z)) o (omega arith))
-    ∙ aligned-put 12 (r - length (minus z)) s (omega (arith, length-append (minus z) (decimal (natAbs z)), decimal-length (natAbs z)))
+    e ∙ rw (i, x) (pasted-front base (r - length (minus z)) r (minus z) (decimal (natAbs z)) o (omega arith))
+    ∙ aligned-over 12 8 (r - length (minus z)) s l (omega (arith, length-append (minus z) (decimal (natAbs z)), decimal-length (natAbs z))) (omega arith) (omega arith)
 
 -- ---- the copy: the first `i` characters stand over what was there
 
@@ -297,3 +351,15 @@ module _ (v r : ℕ) (text : List ℕ) (e : (r + length (digits 20 v) ≡ 20) ×
   count-done d h q =
       rw (le-leb (length (countText v)) (length l) (omega (arith, count-size)))
       (count-size, q ∙ rw (part-made 20 r (digits 20 v) text (e .0) (e .1)))
+
+-- ---- bytes at a place
+
+module _ (l : List ℕ) (at : ℕ) (s : List ℕ) where
+  pub stored-tight : length l < at + length s → Stored l at s l at
+  unfolding hasRoom
+  stored-tight h = let t = lt-leb (at + length s) (length l) h in record { is = rw t; next = rw t }
+
+  pub stored-done : at ≤ length l → length s ≤ length l - at → (e : List ℕ) → e ≡ over s (tail l at)
+      → Stored l at s (take at l ++ (e ++ drop (length l - at) (drop at l))) (at + length s)
+  unfolding hasRoom
+  stored-done h k e q = let t = le-leb (at + length s) (length l) (omega arith) in record { is = rw (q, t) (pasted-part l s at); next = rw t }

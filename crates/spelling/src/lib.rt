@@ -1,15 +1,17 @@
 // A number as exact mode has it (document 01, "Records"): the 4 characters of an integer, the 12 of a real.
 // And as the listing has it ("Listing program"): its digits alone.
+// And bytes as they are, at a place.
 // All of it is proved, and no public function has a `requires`: a value out of range, or too little room, alters nothing.
 ghost use mathlib.Core.Path.{_≡_};
 ghost use mathlib.Core.Bool.{true, cond, _&&_};
 ghost use mathlib.Core.List.{_∷_};
-ghost use Prim.Native.Nat.{_+_, _-_, _^_, _%_, _≤_, _<_};
+ghost use Prim.Native.Nat.{_+_, _-_, _^_, _/_, _%_, _≤_, _<_};
 ghost use lib.ListN.{length};
 ghost use lib.Dec.{leb};
 ghost use lib.IntN.{natAbs};
 ghost use Rattle.laws.specs.Lists.{over, pasted};
 ghost use Rattle.number.specs.Number.{isReal};
+ghost use Rattle.spelling.specs.Stored.{Stored};
 ghost use Rattle.spelling.specs.Spelling.{integerMost, integerWidth, realWidth, digits, places, countText, integerText, minus, realText};
 
 const INTEGER_MOST: usize = 9999;
@@ -31,32 +33,70 @@ fn glyph(n: usize) -> u8
     48 + (n % 10) as u8
 }
 
-// Places the digits of a number before `end`, the last one first; the answer is where they start.
+// A tenth of a number below 100, by a product: 103 / 1024 is a little more than a tenth.
+fn tenth(n: usize) -> usize
+    requires { ⌜ n < 100 ⌝ }
+    ensures { λ r. ⌜ r ≡ n / 10 ⌝ }
+{
+    n * 103 / 1024
+}
+
+// The two characters of a number below 100.
+fn tens(n: usize) -> u8
+    requires { ⌜ n < 100 ⌝ }
+    ensures { λ r. ⌜ r ≡ 48 + n / 10 ⌝ }
+{
+    48 + tenth(n) as u8
+}
+
+fn ones(n: usize) -> u8
+    requires { ⌜ n < 100 ⌝ }
+    ensures { λ r. ⌜ r ≡ 48 + n % 10 ⌝ }
+{
+    48 + (n - 10 * tenth(n)) as u8
+}
+
+// Places the one or two digits of a number below 100 before `end`; the answer is where they start.
+fn put_lead(text: &mut [u8], end: usize, n: usize) -> usize
+    requires { ⌜ (1 ≤ end) × (end ≤ length (now text)) × (n < 10 ^ end) × (n < 100) ⌝ }
+    ensures { λ r. ⌜ (r + length (digits end n) ≡ end) × (now (text .exit) ≡ pasted (now (text .entry)) r (digits end n)) ⌝ }
+{
+    if n < 10 {
+        text[end - 1] = glyph(n);
+        return end - 1;
+    }
+    text[end - 1] = ones(n);
+    text[end - 2] = tens(n);
+    end - 2
+}
+
+// Places the digits of a number before `end`, the last two first; the answer is where they start.
 fn put_digits(text: &mut [u8], end: usize, n: usize) -> usize
     requires { ⌜ (1 ≤ end) × (end ≤ length (now text)) × (n < 10 ^ end) ⌝ }
     ensures { λ r. ⌜ (r + length (digits end n) ≡ end) × (now (text .exit) ≡ pasted (now (text .entry)) r (digits end n)) ⌝ }
 {
     let mut at = end;
     let mut rest = n;
-    while rest >= 10 {
-        at -= 1;
-        text[at] = glyph(rest);
-        rest /= 10;
+    while rest >= 100 {
+        text[at - 1] = ones(rest % 100);
+        text[at - 2] = tens(rest % 100);
+        at -= 2;
+        rest /= 100;
     }
-    at -= 1;
-    text[at] = glyph(rest);
-    at
+    put_lead(text, at, rest)
 }
 
-// Places a point and the last three digits of a number at 8, the end of a real's text.
+// Places a point and the three digits of a number below 1000 at 8, the end of a real's text. 41 / 4096 is a little more than a hundredth.
 fn put_places(text: &mut [u8], m: usize)
-    requires { ⌜ realWidth ≤ length (now text) ⌝ }
+    requires { ⌜ (realWidth ≤ length (now text)) × (m < 1000) ⌝ }
     ensures { λ _. ⌜ now (text .exit) ≡ pasted (now (text .entry)) 8 (46 ∷ places 3 m) ⌝ }
 {
+    let first = m * 41 / 4096;
+    let pair = m - 100 * first;
     text[8] = b'.';
-    text[9] = glyph(m / 10 / 10);
-    text[10] = glyph(m / 10);
-    text[11] = glyph(m);
+    text[9] = glyph(first);
+    text[10] = tens(pair);
+    text[11] = ones(pair);
 }
 
 // Places the sign of a number, if it has one, before `at`.
@@ -93,28 +133,6 @@ pub fn is_real(value: i64) -> bool
     true
 }
 
-fn integer_text(value: usize) -> [u8; INTEGER_WIDTH]
-    requires { ⌜ value ≤ integerMost ⌝ }
-    ensures { λ r. ⌜ r ≡ integerText value ⌝ }
-{
-    let mut text = [b' '; INTEGER_WIDTH];
-    put_digits(&mut text, INTEGER_WIDTH, value);
-    text
-}
-
-// A real's text, in an array of its own: places, digits and sign, each before the last.
-fn real_text(value: i64) -> [u8; REAL_WIDTH]
-    requires { ⌜ isReal value ≡ true ⌝ }
-    ensures { λ r. ⌜ r ≡ realText value ⌝ }
-{
-    let mut text = [b' '; REAL_WIDTH];
-    let m = magnitude(value);
-    put_places(&mut text, m % 1000);
-    let at = put_digits(&mut text, 8, m / 1000);
-    put_sign(&mut text, at, value);
-    text
-}
-
 // Copies a text to the start of `out`.
 fn copy(text: &[u8], out: &mut [u8])
     requires { ⌜ length (now text) ≤ length (now out) ⌝ }
@@ -125,6 +143,41 @@ fn copy(text: &[u8], out: &mut [u8])
         out[i] = text[i];
         i += 1;
     }
+}
+
+// Copies bytes to a place; the answer is the place behind them. Where they find no room `out` is as it was, and the answer is the place.
+pub fn put_bytes(out: &mut [u8], at: usize, s: &[u8]) -> usize
+    ensures { λ r. ⌜ Stored (now (out .entry)) at (now (s .entry)) (now (out .exit)) r ⌝ }
+{
+    if at > out.len() {
+        return at;
+    }
+    if s.len() > out.len() - at {
+        return at;
+    }
+    copy(s, &mut out[at..]);
+    at + s.len()
+}
+
+// The characters of an integer, straight at the start of `out`: digits at the end of blanks.
+fn put_integer(value: usize, out: &mut [u8])
+    requires { ⌜ (value ≤ integerMost) × (integerWidth ≤ length (now out)) ⌝ }
+    ensures { λ _. ⌜ now (out .exit) ≡ over (integerText value) (now (out .entry)) ⌝ }
+{
+    copy(b"    ", out);
+    put_digits(out, INTEGER_WIDTH, value);
+}
+
+// The characters of a real, straight at the start of `out`: blanks, and over them places, digits and sign, each before the last.
+fn put_real(value: i64, out: &mut [u8])
+    requires { ⌜ (isReal value ≡ true) × (realWidth ≤ length (now out)) ⌝ }
+    ensures { λ _. ⌜ now (out .exit) ≡ over (realText value) (now (out .entry)) ⌝ }
+{
+    copy(b"        ", out);
+    let m = magnitude(value);
+    put_places(out, m % 1000);
+    let at = put_digits(out, 8, m / 1000);
+    put_sign(out, at, value);
 }
 
 // True where the 4 characters of an integer now stand at the start of `out`;
@@ -139,8 +192,7 @@ pub fn spell_integer(value: usize, out: &mut [u8]) -> bool
     if out.len() < INTEGER_WIDTH {
         return false;
     }
-    let text = integer_text(value);
-    copy(&text, out);
+    put_integer(value, out);
     true
 }
 
@@ -154,8 +206,7 @@ pub fn spell_real(value: i64, out: &mut [u8]) -> bool
         if out.len() < REAL_WIDTH {
             return false;
         }
-        let text = real_text(value);
-        copy(&text, out);
+        put_real(value, out);
         return true;
     }
     false

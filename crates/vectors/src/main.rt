@@ -1,6 +1,6 @@
 // Runs the examples that document 01 wants run: the specification's own (000, 1.1.3 to 1.1.12), read as they are printed, in loose
 // mode, and written padded, in the exact layout; then the tile example. Its files `stdin` and `stdout` hold both forms.
-use header::Header;
+use heading::Header;
 use reader::Answer;
 use reader::read;
 use tile::Tile;

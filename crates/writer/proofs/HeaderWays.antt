@@ -2,64 +2,21 @@
 use Prim.Native.Nat.{ℕ, _+_, _-_, _≤_}
 use mathlib.Core.Path.{_≡_, refl, ap}
 use mathlib.Core.List.{List, [], _++_}
-use mathlib.Core.Bool.{Bool, true, false, not, _&&_, _||_}
+use mathlib.Core.Bool.{Bool, true, false}
 use native.Mathlib.Omega.{arith}
-use lib.ListN.{length, getD, drop, length-append}
-use lib.Dec.{leb, eqb}
-use lib.IntN.{ℤ, pos, negsuc}
-use lib.Signed.{ltZ, leZ}
-use borrow.Author.Tests.{leb-true, eqb-true, eqb-false}
-use Rattle.laws.specs.Lists.{same, allAt}
+use lib.ListN.{length, getD, length-append}
+use lib.Dec.{eqb}
+use borrow.Author.Tests.{eqb-true, eqb-false}
 use Rattle.laws.specs.Text.{text}
-use Rattle.laws.proofs.Choice.{and-left, and-right, false≢true}
-use Rattle.number.specs.Number.{realMost, isReal}
 use Rattle.spelling.specs.Spelling.{realText}
 use Rattle.spelling.proofs.SpellingLaws.{real-length}
-use Rattle.header.specs.declared.Header.{Header}
-use Rattle.header.specs.Header.{firstWords, nameByte, isName, isHeader}
-use Rattle.writer.specs.Sheet.{line, headerText}
+use Rattle.heading.specs.declared.Header.{Header}
+use Rattle.header.specs.Header.{firstWords}
+use Rattle.heading.proofs.HeadingLaws.{IsHeader}
+use Rattle.layout.specs.Sheet.{line, headerText}
 use Rattle.writer.specs.Put.{Put}
 use Rattle.writer.proofs.Putting.{Putting, putting-start, putting-room, putting-on}
 use Rattle.writer.proofs.Sizes.{line-length}
-
--- ---- what a header is
-
-pub record Head (h : Header) : Type 0 where
-  pub low : 1 ≤ h .kind
-  pub high : h .kind ≤ 3
-  pub long : length (h .name) ≡ 11
-  pub real : isReal (h .scale) ≡ true
-
-above-real : (z : ℤ) → ltZ (pos 0) z ≡ true → leZ z realMost ≡ true → isReal z ≡ true
-unfolding isReal
-above-real (pos n) a b = b
-above-real (negsuc n) a b = absurd (false≢true a)
-
-name-long : (kind : ℕ) (s : List ℕ) → isName kind s ≡ true → length s ≡ 11
-unfolding isName
-name-long kind s e =
-    let a = eqb (length s) 11 in
-    let b = allAt nameByte 0 s in
-    let c = not (eqb kind 3) || same (drop 9 s) (text "QU") in
-    eqb-true (length s) 11 (and-left a b (and-left (a && b) c e))
-
-pub head-is : (h : Header) → isHeader h ≡ true → Head h
-unfolding isHeader
-head-is h e =
-    let a = leb 1 (h .kind) in
-    let b = leb (h .kind) 3 in
-    let c = isName (h .kind) (h .name) in
-    let d = ltZ (pos 0) (h .scale) in
-    let f = leZ (h .scale) realMost in
-    let e₃ = and-left (a && b && c && d) f e in
-    let e₂ = and-left (a && b && c) d e₃ in
-    let e₁ = and-left (a && b) c e₂ in
-    record {
-      low = leb-true 1 (h .kind) (and-left a b e₁);
-      high = leb-true (h .kind) 3 (and-right a b e₁);
-      long = name-long (h .kind) (h .name) (and-right (a && b) c e₂);
-      real = above-real (h .scale) (and-right (a && b && c) d e₃) (and-right (a && b && c && d) f e);
-    }
 
 -- ---- its first word
 
@@ -78,7 +35,7 @@ module _ (kind : ℕ) where
 
 -- ---- its length
 
-module _ (h : Header) (w : Head h) where
+module _ (h : Header) (w : IsHeader h) where
   header-size : length (headerText h) ≡ length (getD firstWords (h .kind - 1) []) + 29
   unfolding headerText
   header-size =

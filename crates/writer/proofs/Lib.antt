@@ -1,17 +1,4 @@
-mod Contents
-mod RingPass
-mod FieldPass
-pub mod RowPass
-pub mod WrittenLaws
-mod ScheduleLaws
-mod TokenSays
-mod Tails
-mod RingTails
-mod FieldTails
-mod MadeRows
-mod PassRows
-pub mod ReadMade
-pub mod ReadWritten
+-- The laws of `writer` and the ways through its code; `pub mod` lets other crates cite a file.
 pub mod WriteLaws
 pub mod Putting
 mod RowFacts

@@ -16,9 +16,10 @@ use Rattle.laws.specs.Lists.{tail, over, pasted}
 use Rattle.laws.proofs.TableLaws.{pasted-none, pasted-one, pasted-behind, pasted-part, length-pasted}
 use Rattle.laws.proofs.ListLaws.{rest-is}
 use Rattle.number.specs.Number.{isReal}
+use Rattle.spelling.specs.Stored.{hasRoom, Stored}
 use Rattle.spelling.specs.Spelling.{integerText, realText}
 use Rattle.spelling.proofs.SpellingLaws.{integer-length, real-length, in-plus, in-minus}
-use Rattle.writer.specs.Sheet.{line}
+use Rattle.layout.specs.Sheet.{line}
 use Rattle.writer.specs.Put.{Put}
 
 pub record Putting (l : List ℕ) (at : ℕ) (s d : List ℕ) (n : ℕ) (r : List ℕ) : Type 0 where
@@ -29,6 +30,11 @@ pub record Putting (l : List ℕ) (at : ℕ) (s d : List ℕ) (n : ℕ) (r : Lis
 
 pub putting-start : (l : List ℕ) (at : ℕ) (s : List ℕ) → at + length s ≤ length l → Putting l at s l at s
 putting-start l at s h = record { size = refl; room = h; place = refl; is = refl }
+
+-- bytes that find room
+pub stored-put : {l : List ℕ} {at : ℕ} {s d : List ℕ} {r : ℕ} → at + length s ≤ length l → Stored l at s d r → Put l at s d r
+unfolding hasRoom
+stored-put {l} {at} {s} h w = let t = le-leb (at + length s) (length l) h in record { is = w .is ∙ rw t; next = w .next ∙ rw t }
 
 module _ {l : List ℕ} {at : ℕ} {s d : List ℕ} {n : ℕ} {r : List ℕ} (p : Putting l at s d n r) where
   -- the next part of what is to come
@@ -47,12 +53,9 @@ module _ {l : List ℕ} {at : ℕ} {s d : List ℕ} {n : ℕ} {r : List ℕ} (p 
         is = rw (w .is, w .next) (pasted-behind d n a b h) ∙ ap (pasted d n) (sym q) ∙ p .is;
       }
 
-  pub putting-one : (v : ℕ) (b : List ℕ) → r ≡ v ∷ b → Putting l at s (set d n v) (n + 1) b
-  putting-one v b q =
-      putting-on (v ∷ []) b q (record { is = pasted-one d n v (omega (arith, putting-room (v ∷ []) b q)); next = refl })
-
-  pub putting-here : (v : ℕ) (b : List ℕ) → r ≡ v ∷ b → n < length d
-  putting-here v b q = omega (arith, putting-room (v ∷ []) b q)
+  -- the same, of bytes that are stored
+  pub stored-on : (a b : List ℕ) {e : List ℕ} {m : ℕ} → r ≡ a ++ b → Stored d n a e m → Putting l at s e m b
+  stored-on a b q w = putting-on a b q (stored-put (putting-room a b q) w)
 
   -- nothing is to come
   pub putting-end : r ≡ [] → Put l at s d n
@@ -65,6 +68,9 @@ module _ {l : List ℕ} {at : ℕ} {s d : List ℕ} {n : ℕ} {r : List ℕ} (p 
   -- the last part
   pub putting-last : {e : List ℕ} {m : ℕ} → Put d n r e m → Put l at s e m
   putting-last {e} {m} w = record { is = w .is ∙ p .is; next = w .next ∙ p .place }
+
+  pub stored-last : {e : List ℕ} {m : ℕ} → Stored d n r e m → Put l at s e m
+  stored-last w = putting-last (stored-put (p .room) w)
 
 -- the record of the same content
 pub line-room : {s t : List ℕ} → s ≡ t → (at size : ℕ) → at + length (line s) ≤ size → at + length (line t) ≤ size

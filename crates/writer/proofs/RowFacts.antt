@@ -13,8 +13,7 @@ use Rattle.laws.specs.Whole.{eqZ}
 use Rattle.laws.proofs.Choice.{and-left, and-right, false≢true}
 use Rattle.laws.proofs.ListLaws.{below-at, all-each, left-none}
 use Rattle.token.specs.Lex.{mayLieOutside}
-use Rattle.machine.specs.Rows.{schedule}
-use Rattle.machine.specs.Machine.{wantAt}
+use Rattle.kinds.specs.Kinds.{schedule, wantAt}
 use Rattle.sheet.specs.Tables.{Tables}
 use Rattle.made.specs.Made.{natOf, countAt, kindOf, islandsOf, pointsOf, isBetween, inRange, hasField, isOutside, isCell, cellTest, areNumbers, areLetters, sum, fourAtLeast, areCounts, areReals, areClosed, ringSizes, arePoints, isMade}
 use Rattle.row.specs.Walk.{cellIn}

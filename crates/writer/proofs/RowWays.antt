@@ -8,23 +8,21 @@ use lib.ListN.{length, getD, take, drop}
 use lib.Dec.{eqb}
 use lib.IntN.{ℤ, pos}
 use borrow.Author.Tests.{ne-eqb}
-use Rattle.laws.specs.Lists.{tail}
 use Rattle.laws.proofs.Choice.{and-left, and-right}
-use Rattle.laws.proofs.ListLaws.{left, left-none, rest-is}
+use Rattle.laws.proofs.ListLaws.{left, left-none}
 use Rattle.number.specs.Number.{isReal}
+use Rattle.spelling.specs.Stored.{Stored}
 use Rattle.spelling.specs.Spelling.{integerText, realText}
 use Rattle.token.specs.Lex.{keywords, keyText}
 use Rattle.token.specs.declared.Want.{Want}
 use Rattle.token.specs.declared.Want.the-variants.{Key, Text, Int, Real}
-use Rattle.machine.specs.Rows.{schedule}
-use Rattle.machine.specs.Machine.{wantAt}
+use Rattle.kinds.specs.Kinds.{schedule, wantAt}
 use Rattle.sheet.specs.Tables.{Tables}
 use Rattle.made.specs.Made.{tablesOf, countAt, kindOf, islandsOf, pointsOf, inRange, hasField, areNumbers, sum, areReals}
-use Rattle.row.specs.declared.Stand.{Stand}
-use Rattle.writer.specs.Sheet.{line, fieldText, fieldsText, integersText, realsText, rowText}
-use Rattle.row.specs.Walk.{wordMost, cellIn, nextStand, Stands}
+use Rattle.layout.specs.Sheet.{line, fieldText, fieldsText, integersText, realsText, rowText}
+use Rattle.row.specs.Walk.{cellIn}
 use Rattle.writer.specs.Put.{Put}
-use Rattle.writer.proofs.Putting.{Putting, putting-start, putting-room, putting-on, putting-last, line-room, line-put}
+use Rattle.writer.proofs.Putting.{Putting, putting-start, putting-room, putting-on, putting-last, stored-on, line-room, line-put}
 use Rattle.writer.proofs.RowFacts.{between, row-held, kind-in, field-in, field-place, schedule-here, schedule-over}
 
 -- ---- the keyword
@@ -48,14 +46,11 @@ module _ (k o : ℕ) (h : 1 ≤ k) (m : o ≤ 1) {word : List ℕ} (w : word ≡
     start : Putting l at (line (keyText (2 * k + o))) l at (line (keyText (2 * k + o)))
     start = putting-start l at (line (keyText (2 * k + o))) room
 
-    pub key-room : at + length word ≤ length l
-    key-room = putting-room start word (line (mark o)) key-parts
+    pub key-outside : {e : List ℕ} {n : ℕ} → o ≡ 1 → Stored l at word e n → Putting l at (line (keyText (2 * k + o))) e n (92 ∷ 13 ∷ 10 ∷ [])
+    key-outside q p = stored-on start word (92 ∷ 13 ∷ 10 ∷ []) (key-parts ∙ rw q) p
 
-    pub key-outside : {e : List ℕ} {n : ℕ} → o ≡ 1 → Put l at word e n → Putting l at (line (keyText (2 * k + o))) e n (92 ∷ 13 ∷ 10 ∷ [])
-    key-outside q p = putting-on start word (92 ∷ 13 ∷ 10 ∷ []) (key-parts ∙ rw q) p
-
-    pub key-inside : {e : List ℕ} {n : ℕ} → (o ≡ 1 → ⊥) → Put l at word e n → Putting l at (line (keyText (2 * k + o))) e n (13 ∷ 10 ∷ [])
-    key-inside f p = let q : o ≡ 0 = omega arith in putting-on start word (13 ∷ 10 ∷ []) (key-parts ∙ rw q) p
+    pub key-inside : {e : List ℕ} {n : ℕ} → (o ≡ 1 → ⊥) → Stored l at word e n → Putting l at (line (keyText (2 * k + o))) e n (13 ∷ 10 ∷ [])
+    key-inside f p = let q : o ≡ 0 = omega arith in stored-on start word (13 ∷ 10 ∷ []) (key-parts ∙ rw q) p
 
 -- ---- a field
 
@@ -232,40 +227,3 @@ module _ (t : Tables) where
 
     pub row-points : {x : List ℕ} {m : ℕ} → Put d n (realsText (take (2 * v) (t .points))) x m → Put l at (rowText t) x m
     row-points {x} {m} q = putting-last p (subst (λ (s : List ℕ). Put d n s x m) points-are q)
-
--- ---- past the row
-
-module _ (rows : List ℤ) (d : Stand) where
-  abbrev left-in : ℕ → ℕ
-  left-in p = cellIn (tail rows (d .row)) p
-
-  next-letters : nextStand rows d .letters ≡ d .letters + left-in 9
-  unfolding nextStand
-  next-letters = rw (rest-is rows (d .row))
-
-  next-islands : nextStand rows d .islands ≡ d .islands + left-in 10
-  unfolding nextStand
-  next-islands = rw (rest-is rows (d .row))
-
-  next-points : nextStand rows d .points ≡ d .points + 2 * left-in 11
-  unfolding nextStand
-  next-points = rw (rest-is rows (d .row))
-
-  module _ (s : Stands wordMost wordMost wordMost wordMost (nextStand rows d)) where
-    pub row-fits : d .row + 12 ≤ wordMost
-    unfolding nextStand
-    row-fits = s .row-in
-
-    pub letters-fit : (a : ℕ) → a ≡ left-in 9 → d .letters + a ≤ wordMost
-    letters-fit a e = omega (arith, next-letters, s .letters-in, e)
-
-    pub islands-fit : (a : ℕ) → a ≡ left-in 10 → d .islands + a ≤ wordMost
-    islands-fit a e = omega (arith, next-islands, s .islands-in, e)
-
-    pub points-fit : (a : ℕ) → a ≡ left-in 11 → d .points + 2 * a ≤ wordMost
-    points-fit a e = omega (arith, next-points, s .points-in, e)
-
-  pub next-is : (a b c : ℕ) → a ≡ left-in 9 → b ≡ left-in 10 → c ≡ left-in 11
-      → record { row = d .row + 12; letters = d .letters + a; islands = d .islands + b; points = d .points + 2 * c } ≡ nextStand rows d
-  unfolding nextStand
-  next-is a b c e f g = rw (e, f, g, rest-is rows (d .row))

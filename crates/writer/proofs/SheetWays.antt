@@ -12,14 +12,14 @@ use Rattle.laws.specs.Text.{text}
 use Rattle.laws.proofs.Choice.{cond-first}
 use Rattle.record.specs.declared.Mode.the-variants.{Exact}
 use Rattle.record.specs.Refusals.{fileMost}
-use Rattle.header.specs.declared.Header.{Header}
-use Rattle.header.specs.Header.{isHeader}
+use Rattle.heading.specs.declared.Header.{Header}
+use Rattle.heading.specs.Heading.{isHeader}
 use Rattle.sheet.specs.Tables.{Tables}
 use Rattle.made.specs.declared.Verdict.{Verdict}
 use Rattle.made.specs.declared.Verdict.the-variants.{Fine, BadHeader}
 use Rattle.made.specs.Made.{judgeRows, judgeOf}
 use Rattle.writer.specs.declared.Written.the-variants.{Wrote, TooLong, NoRoom}
-use Rattle.writer.specs.Sheet.{line, rowsText, headerText, sheetText}
+use Rattle.layout.specs.Sheet.{line, rowsText, headerText, sheetText}
 use Rattle.writer.specs.Write.{afterVerdict, writeOf}
 use Rattle.writer.specs.Put.{Put}
 use Rattle.writer.proofs.Putting.{Putting, putting-start, putting-room, putting-on, putting-last}

@@ -18,11 +18,10 @@ use Rattle.spelling.proofs.SpellingLaws.{integer-length, real-length}
 use Rattle.token.specs.Lex.{keywords, keyText}
 use Rattle.token.specs.declared.Want.{Want}
 use Rattle.token.specs.declared.Want.the-variants.{Key, Text, Int, Real}
-use Rattle.machine.specs.Rows.{schedule}
-use Rattle.machine.specs.Machine.{wantAt}
+use Rattle.kinds.specs.Kinds.{schedule, wantAt}
 use Rattle.sheet.specs.Tables.{Tables}
 use Rattle.made.specs.Made.{cellAt, countAt, kindOf, islandsOf, pointsOf, inRange, hasField, areNumbers, areReals, isMade}
-use Rattle.writer.specs.Sheet.{line, fieldText, fieldsText, integersText, realsText, rowText}
+use Rattle.layout.specs.Sheet.{line, fieldText, fieldsText, integersText, realsText, rowText}
 use Rattle.row.specs.Walk.{cellIn}
 use Rattle.writer.specs.Put.{frames, rowSize}
 use Rattle.writer.proofs.RowFacts.{row-is, kind-in, outside-in, letters-in, islands-in, vertices-in, field-in, field-none}

@@ -13,7 +13,7 @@ use Rattle.sheet.specs.Tables.{Tables}
 use Rattle.made.specs.declared.Verdict.the-variants.{Fine}
 use Rattle.made.specs.Made.{areNumbers, judgeRows}
 use Rattle.row.specs.declared.Stand.{Stand}
-use Rattle.writer.specs.Sheet.{rowText, rowsText}
+use Rattle.layout.specs.Sheet.{rowText, rowsText}
 use Rattle.row.specs.Walk.{leftAt, nextStand}
 use Rattle.writer.specs.Put.{Put, rowSize}
 use Rattle.row.specs.Walk.{firstStand}

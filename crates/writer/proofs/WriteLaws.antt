@@ -9,19 +9,19 @@ use Rattle.laws.specs.Lists.{over}
 use Rattle.record.specs.declared.Mode.{Mode}
 use Rattle.record.specs.declared.Mode.the-variants.{Loose, Exact}
 use Rattle.record.specs.Refusals.{fileMost}
-use Rattle.header.specs.declared.Header.{Header}
-use Rattle.header.specs.Header.{isHeader}
+use Rattle.heading.specs.declared.Header.{Header}
+use Rattle.heading.specs.Heading.{isHeader}
 use Rattle.sheet.specs.Tables.{Tables}
 use Rattle.sheet.specs.Reading.{sheet, meaning, reading}
 use Rattle.sheet.proofs.Meaning.{reading-meaning}
 use Rattle.made.specs.declared.Verdict.the-variants.{Fine}
 use Rattle.made.specs.Made.{judgeRows, judgeOf, usedOf}
-use Rattle.writer.specs.Sheet.{sheetText}
+use Rattle.layout.specs.Sheet.{sheetText}
 use Rattle.writer.specs.Write.{writeOf, outputOf}
 use Rattle.writer.specs.declared.Written.the-variants.{Wrote}
-use Rattle.writer.proofs.WrittenLaws.{made-could-come, written-then-read}
-use Rattle.writer.proofs.ReadMade.{reading-made}
-use Rattle.writer.proofs.ReadWritten.{read-written}
+use Rattle.layout.proofs.WrittenLaws.{made-could-come, written-then-read}
+use Rattle.layout.proofs.ReadMade.{reading-made}
+use Rattle.layout.proofs.ReadWritten.{read-written}
 
 -- the rows of tables that were read
 abbrev pub rowCount : Tables → ℕ

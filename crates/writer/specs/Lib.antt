@@ -1,3 +1,3 @@
-pub mod Sheet
+-- The definitions of `writer`, in the order to read them.
 pub mod Write
 pub mod Put

@@ -5,7 +5,7 @@ use mathlib.Core.List.{List, [], _∷_}
 use lib.ListN.{length, getD}
 use lib.IntN.{ℤ}
 use Rattle.laws.specs.Lists.{pasted}
-use Rattle.machine.specs.Rows.{lettersPlace, islandsPlace, verticesPlace}
+use Rattle.kinds.specs.Kinds.{lettersPlace, islandsPlace, verticesPlace}
 use Rattle.row.specs.Walk.{cellIn}
 
 -- in d, which held l, s stands from `at` on; r is the place behind it

@@ -8,12 +8,12 @@ use lib.Dec.{leb}
 use Rattle.laws.specs.Lists.{over}
 use Rattle.record.specs.declared.Mode.the-variants.{Exact}
 use Rattle.record.specs.Refusals.{tooLong, noRoom, fileMost}
-use Rattle.header.specs.declared.Header.{Header}
+use Rattle.heading.specs.declared.Header.{Header}
 use Rattle.sheet.specs.Tables.{Tables}
 use Rattle.made.specs.declared.Verdict.{Verdict}
 use Rattle.made.specs.declared.Verdict.the-variants as Verdict
 use Rattle.made.specs.Made.{judgeOf}
-use Rattle.writer.specs.Sheet.{sheetText}
+use Rattle.layout.specs.Sheet.{sheetText}
 use Rattle.writer.specs.declared.Written.{Written}
 use Rattle.writer.specs.declared.Written.the-variants.{Wrote, TooLong, NoRoom, Refused}
 

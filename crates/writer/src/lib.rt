@@ -12,24 +12,26 @@ ghost use Rattle.record.specs.declared.Mode.the-variants.{Exact};
 ghost use Rattle.number.specs.Number.{isReal};
 ghost use Rattle.spelling.specs.Spelling.{integerMost, integerText, realText};
 ghost use Rattle.token.specs.Lex.{keyText};
-ghost use Rattle.machine.specs.Rows.{schedule, lettersPlace};
-ghost use Rattle.machine.specs.Machine.{wantAt};
-ghost use Rattle.header.specs.Header.{firstWords, isHeader};
+ghost use Rattle.kinds.specs.Kinds.{schedule, lettersPlace, wantAt};
+ghost use Rattle.header.specs.Header.{firstWords};
+ghost use Rattle.heading.specs.Heading.{isHeader};
 ghost use Rattle.made.specs.declared.Verdict.the-variants.{Fine};
 ghost use Rattle.made.specs.Made.{tablesOf, hasField, areNumbers, sum, areReals, isMade, judgeRows, judgeOf};
-ghost use Rattle.writer.specs.Sheet.{line, fieldText, fieldsText, integersText, realsText, rowText, rowsText, headerText, sheetText};
+ghost use Rattle.layout.specs.Sheet.{line, fieldText, fieldsText, integersText, realsText, rowText, rowsText, headerText, sheetText};
 ghost use Rattle.writer.specs.Write.{afterVerdict, writeOf, outputOf};
-ghost use Rattle.row.specs.Walk.{wordMost, cellIn, nextStand, Stands};
+ghost use Rattle.row.specs.Walk.{cellIn};
 ghost use Rattle.writer.specs.Put.{Put, rowSize};
-use header::Header;
-use machine::field_at;
-use machine::want_at;
+use heading::Header;
+use kinds::field_at;
+use kinds::want_at;
 use made::Verdict;
 use made::count_at;
 use made::judge;
 use record::FILE_MOST;
 use record::Mode;
 use row::Stand;
+use row::stand_next;
+use spelling::put_bytes;
 use spelling::spell_integer;
 use spelling::spell_real;
 use token::WORD_STARTS;
@@ -43,8 +45,6 @@ pub enum Written {
     NoRoom(usize),
     Refused(Verdict),
 }
-
-const ROW_WIDTH: usize = 12;
 
 const LETTERS_PLACE: usize = 9;
 
@@ -62,21 +62,6 @@ fn wide(n: u16) -> usize
     ensures { λ r. ⌜ r ≡ n ⌝ }
 {
     n as usize
-}
-
-// Copies bytes to a place; the answer is the place behind them.
-fn put_bytes(out: &mut [u8], at: usize, s: &[u8]) -> usize
-    requires { ⌜ at + length (now s) ≤ length (now out) ⌝ }
-    ensures { λ r. ⌜ Put (now (out .entry)) at (now (s .entry)) (now (out .exit)) r ⌝ }
-{
-    let mut next = at;
-    let mut i = 0;
-    while i < s.len() {
-        out[next] = s[i];
-        next += 1;
-        i += 1;
-    }
-    next
 }
 
 // A record with this content.
@@ -203,25 +188,6 @@ fn put_row(
     let islands_end = put_islands(out, fields_end, &islands[..i]);
     let p = 2 * count_at(rows, VERTICES_PLACE);
     put_points(out, islands_end, &points[..p])
-}
-
-// Past the row that a walk stands at, and its own part of the tables.
-fn stand_next(rows: &[i64], d: Stand) -> Stand
-    requires { ⌜ d .row ≤ length (now rows) ⌝ }
-    requires { ⌜ Stands wordMost wordMost wordMost wordMost (nextStand (now rows) d) ⌝ }
-    ensures { λ r. ⌜ r ≡ nextStand (now (rows .entry)) d ⌝ }
-{
-    let row = d.row;
-    let letters = d.letters;
-    let islands = d.islands;
-    let points = d.points;
-    let left = &rows[row..];
-    Stand {
-        row: row + ROW_WIDTH,
-        letters: letters + count_at(left, LETTERS_PLACE),
-        islands: islands + count_at(left, ISLANDS_PLACE),
-        points: points + 2 * count_at(left, VERTICES_PLACE),
-    }
 }
 
 // The sections of all rows.

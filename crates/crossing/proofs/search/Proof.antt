@@ -6,6 +6,7 @@ use native.Mathlib.Omega.{arith}
 use lib.Dec.{ltb}
 use borrow.Author.Count.{below-none, below-more}
 use Rattle.crossing.specs.Search.{faulty-pair, second-edge}
+use Rattle.crossing.proofs.RunLaws.{row-on}
 use Rattle.crossing.proofs.SearchLaws.{row-none, pair-found, none-found}
 use Rattle.crossing.proofs.search.Statement.{statement}
 use Rattle.crossing.proofs.search.Tie as tie
@@ -48,21 +49,27 @@ faulty-pair-requires c κs =
     let s = c .before .before .before .before .before .before in
     (omega arith, omega arith, omega arith, s .pre .1, c .before .before .before .vertex .ensures, c .before .before .vertex2 .ensures)
 
-add-j : tie.Need-add-j Inv-loop μ-loop Inv-rows μ-rows
-add-j c = omega arith
+add-onward : tie.Need-add-onward Inv-loop μ-loop Inv-rows μ-rows
+add-onward c = omega arith
+
+onward-requires : tie.Need-onward-requires Inv-loop μ-loop Inv-rows μ-rows
+onward-requires c κs =
+    let s = c .before .before .before .before .before .before .before .before in
+    (omega arith, omega arith, s .pre .0, c .before .before .before .before .before .vertex .ensures, c .before .before .before .before .vertex2 .ensures)
 
 loop-less : tie.Need-loop-less Inv-loop μ-loop Inv-rows μ-rows
-loop-less c = omega arith
+loop-less c = omega (arith, c .onward .ensures .on)
 
 loop-again : tie.Need-loop-again Inv-loop μ-loop Inv-rows μ-rows
 loop-again c =
-    let s = c .before .before .before .before .before .before .before .before in
-    let i = c .before .before .before .before .before .before .before .rows .i in
-    let l = c .before .before .before .loop in (
-      omega arith,
-      omega arith,
-      below-more (λ k. i ≤ k → faulty-pair (s .args .points .now) (s .args .from) (s .args .edges) i k ≡ false) (l .j) (l .inv .2)
-          (λ m. sym (c .before .faulty-pair .ensures) ∙ c .if1 .left),
+    let s = c .before .before .before .before .before .before .before .before .before in
+    let i = c .before .before .before .before .before .before .before .before .rows .i in
+    let l = c .before .before .before .before .loop in
+    let w = c .onward .ensures in (
+      omega (arith, w .on),
+      w .inside,
+      row-on (faulty-pair (s .args .points .now) (s .args .from) (s .args .edges) i) i (l .j) (s .args .edges) (c .onward .result) (l .inv .2)
+          (sym (c .before .before .faulty-pair .ensures) ∙ c .before .if1 .left) w,
     )
 
 add-i : tie.Need-add-i Inv-loop μ-loop Inv-rows μ-rows
@@ -111,7 +118,8 @@ search-spec =
     vertex-requires-2
     loop-holds
     faulty-pair-requires
-    add-j
+    add-onward
+    onward-requires
     loop-less
     loop-again
     add-i

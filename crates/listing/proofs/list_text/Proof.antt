@@ -1,7 +1,7 @@
 -- `list_text` meets its contract: the text in an array of its own, then the room, then the copy. Assumes nothing.
 use borrow.Author.Needs.{needs}
 use Rattle.laws.proofs.ListLaws.{part-count}
-use Rattle.listing.proofs.ReadWays.{text-in, text-room, answer-none, answer-wrote}
+use Rattle.listing.proofs.ReadWays.{text-in, answer-none, answer-wrote}
 use Rattle.listing.proofs.list_text.Statement.{statement}
 use Rattle.listing.proofs.list_text.Tie as tie
 
@@ -21,7 +21,7 @@ slice-aggregate-put-bytes : tie.Need-slice-aggregate-put-bytes
 slice-aggregate-put-bytes c = part-count _ _ (text-in _ _ _ _ (c .before .before .before .before .put-listing .ensures))
 
 put-bytes-requires : tie.Need-put-bytes-requires
-put-bytes-requires c κs = text-room _ _ _ _ (c .before .before .before .before .put-listing .ensures) ((c .before .before .before .before .before .before .before .before) .args .out .now) (c .before .before .if1 .left)
+put-bytes-requires c κs = search needs
 
 same-length : tie.Need-same-length
 same-length c = search needs

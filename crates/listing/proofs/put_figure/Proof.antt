@@ -1,7 +1,7 @@
 -- `put_figure` meets its contract: a blank, and the digits spelt in the part behind it. Assumes nothing.
 use native.Mathlib.Omega.{arith}
 use borrow.Author.Needs.{needs}
-use Rattle.listing.proofs.LineWays.{blank-room, figure-end, figure-put}
+use Rattle.listing.proofs.LineWays.{digits-at, figure-end, figure-put}
 use Rattle.listing.proofs.put_figure.Statement.{statement}
 use Rattle.listing.proofs.put_figure.Tie as tie
 
@@ -9,13 +9,13 @@ slice-aggregate-put-bytes : tie.Need-slice-aggregate-put-bytes
 slice-aggregate-put-bytes c = search needs
 
 put-bytes-requires : tie.Need-put-bytes-requires
-put-bytes-requires c κs = blank-room ((c .before .before .before) .args .out .now) ((c .before .before .before) .args .at) ((c .before .before .before) .args .n) ((c .before .before .before) .pre)
+put-bytes-requires c κs = search needs
 
 sub-spell-count : tie.Need-sub-spell-count
-sub-spell-count c = search needs
+sub-spell-count c = digits-at _ _ _ (c .before .before .before .before .before .before .pre) (c .before .before .put-bytes .ensures)
 
 part-spell-count-start : tie.Need-part-spell-count-start
-part-spell-count-start c = search needs
+part-spell-count-start c = digits-at _ _ _ (c .before .before .before .before .before .before .pre) (c .before .before .put-bytes .ensures)
 
 part-spell-count-end : tie.Need-part-spell-count-end
 part-spell-count-end c = search needs

@@ -15,7 +15,7 @@ slice-aggregate-put-bytes : tie.Need-slice-aggregate-put-bytes
 slice-aggregate-put-bytes c = search needs
 
 put-bytes-requires : tie.Need-put-bytes-requires
-put-bytes-requires c κs = putting-room (map-start ((c .before .before .before .before .before) .args .out .now) ((c .before .before .before .before .before) .args .header) ((c .before .before .before .before .before) .pre)) (text "MAP") _ refl
+put-bytes-requires c κs = search needs
 
 put-figure-requires : tie.Need-put-figure-requires
 put-figure-requires c κs = putting-room (map-kind ((c .before .before .before .before .before .before .before .before .before) .args .out .now) ((c .before .before .before .before .before .before .before .before .before) .args .header) ((c .before .before .before .before .before .before .before .before .before) .pre) (c .before .before .before .put-bytes .ensures)) (figure ((c .before .before .before .before .before .before .before .before .before) .args .header .kind)) _ refl
@@ -24,13 +24,13 @@ slice-aggregate-put-bytes-2 : tie.Need-slice-aggregate-put-bytes-2
 slice-aggregate-put-bytes-2 c = search needs
 
 put-bytes-requires-2 : tie.Need-put-bytes-requires-2
-put-bytes-requires-2 c κs = putting-room (map-blank ((c .before .before .before .before .before .before .before .before .before .before .before .before .before .before) .args .out .now) ((c .before .before .before .before .before .before .before .before .before .before .before .before .before .before) .args .header) ((c .before .before .before .before .before .before .before .before .before .before .before .before .before .before) .pre) (c .before .before .before .before .before .before .before .before .put-bytes .ensures) (c .before .before .before .before .put-figure .ensures)) blank _ refl
+put-bytes-requires-2 c κs = search needs
 
 slice-aggregate-put-bytes-3 : tie.Need-slice-aggregate-put-bytes-3
 slice-aggregate-put-bytes-3 c = search needs
 
 put-bytes-requires-3 : tie.Need-put-bytes-requires-3
-put-bytes-requires-3 c κs = putting-room (map-name ((c .before .before .before .before .before .before .before .before .before .before .before .before .before .before .before .before .before .before .before) .args .out .now) ((c .before .before .before .before .before .before .before .before .before .before .before .before .before .before .before .before .before .before .before) .args .header) ((c .before .before .before .before .before .before .before .before .before .before .before .before .before .before .before .before .before .before .before) .pre) (c .before .before .before .before .before .before .before .before .before .before .before .before .before .put-bytes .ensures) (c .before .before .before .before .before .before .before .before .before .put-figure .ensures) (c .before .before .before .before .put-bytes2 .ensures)) ((c .before .before .before .before .before .before .before .before .before .before .before .before .before .before .before .before .before .before .before) .args .header .name) _ refl
+put-bytes-requires-3 c κs = search needs
 
 slice-aggregate-put-figures : tie.Need-slice-aggregate-put-figures
 slice-aggregate-put-figures c = search needs

@@ -4,10 +4,10 @@ use mathlib.Core.List.{[]}
 use native.Mathlib.Omega.{arith}
 use lib.ListN.{length, getD, drop}
 use borrow.Author.Needs.{needs}
-use Rattle.machine.specs.Rows.{schedule}
+use Rattle.kinds.specs.Kinds.{schedule}
 use Rattle.made.specs.Made.{tablesOf}
 use Rattle.row.specs.Walk.{cellIn}
-use Rattle.writer.specs.Sheet.{fieldsText}
+use Rattle.layout.specs.Sheet.{fieldsText}
 use Rattle.writer.proofs.Putting.{Putting, putting-start, putting-end}
 use Rattle.writer.proofs.RowFacts.{kind-in, places-few, schedule-here, schedule-has}
 use Rattle.writer.proofs.RowWays.{fields-room, fields-on, fields-over}

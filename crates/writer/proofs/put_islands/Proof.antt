@@ -3,7 +3,7 @@ use Prim.Native.Nat.{_-_, _≤_}
 use lib.ListN.{length, drop}
 use borrow.Author.Needs.{needs}
 use Rattle.made.specs.Made.{sum}
-use Rattle.writer.specs.Sheet.{integersText}
+use Rattle.layout.specs.Sheet.{integersText}
 use Rattle.writer.proofs.Putting.{Putting, putting-start, putting-end}
 use Rattle.writer.proofs.RowWays.{islands-most, islands-room, islands-on, islands-next, islands-over}
 use Rattle.writer.proofs.put_islands.Statement.{statement}

@@ -6,7 +6,7 @@ use native.Mathlib.Omega.{arith}
 use borrow.Author.Needs.{needs}
 use Rattle.token.proofs.TokenWays.{word-from, word-to, word-part}
 use Rattle.writer.proofs.Putting.{putting-room, putting-last}
-use Rattle.writer.proofs.RowWays.{key-room, key-outside, key-inside}
+use Rattle.writer.proofs.RowWays.{key-outside, key-inside}
 use Rattle.writer.proofs.put_key.Statement.{statement}
 use Rattle.writer.proofs.put_key.Tie as tie
 
@@ -38,7 +38,7 @@ part-put-bytes-end : tie.Need-part-put-bytes-end
 part-put-bytes-end c = word-to ((c .before .before .before) .args .kind - 1) (omega arith)
 
 put-bytes-requires : tie.Need-put-bytes-requires
-put-bytes-requires c κs = (key-room ((c .before .before .before .before) .args .kind) ((c .before .before .before .before) .args .outside) ((c .before .before .before .before) .pre .0) ((c .before .before .before .before) .pre .2) (word-part ((c .before .before .before .before) .args .kind - 1) (omega arith)) ((c .before .before .before .before) .args .out .now) ((c .before .before .before .before) .args .at) ((c .before .before .before .before) .pre .3))
+put-bytes-requires c κs = search needs
 
 slice-aggregate-put-line : tie.Need-slice-aggregate-put-line
 slice-aggregate-put-line c = search needs

@@ -2,25 +2,25 @@
 use mathlib.Core.List.{[], _∷_}
 use mathlib.Core.Path.{refl}
 use borrow.Author.Needs.{needs}
-use Rattle.writer.specs.Sheet.{line}
-use Rattle.writer.proofs.Putting.{putting-start, putting-room, putting-on, putting-last}
+use Rattle.layout.specs.Sheet.{line}
+use Rattle.writer.proofs.Putting.{putting-start, stored-on, stored-last}
 use Rattle.writer.proofs.put_line.Statement.{statement}
 use Rattle.writer.proofs.put_line.Tie as tie
 
 put-bytes-requires : tie.Need-put-bytes-requires
-put-bytes-requires c κs = let s = c .before .before .before in putting-room (putting-start (s .args .out .now) (s .args .at) (line (s .args .s .now)) (s .pre)) (s .args .s .now) (13 ∷ 10 ∷ []) refl
+put-bytes-requires c κs = search needs
 
 slice-aggregate-put-bytes : tie.Need-slice-aggregate-put-bytes
 slice-aggregate-put-bytes c = search needs
 
 put-bytes-requires-2 : tie.Need-put-bytes-requires-2
-put-bytes-requires-2 c κs = let s = c .before .before .before .before .before .before .before .before in putting-room (putting-on (putting-start (s .args .out .now) (s .args .at) (line (s .args .s .now)) (s .pre)) (s .args .s .now) (13 ∷ 10 ∷ []) refl (c .before .before .before .before .put-bytes .ensures)) (13 ∷ 10 ∷ []) [] refl
+put-bytes-requires-2 c κs = search needs
 
 same-length : tie.Need-same-length
 same-length c = search needs
 
 returns : tie.Need-returns
-returns c = let s = c .before .before .before .before .before .before .before .before .before .before .before in putting-last (putting-on (putting-start (s .args .out .now) (s .args .at) (line (s .args .s .now)) (s .pre)) (s .args .s .now) (13 ∷ 10 ∷ []) refl (c .before .before .before .before .before .before .before .put-bytes .ensures)) (c .before .before .put-bytes2 .ensures)
+returns c = let s = c .before .before .before .before .before .before .before .before .before .before .before in stored-last (stored-on (putting-start (s .args .out .now) (s .args .at) (line (s .args .s .now)) (s .pre)) (s .args .s .now) (13 ∷ 10 ∷ []) refl (c .before .before .before .before .before .before .before .put-bytes .ensures)) (c .before .before .put-bytes2 .ensures)
 
 pub put-line-spec : {M : Type 1} → statement M
 put-line-spec =

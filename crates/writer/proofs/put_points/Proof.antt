@@ -5,7 +5,7 @@ use mathlib.Core.Path.{_≡_}
 use lib.ListN.{length, drop}
 use borrow.Author.Needs.{needs}
 use Rattle.made.specs.Made.{areReals}
-use Rattle.writer.specs.Sheet.{realsText}
+use Rattle.layout.specs.Sheet.{realsText}
 use Rattle.writer.proofs.Putting.{Putting, putting-start, putting-end, real-asked, real-put}
 use Rattle.writer.proofs.RowWays.{points-real, points-room, points-on, points-next, points-over}
 use Rattle.writer.proofs.put_points.Statement.{statement}

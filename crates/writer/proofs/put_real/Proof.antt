@@ -1,8 +1,6 @@
 -- `put_real` meets its contract: the number is spelt in the part from `at` on, then CR LF. Assumes nothing.
-use mathlib.Core.List.{[], _∷_}
-use mathlib.Core.Path.{refl}
 use borrow.Author.Needs.{needs}
-use Rattle.writer.proofs.Putting.{putting-room, putting-last, real-line}
+use Rattle.writer.proofs.Putting.{stored-last, real-line}
 use Rattle.writer.proofs.put_real.Statement.{statement}
 use Rattle.writer.proofs.put_real.Tie as tie
 
@@ -25,13 +23,13 @@ slice-aggregate-put-bytes : tie.Need-slice-aggregate-put-bytes
 slice-aggregate-put-bytes c = search needs
 
 put-bytes-requires : tie.Need-put-bytes-requires
-put-bytes-requires c κs = let s = c .before .before .before .before .before .before .before in putting-room (real-line (s .args .z) (s .pre .0) (s .args .out .now) (s .args .at) (s .pre .1) _ _ (c .before .before .before .before .spell-real .ensures .0) (c .before .before .before .before .spell-real .ensures .1)) (13 ∷ 10 ∷ []) [] refl
+put-bytes-requires c κs = search needs
 
 same-length : tie.Need-same-length
 same-length c = search needs
 
 returns : tie.Need-returns
-returns c = let s = c .before .before .before .before .before .before .before .before .before .before in putting-last (real-line (s .args .z) (s .pre .0) (s .args .out .now) (s .args .at) (s .pre .1) _ _ (c .before .before .before .before .before .before .before .spell-real .ensures .0) (c .before .before .before .before .before .before .before .spell-real .ensures .1)) (c .before .before .put-bytes .ensures)
+returns c = let s = c .before .before .before .before .before .before .before .before .before .before in stored-last (real-line (s .args .z) (s .pre .0) (s .args .out .now) (s .args .at) (s .pre .1) _ _ (c .before .before .before .before .before .before .before .spell-real .ensures .0) (c .before .before .before .before .before .before .before .spell-real .ensures .1)) (c .before .before .put-bytes .ensures)
 
 pub put-real-spec : {M : Type 1} → statement M
 put-real-spec =

@@ -1,8 +1,10 @@
 -- `put_rows` meets its contract. What is to come are the rows from `k` on, which are well made. Assumes nothing.
 use Prim.Native.Nat.{_-_}
 use native.Mathlib.Omega.{arith}
+use mathlib.Core.Path.{_∙_}
 use borrow.Author.Needs.{needs}
 use Rattle.made.specs.Made.{tablesOf}
+use Rattle.row.proofs.NextWays.{after-next}
 use Rattle.row.proofs.Walk.{walk-made, walk-stands, stands-small}
 use Rattle.writer.proofs.Walk.{Writing, writing-start, writing-room, writing-on, writing-end}
 use Rattle.writer.proofs.put_rows.Statement.{statement}
@@ -66,7 +68,7 @@ put-row-requires : tie.Need-put-row-requires Inv-loop μ-loop
 put-row-requires c κs = (walk-made (c .before .before .before .before .before .before .loop .inv .walk) (c .before .before .before .before .before .loop-test .taken), writing-room (c .before .before .before .before .before .before .loop .inv) (c .before .before .before .before .before .loop-test .taken))
 
 stand-next-requires : tie.Need-stand-next-requires Inv-loop μ-loop
-stand-next-requires c κs = (c .before .before .before .before .before .before .before .before .before .loop .inv .walk .stands .row-in, stands-small (walk-stands (c .before .before .before .before .before .before .before .before .before .loop .inv .walk) (c .before .before .before .before .before .before .before .before .loop-test .taken)) (omega arith) (omega arith) (omega arith) (omega arith))
+stand-next-requires c κs = search needs
 
 add-k : tie.Need-add-k Inv-loop μ-loop
 add-k c = search needs
@@ -75,7 +77,7 @@ loop-less : tie.Need-loop-less Inv-loop μ-loop
 loop-less c = search needs
 
 loop-again : tie.Need-loop-again Inv-loop μ-loop
-loop-again c = writing-on (c .before .before .before .before .before .before .before .before .before .before .loop .inv) (c .before .before .before .before .before .before .before .before .before .loop-test .taken) (c .stand-next .ensures) (c .before .before .before .put-row .ensures)
+loop-again c = writing-on (c .before .before .before .before .before .before .before .before .before .before .loop .inv) (c .before .before .before .before .before .before .before .before .before .loop-test .taken) (c .stand-next .ensures ∙ after-next _ _ (c .before .before .before .before .before .before .before .before .before .before .loop .inv .walk .stands .row-in) (stands-small (walk-stands (c .before .before .before .before .before .before .before .before .before .before .loop .inv .walk) (c .before .before .before .before .before .before .before .before .before .loop-test .taken)) (omega arith) (omega arith) (omega arith) (omega arith))) (c .before .before .before .put-row .ensures)
 
 same-length : tie.Need-same-length Inv-loop μ-loop
 same-length c = c .before .loop .inv .puts .size

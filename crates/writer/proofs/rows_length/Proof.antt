@@ -1,8 +1,10 @@
 -- `rows_length` meets its contract: the bytes so far and those of the rows from `k` on are those of the whole. Assumes nothing.
 use Prim.Native.Nat.{_-_}
 use native.Mathlib.Omega.{arith}
+use mathlib.Core.Path.{_∙_}
 use borrow.Author.Needs.{needs}
 use Rattle.made.specs.Made.{tablesOf}
+use Rattle.row.proofs.NextWays.{after-next}
 use Rattle.row.proofs.Walk.{walk-stands, stands-small}
 use Rattle.writer.proofs.Walk.{walk-numbers, Measured, measured-start, measured-most, measured-on, measured-high, measured-end}
 use Rattle.writer.proofs.rows_length.Statement.{statement}
@@ -42,7 +44,7 @@ returns : tie.Need-returns Inv-loop μ-loop
 returns c = measured-high (c .before .before .before .before .loop .inv) (c .before .before .before .loop-test .taken) (c .before .row-length .ensures) (c .if1 .taken)
 
 stand-next-requires : tie.Need-stand-next-requires Inv-loop μ-loop
-stand-next-requires c κs = (c .before .before .before .before .loop .inv .walk .stands .row-in, stands-small (walk-stands (c .before .before .before .before .loop .inv .walk) (c .before .before .before .loop-test .taken)) (omega arith) (omega arith) (omega arith) (omega arith))
+stand-next-requires c κs = search needs
 
 add-k : tie.Need-add-k Inv-loop μ-loop
 add-k c = search needs
@@ -51,7 +53,7 @@ loop-less : tie.Need-loop-less Inv-loop μ-loop
 loop-less c = search needs
 
 loop-again : tie.Need-loop-again Inv-loop μ-loop
-loop-again c = measured-on (c .before .before .before .before .before .loop .inv) (c .before .before .before .before .loop-test .taken) (c .before .before .row-length .ensures) _ (c .stand-next .ensures) (c .before .if1 .left)
+loop-again c = measured-on (c .before .before .before .before .before .loop .inv) (c .before .before .before .before .loop-test .taken) (c .before .before .row-length .ensures) _ (c .stand-next .ensures ∙ after-next _ _ (c .before .before .before .before .before .loop .inv .walk .stands .row-in) (stands-small (walk-stands (c .before .before .before .before .before .loop .inv .walk) (c .before .before .before .before .loop-test .taken)) (omega arith) (omega arith) (omega arith) (omega arith))) (c .before .if1 .left)
 
 returns-2 : tie.Need-returns-2 Inv-loop μ-loop
 returns-2 c = measured-end (c .before .loop .inv) (c .loop-test .left)

@@ -1,0 +1,23 @@
+-- `crossing::is_above` meets its contract: the number is in the table.
+use native.Mathlib.Omega.{arith}
+use borrow.Author.Needs.{needs}
+use Rattle.crossing.proofs.is_above.Statement.{statement}
+use Rattle.crossing.proofs.is_above.Tie as tie
+
+mul-result : tie.Need-mul-result
+mul-result c = omega arith
+
+add-result : tie.Need-add-result
+add-result c = omega arith
+
+mul-result-2 : tie.Need-mul-result-2
+mul-result-2 c = omega arith
+
+shared-slice-copy-out-result : tie.Need-shared-slice-copy-out-result
+shared-slice-copy-out-result c = omega arith
+
+returns : tie.Need-returns
+returns c = search needs
+
+pub is-above-spec : {M : Type 1} → statement M
+is-above-spec = tie.close (tie.spec mul-result add-result mul-result-2 shared-slice-copy-out-result returns)

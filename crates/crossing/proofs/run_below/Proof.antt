@@ -1,0 +1,65 @@
+-- `crossing::run_below` meets its contract: every vertex so far lies below the bound.
+use mathlib.Core.Path.{sym, _∙_}
+use Prim.Native.Nat.{_+_, _-_}
+use native.Mathlib.Omega.{arith}
+use lib.Signed.{ltZ}
+use mir.Syntax.{w64}
+use mir.Val.{toZ, ofZ}
+use mir.Facts.{toZ-ofZ}
+use Rattle.crossing.specs.Runs.{along, Run}
+use Rattle.crossing.proofs.RunLaws.{run-start, run-more}
+use Rattle.crossing.proofs.run_below.Statement.{statement}
+use Rattle.crossing.proofs.run_below.Tie as tie
+
+abbrev Inv-loop : tie.InvT-loop
+Inv-loop points from axis j stop bound e₀ e = Run (λ k. ltZ (along points axis (from + k)) (toZ w64 bound)) j stop e
+
+abbrev μ-loop : tie.MeasureT-loop
+μ-loop points from axis j stop bound e₀ e = stop - e
+
+loop-holds : tie.Need-loop-holds Inv-loop μ-loop
+loop-holds s = rw (toZ-ofZ (s .fits .bound)) (run-start (λ k. ltZ (along (s .args .points .now) (s .args .axis) (s .args .from + k)) (s .args .bound)) (s .args .j) (s .args .stop) (s .pre .1) (s .pre .3))
+
+add-is-below : tie.Need-add-is-below Inv-loop μ-loop
+add-is-below c = omega arith
+
+add-is-below-2 : tie.Need-add-is-below-2 Inv-loop μ-loop
+add-is-below-2 c = omega arith
+
+is-below-requires : tie.Need-is-below-requires Inv-loop μ-loop
+is-below-requires c κs = (c .before .before .pre .0, omega arith)
+
+add-e : tie.Need-add-e Inv-loop μ-loop
+add-e c = omega arith
+
+loop-less : tie.Need-loop-less Inv-loop μ-loop
+loop-less c = omega arith
+
+loop-again : tie.Need-loop-again Inv-loop μ-loop
+loop-again c =
+    let s = c .before .before .before .before in
+    let l = c .before .before .before .loop in
+    run-more (λ k. ltZ (along (s .args .points .now) (s .args .axis) (s .args .from + k)) (toZ w64 (ofZ w64 (s .args .bound)))) (s .args .j) (s .args .stop) (l .e) (l .inv) (c .before .before .loop-test .taken)
+    (sym (c .before .is-below .ensures) ∙ c .if1 .taken)
+
+returns : tie.Need-returns Inv-loop μ-loop
+returns c = let s = c .before .before .before .before in rw (toZ-ofZ (s .fits .bound)) at (c .before .before .before .loop .inv)
+
+returns-2 : tie.Need-returns-2 Inv-loop μ-loop
+returns-2 c = let s = c .before .before in rw (toZ-ofZ (s .fits .bound)) at (c .before .loop .inv)
+
+pub run-below-spec : {M : Type 1} → statement M
+run-below-spec =
+    tie.close
+    (tie.spec
+    Inv-loop
+    μ-loop
+    loop-holds
+    add-is-below
+    add-is-below-2
+    is-below-requires
+    add-e
+    loop-less
+    loop-again
+    returns
+    returns-2)
