@@ -1,9 +1,6 @@
 // The library for programs in C, Rust and Python: each entry point of document 01, exported as `include/cxf.h` declares it.
-// All of it is proved, and no public function has a `requires`. Each is thin: it calls the library's own and lays the answer out
-// in a struct; `number` is 0 where the question was answered, else the refusal; a field that the answer does not name is 0.
-pub mod question;
-pub mod tallies;
-
+// All of it is proved, and no public function has a `requires`. Each is thin: it calls the library's own, and `told` lays the answer
+// out in a struct.
 ghost use mathlib.Core.Path.{_≡_};
 ghost use lib.ListN.{length};
 ghost use Rattle.record.specs.Record.{recordAt};
@@ -11,188 +8,64 @@ ghost use Rattle.number.specs.Number.{integerOf, realOf};
 ghost use Rattle.sheet.specs.Reading.{reading};
 ghost use Rattle.reader.specs.Read.{roomsOf, readOf, tablesIn, written};
 ghost use Rattle.made.specs.Made.{tablesOf};
-ghost use Rattle.writer.specs.Sheet.{sheetText};
+ghost use Rattle.layout.specs.Sheet.{sheetText};
 ghost use Rattle.writer.specs.Write.{writeOf, outputOf};
+ghost use Rattle.border.specs.BorderAt.{borderAt};
+ghost use Rattle.border.specs.TextAt.{textAt};
+ghost use Rattle.area.specs.Questions.{ringAreaAt, netAreaAt};
+ghost use Rattle.ring.specs.RingCheck.{ringCheckAt};
+ghost use Rattle.tally.specs.Take.{takenOf, tallyOf};
 ghost use Rattle.tile.specs.Tiles.{tileOf};
 ghost use Rattle.listing.specs.Listing.{listingOf};
 ghost use Rattle.listing.specs.Listed.{listedOf, outputOf as listedIn};
-ghost use Rattle.cabi.specs.Asked.{modeOf, isDue, headerOf};
-ghost use Rattle.cabi.specs.Told.{faultOf, readingOf, readTold, writeTold, recordTold, integerTold, realTold, tileTold, listedTold};
-use header::Header;
+ghost use Rattle.told.specs.Asked.{modeOf, isDue, headerOf};
+ghost use Rattle.told.specs.Told.{readTold, writeTold, recordTold, integerTold, realTold, tileTold, listedTold};
+ghost use Rattle.told.specs.Answers.{borderTold, textTold, areaTold, ringTold};
+ghost use Rattle.told.specs.Tallies.{tallyIn, tallyTold, takeTold};
+use area::net_area;
+use area::ring_area;
+use border::border_at;
+use border::text_at;
 use listing::Listed;
 use listing::list_text;
-use made::Verdict;
 use number::Decimal;
 use number::Whole;
 use number::integer;
 use number::real;
-use reader::Answer;
-use reader::Needs;
-use reader::Outcome;
 use reader::read_as;
 use record::Found;
-use record::Mode;
 use record::record_at;
-use record::refusal::CODE;
-use record::refusal::HEADER;
 use record::refusal::NO_ROOM;
-use record::refusal::NOT_MADE;
 use record::refusal::NUMBER;
 use record::refusal::OFF_TILE;
-use record::refusal::TOO_LONG;
+use ring::ring_check;
+use tally::take;
+use tally::tally_sheet;
 use tile::Tile;
 use tile::tile_point;
-use writer::Written;
+use told::CxfListed;
+use told::CxfNumber;
+use told::CxfReading;
+use told::CxfRecord;
+use told::CxfTile;
+use told::CxfWritten;
+use told::header_of;
+use told::mode_of;
+use told::question::CxfArea;
+use told::question::CxfBorder;
+use told::question::CxfRing;
+use told::question::CxfText;
+use told::question::area_of;
+use told::question::border_of;
+use told::question::ring_of;
+use told::question::text_of;
+use told::reading_of;
+use told::tallies::CxfTally;
+use told::tallies::take_told;
+use told::tallies::tally_in;
+use told::tallies::tally_told;
+use told::written_of;
 use writer::write;
-
-#[repr(C)]
-pub struct CxfReading {
-    pub number: usize,
-    pub nth: usize,
-    pub offset: usize,
-    pub rows: usize,
-    pub letters: usize,
-    pub islands: usize,
-    pub points: usize,
-    pub kind: usize,
-    pub scale: i64,
-    pub name: [u8; 11],
-}
-
-#[repr(C)]
-pub struct CxfWritten {
-    pub number: usize,
-    pub row: usize,
-    pub length: usize,
-}
-
-#[repr(C)]
-pub struct CxfTile {
-    pub number: usize,
-    pub east: f32,
-    pub south: f32,
-}
-
-#[repr(C)]
-pub struct CxfRecord {
-    pub number: usize,
-    pub start: usize,
-    pub length: usize,
-    pub next: usize,
-}
-
-#[repr(C)]
-pub struct CxfNumber {
-    pub number: usize,
-    pub value: i64,
-}
-
-#[repr(C)]
-pub struct CxfListed {
-    pub number: usize,
-    pub length: usize,
-}
-
-// What is wrong with a sheet that was handed in: the refusal, and the row with 15 and 10.
-struct Fault {
-    number: usize,
-    row: usize,
-}
-
-// 0 is loose, anything else is exact.
-fn mode_of(mode: usize) -> Mode
-    ensures { λ r. ⌜ r ≡ modeOf mode ⌝ }
-{
-    if mode == 0 {
-        return Mode::Loose;
-    }
-    Mode::Exact
-}
-
-// A name of another length than 11 is a wrong name: no header, which is refused 6.
-fn header_of(kind: usize, name: &[u8], scale: i64) -> Header
-    ensures { λ r. ⌜ r ≡ headerOf kind (now (name .entry)) scale ⌝ }
-{
-    let mut held = [0; 11];
-    if name.len() != 11 {
-        return Header {
-            kind: 0,
-            name: held,
-            scale: 0,
-        };
-    }
-    let mut i = 0;
-    while i < 11 {
-        held[i] = name[i];
-        i += 1;
-    }
-    Header {
-        kind,
-        name: held,
-        scale,
-    }
-}
-
-fn fault_of(v: Verdict) -> Fault
-    ensures { λ r. ⌜ r ≡ faultOf v ⌝ }
-{
-    match v {
-        Verdict::Fine => Fault { number: 0, row: 0 },
-        Verdict::BadHeader => Fault {
-            number: HEADER,
-            row: 0,
-        },
-        Verdict::Faulty(k) => Fault {
-            number: NOT_MADE,
-            row: k,
-        },
-        Verdict::Unlisted(k) => Fault {
-            number: CODE,
-            row: k,
-        },
-    }
-}
-
-// The answer's numbers, counts and header side by side.
-fn laid_out(number: usize, nth: usize, offset: usize, counts: Needs, header: Header) -> CxfReading
-    ensures { λ r. ⌜ r ≡ readingOf number nth offset counts header ⌝ }
-{
-    let name = header.name;
-    CxfReading {
-        number,
-        nth,
-        offset,
-        rows: counts.rows,
-        letters: counts.letters,
-        islands: counts.islands,
-        points: counts.points,
-        kind: header.kind,
-        scale: header.scale,
-        name,
-    }
-}
-
-fn reading_of(o: Outcome) -> CxfReading
-    ensures { λ r. ⌜ r ≡ readTold o ⌝ }
-{
-    let answer = o.answer;
-    let header = o.header;
-    let none = Needs {
-        rows: 0,
-        letters: 0,
-        islands: 0,
-        points: 0,
-    };
-    match answer {
-        Answer::Read(used) => laid_out(0, 0, 0, used, header),
-        Answer::NoRoom(needed) => laid_out(NO_ROOM, 0, 0, needed, header),
-        Answer::Refused {
-            number,
-            record,
-            offset,
-        } => laid_out(number, record, offset, none, header),
-    }
-}
 
 // Reads a sheet into the tables that are lent.
 #[no_mangle]
@@ -211,36 +84,6 @@ pub extern "C" fn cxf_read(
     ensures { λ r. ⌜ now (points .exit) ≡ written (readOf (modeOf mode) (now (src .entry)) (roomsOf (length (now (rows .entry))) (length (now (letters .entry))) (length (now (islands .entry))) (length (now (points .entry)))) .answer) (tablesIn (reading (modeOf mode) (now (src .entry))) .points) (now (points .entry)) ⌝ }
 {
     reading_of(read_as(mode_of(mode), src, rows, letters, islands, points))
-}
-
-fn written_of(w: Written) -> CxfWritten
-    ensures { λ r. ⌜ r ≡ writeTold w ⌝ }
-{
-    match w {
-        Written::Wrote(n) => CxfWritten {
-            number: 0,
-            row: 0,
-            length: n,
-        },
-        Written::TooLong => CxfWritten {
-            number: TOO_LONG,
-            row: 0,
-            length: 0,
-        },
-        Written::NoRoom(n) => CxfWritten {
-            number: NO_ROOM,
-            row: 0,
-            length: n,
-        },
-        Written::Refused(v) => {
-            let f = fault_of(v);
-            CxfWritten {
-                number: f.number,
-                row: f.row,
-                length: 0,
-            }
-        }
-    }
 }
 
 // Writes a sheet that is handed in.
@@ -340,13 +183,150 @@ pub extern "C" fn cxf_listing(src: &[u8], out: &mut [u8]) -> CxfListed
     ensures { λ r. ⌜ now (out .exit) ≡ listedIn (listedOf (listingOf (now (src .entry))) (length (now (out .entry)))) (listingOf (now (src .entry))) (now (out .entry)) ⌝ }
 {
     match list_text(src, out) {
-        Listed::Wrote(n) => CxfListed {
+        Listed::Wrote(used) => CxfListed {
             number: 0,
-            length: n,
+            length: used,
         },
-        Listed::NoRoom(n) => CxfListed {
+        Listed::NoRoom(needed) => CxfListed {
             number: NO_ROOM,
-            length: n,
+            length: needed,
         },
     }
+}
+
+// The border of a row.
+#[no_mangle]
+pub extern "C" fn cxf_border_at(
+    kind: usize,
+    name: &[u8],
+    scale: i64,
+    count: usize,
+    rows: &[i64],
+    letters: &[u8],
+    islands: &[u16],
+    points: &[i64],
+    row: usize,
+) -> CxfBorder
+    ensures { λ r. ⌜ r ≡ borderTold (borderAt (headerOf kind (now (name .entry)) scale) count (tablesOf (now (rows .entry)) (now (letters .entry)) (now (islands .entry)) (now (points .entry))) row) ⌝ }
+{
+    let header = header_of(kind, name, scale);
+    border_of(border_at(header, count, rows, letters, islands, points, row))
+}
+
+// What a row says as a text.
+#[no_mangle]
+pub extern "C" fn cxf_text_at(
+    kind: usize,
+    name: &[u8],
+    scale: i64,
+    count: usize,
+    rows: &[i64],
+    letters: &[u8],
+    islands: &[u16],
+    points: &[i64],
+    row: usize,
+) -> CxfText
+    ensures { λ r. ⌜ r ≡ textTold (textAt (headerOf kind (now (name .entry)) scale) count (tablesOf (now (rows .entry)) (now (letters .entry)) (now (islands .entry)) (now (points .entry))) row) ⌝ }
+{
+    let header = header_of(kind, name, scale);
+    text_of(text_at(header, count, rows, letters, islands, points, row))
+}
+
+// The doubled area of one ring of a row's border.
+#[no_mangle]
+pub extern "C" fn cxf_ring_area(
+    kind: usize,
+    name: &[u8],
+    scale: i64,
+    count: usize,
+    rows: &[i64],
+    letters: &[u8],
+    islands: &[u16],
+    points: &[i64],
+    row: usize,
+    ring: usize,
+) -> CxfArea
+    ensures { λ r. ⌜ r ≡ areaTold (ringAreaAt (headerOf kind (now (name .entry)) scale) count (tablesOf (now (rows .entry)) (now (letters .entry)) (now (islands .entry)) (now (points .entry))) row ring) ⌝ }
+{
+    let header = header_of(kind, name, scale);
+    area_of(ring_area(header, count, rows, letters, islands, points, row, ring))
+}
+
+// The doubled area of a row's border without its islands.
+#[no_mangle]
+pub extern "C" fn cxf_net_area(
+    kind: usize,
+    name: &[u8],
+    scale: i64,
+    count: usize,
+    rows: &[i64],
+    letters: &[u8],
+    islands: &[u16],
+    points: &[i64],
+    row: usize,
+) -> CxfArea
+    ensures { λ r. ⌜ r ≡ areaTold (netAreaAt (headerOf kind (now (name .entry)) scale) count (tablesOf (now (rows .entry)) (now (letters .entry)) (now (islands .entry)) (now (points .entry))) row) ⌝ }
+{
+    let header = header_of(kind, name, scale);
+    area_of(net_area(header, count, rows, letters, islands, points, row))
+}
+
+// Whether one ring of a row's border is simple.
+#[no_mangle]
+pub extern "C" fn cxf_ring_check(
+    kind: usize,
+    name: &[u8],
+    scale: i64,
+    count: usize,
+    rows: &[i64],
+    letters: &[u8],
+    islands: &[u16],
+    points: &[i64],
+    row: usize,
+    ring: usize,
+) -> CxfRing
+    ensures { λ r. ⌜ r ≡ ringTold (ringCheckAt (headerOf kind (now (name .entry)) scale) count (tablesOf (now (rows .entry)) (now (letters .entry)) (now (islands .entry)) (now (points .entry))) row ring) ⌝ }
+{
+    let header = header_of(kind, name, scale);
+    ring_of(ring_check(header, count, rows, letters, islands, points, row, ring))
+}
+
+// The tally of a sheet.
+#[no_mangle]
+pub extern "C" fn cxf_tally_sheet(
+    kind: usize,
+    name: &[u8],
+    scale: i64,
+    count: usize,
+    rows: &[i64],
+    letters: &[u8],
+    islands: &[u16],
+    points: &[i64],
+) -> CxfTally
+    ensures { λ r. ⌜ r ≡ tallyTold (tallyOf (headerOf kind (now (name .entry)) scale) count (tablesOf (now (rows .entry)) (now (letters .entry)) (now (islands .entry)) (now (points .entry)))) ⌝ }
+{
+    let header = header_of(kind, name, scale);
+    tally_told(tally_sheet(header, count, rows, letters, islands, points))
+}
+
+// A running tally takes the border of a row.
+#[no_mangle]
+pub extern "C" fn cxf_tally_take(
+    figures: &[i64],
+    kind: usize,
+    name: &[u8],
+    scale: i64,
+    count: usize,
+    rows: &[i64],
+    letters: &[u8],
+    islands: &[u16],
+    points: &[i64],
+    row: usize,
+) -> CxfTally
+    ensures { λ r. ⌜ r ≡ takeTold (length (now (figures .entry))) (takenOf (tallyIn (now (figures .entry))) (headerOf kind (now (name .entry)) scale) count (tablesOf (now (rows .entry)) (now (letters .entry)) (now (islands .entry)) (now (points .entry))) row) ⌝ }
+{
+    let header = header_of(kind, name, scale);
+    let tally = tally_in(figures);
+    let taken = take(tally, header, count, rows, letters, islands, points, row);
+    take_told(figures.len(), taken)
 }

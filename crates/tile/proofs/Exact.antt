@@ -15,7 +15,8 @@ use Rattle.laws.proofs.Choice.{and-left, and-right}
 use Rattle.laws.proofs.Parts.{num, ints, eq-parts}
 use Rattle.tile.specs.declared.Offset.{Offset}
 use Rattle.tile.specs.declared.Tile.the-variants.{At, Outside}
-use Rattle.tile.specs.Tiles.{frame, real, in-frame, fits, scaled, two-five-six, tileOf}
+use Rattle.number.specs.Number.{isReal}
+use Rattle.tile.specs.Tiles.{frame, in-frame, fits, scaled, two-five-six, tileOf}
 
 -- far below the largest values (omega takes no number of more than 38 digits)
 below : (n j : ℕ) → n < 2 ^ 24 → 2 ^ 24 * 2 ^ j ≤ 2 ^ 277 → n * 2 ^ j < 2 ^ 277
@@ -65,7 +66,7 @@ tile-exact west north x y o q = go (fits west x && fits y north) refl
     go true e =
         let r : At (record { east = scaled (x -ℤ west); south = scaled (north -ℤ y) }) ≡ At o = simp e at q in
         let u : record { east = scaled (x -ℤ west); south = scaled (north -ℤ y) } ≡ o = cc in
-        let v = last (real west) (real x) (in-frame (x -ℤ west)) (and-left (fits west x) (fits y north) e) in
-        let w = last (real y) (real north) (in-frame (north -ℤ y)) (and-right (fits west x) (fits y north) e) in
+        let v = last (isReal west) (isReal x) (in-frame (x -ℤ west)) (and-left (fits west x) (fits y north) e) in
+        let w = last (isReal y) (isReal north) (in-frame (north -ℤ y)) (and-right (fits west x) (fits y north) e) in
         rw (← u) (frame-scaled (x -ℤ west) v, frame-scaled (north -ℤ y) w)
     go false e = let r : Outside ≡ At o = simp e at q in let z : _≡_ {A = ℕ} 0 1 = cc in absurd (omega arith)

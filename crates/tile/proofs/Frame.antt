@@ -11,15 +11,16 @@ use lib.Ieee.{Float, binary32, inFloat, ofBits, ofFields, odd}
 use Rattle.laws.specs.Whole.{Within}
 use Rattle.laws.proofs.Choice.{and-left, and-right}
 use Rattle.laws.proofs.Parts.{P, N, num, ints}
+use Rattle.number.specs.Number.{isReal, realLeast, realMost}
 use Rattle.tile.specs.declared.Along.the-variants.{By, Off}
 use Rattle.tile.specs.declared.Tile.the-variants.{At, Outside}
-use Rattle.tile.specs.Tiles.{real-lowest, real-highest, frame, real, in-frame, fits, two-five-six, scaled, alongOf, tileOf}
+use Rattle.tile.specs.Tiles.{frame, in-frame, fits, two-five-six, scaled, alongOf, tileOf}
 
-pub real-within : (z : ℤ) → real z ≡ true → Within real-highest z
-unfolding real
+pub real-within : (z : ℤ) → isReal z ≡ true → Within 99999999999 z
+unfolding isReal
 real-within z e =
-    let a = and-left (leZ real-lowest z) (leZ z (pos real-highest)) e in
-    let b = and-right (leZ real-lowest z) (leZ z (pos real-highest)) e in
+    let a = and-left (leZ realLeast z) (leZ z realMost) e in
+    let b = and-right (leZ realLeast z) (leZ z realMost) e in
     record { within = omega (arith, ints, num z) }
 
 in-float : (d : ℤ) → N d ≡ 0 → P d ≤ 2 ^ 24 → T (inFloat binary32 d)
@@ -40,19 +41,19 @@ unfolding ofBits ofFields odd trailingZeros
 the-divisor = refl
 
 module _ (from to : ℤ) where
-  pub off-from : real from ≡ false → Off ≡ alongOf from to
+  pub off-from : isReal from ≡ false → Off ≡ alongOf from to
   unfolding alongOf fits
   off-from a = simp a
 
-  pub off-to : real from ≡ true → real to ≡ false → Off ≡ alongOf from to
+  pub off-to : isReal from ≡ true → isReal to ≡ false → Off ≡ alongOf from to
   unfolding alongOf fits
   off-to a b = simp (a, b)
 
-  pub off-frame : real from ≡ true → real to ≡ true → in-frame (to -ℤ from) ≡ false → Off ≡ alongOf from to
+  pub off-frame : isReal from ≡ true → isReal to ≡ true → in-frame (to -ℤ from) ≡ false → Off ≡ alongOf from to
   unfolding alongOf fits
   off-frame a b c = simp (a, b, c)
 
-  pub by-scaled : real from ≡ true → real to ≡ true → in-frame (to -ℤ from) ≡ true → By (scaled (to -ℤ from)) ≡ alongOf from to
+  pub by-scaled : isReal from ≡ true → isReal to ≡ true → in-frame (to -ℤ from) ≡ true → By (scaled (to -ℤ from)) ≡ alongOf from to
   unfolding alongOf fits
   by-scaled a b c = simp (a, b, c)
 

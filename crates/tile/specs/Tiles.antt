@@ -2,34 +2,25 @@
 use mathlib.Core.Bool.{Bool, false, cond, _&&_}
 use mathlib.Core.List.{List, [], _∷_}
 use Prim.Native.Nat.{ℕ}
-use lib.IntN.{ℤ, pos, negsuc, _-ℤ_}
+use lib.IntN.{ℤ, pos, _-ℤ_}
 use lib.Signed.{leZ}
 use lib.Ieee.{Float, fin, binary32, div, ofInt}
+use Rattle.number.specs.Number.{isReal}
 use Rattle.tile.specs.declared.Along.{Along}
 use Rattle.tile.specs.declared.Along.the-variants.{By, Off}
 use Rattle.tile.specs.declared.Tile.{Tile}
 use Rattle.tile.specs.declared.Tile.the-variants.{At, Outside}
 
--- the range of a real in thousandths, -9,999,999,999 to 99,999,999,999
-abbrev pub real-lowest : ℤ
-real-lowest = negsuc 9999999998
-
-abbrev pub real-highest : ℕ
-real-highest = 99999999999
-
 -- the largest difference
 abbrev pub frame : ℕ
 frame = 16777215
 
-unfoldable pub real : ℤ → Bool
-real z = leZ real-lowest z && leZ z (pos real-highest)
-
 unfoldable pub in-frame : ℤ → Bool
 in-frame d = leZ (pos 0) d && leZ d (pos frame)
 
--- both numbers are reals, and the second is past the first by no more than the frame
+-- both numbers are within the real range, and the second is past the first by no more than the frame
 unfoldable pub fits : ℤ → ℤ → Bool
-fits from to = real from && (real to && in-frame (to -ℤ from))
+fits from to = isReal from && (isReal to && in-frame (to -ℤ from))
 
 -- 256.0, that is 1 times 2 to the 8th
 abbrev pub two-five-six : Float

@@ -3,13 +3,10 @@
 ghost use mathlib.Core.Path.{_≡_};
 ghost use mathlib.Core.Bool.{true};
 ghost use lib.IntN.{ℤ};
-ghost use Rattle.tile.specs.Tiles.{real, in-frame, scaled, alongOf, tileOf};
+ghost use Rattle.tile.specs.Tiles.{in-frame, scaled, alongOf, tileOf};
+use spelling::is_real;
 
-// The range of a real, in thousandths, and the largest difference: each whole number up to it is a 32-bit float.
-const REAL_LOWEST: i64 = -9_999_999_999;
-
-const REAL_HIGHEST: i64 = 99_999_999_999;
-
+// The largest difference: each whole number up to it is a 32-bit float.
 const FRAME: i64 = 16_777_215;
 
 pub struct Offset {
@@ -26,15 +23,6 @@ pub enum Tile {
 enum Along {
     By(f32),
     Off,
-}
-
-fn is_real(z: i64) -> bool
-    ensures { λ r. ⌜ r ≡ real z ⌝ }
-{
-    if REAL_LOWEST <= z {
-        return z <= REAL_HIGHEST;
-    }
-    false
 }
 
 fn is_inside(d: i64) -> bool

@@ -5,8 +5,8 @@ use borrow.Author.Needs.{needs}
 use Rattle.record.specs.declared.Mode.{Mode}
 use Rattle.number.specs.Number.{integerOf}
 use Rattle.number.proofs.NumberLaws.{integer-most}
-use Rattle.cabi.specs.Told.{integerTold}
-use Rattle.cabi.proofs.ToldWays.{told, asked, small-fits, small-reads}
+use Rattle.told.specs.Told.{integerTold}
+use Rattle.told.proofs.ToldWays.{told, asked, small-fits, small-reads}
 use Rattle.cabi.proofs.cxf_integer.Statement.{statement}
 use Rattle.cabi.proofs.cxf_integer.Tie as tie
 

@@ -1,38 +1,38 @@
 -- `cxf_listing` lists as the library does. Assumes nothing.
 use borrow.Author.Needs.{needs}
 use Rattle.listing.specs.Listing.{listingOf}
-use Rattle.cabi.proofs.ToldWays.{listed}
+use Rattle.told.proofs.ToldWays.{listed}
 use Rattle.cabi.proofs.cxf_listing.Statement.{statement}
 use Rattle.cabi.proofs.cxf_listing.Tie as tie
 
 list-text-requires : tie.Need-list-text-requires
 list-text-requires c κs = search needs
 
-enum-known-n : tie.Need-enum-known-n
-enum-known-n c = search needs
+enum-known-used : tie.Need-enum-known-used
+enum-known-used c = search needs
 
-enum-known-n-2 : tie.Need-enum-known-n-2
-enum-known-n-2 c = search needs
+enum-known-needed : tie.Need-enum-known-needed
+enum-known-needed c = search needs
 
 same-length : tie.Need-same-length
 same-length c = search needs
 
 returns : tie.Need-returns
-returns c = listed (listingOf (c .before .before .before .before .before .before .before .before .before .args .src .now)) (c .before .before .before .before .before .before .before .before .before .args .out .now) (c .before .before .before .before .before .list-text .ensures .0) (c .before .before .before .before .before .list-text .ensures .1) (c .before .n .given .1)
+returns c = listed (listingOf (c .before .before .before .before .before .before .before .before .before .args .src .now)) (c .before .before .before .before .before .before .before .before .before .args .out .now) (c .before .before .before .before .before .list-text .ensures .0) (c .before .before .before .before .before .list-text .ensures .1) (c .before .used .given .1)
 
 same-length-2 : tie.Need-same-length-2
 same-length-2 c = search needs
 
 returns-2 : tie.Need-returns-2
-returns-2 c = listed (listingOf (c .before .before .before .before .before .before .before .before .before .args .src .now)) (c .before .before .before .before .before .before .before .before .before .args .out .now) (c .before .before .before .before .before .list-text .ensures .0) (c .before .before .before .before .before .list-text .ensures .1) (c .before .n2 .given .1)
+returns-2 c = listed (listingOf (c .before .before .before .before .before .before .before .before .before .args .src .now)) (c .before .before .before .before .before .before .before .before .before .args .out .now) (c .before .before .before .before .before .list-text .ensures .0) (c .before .before .before .before .before .list-text .ensures .1) (c .before .needed .given .1)
 
 pub cxf-listing-spec : {M : Type 1} → statement M
 cxf-listing-spec =
     tie.close
     (tie.spec
     list-text-requires
-    enum-known-n
-    enum-known-n-2
+    enum-known-used
+    enum-known-needed
     same-length
     returns
     same-length-2

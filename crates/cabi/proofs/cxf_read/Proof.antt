@@ -6,8 +6,8 @@ use Rattle.record.specs.declared.Mode.{Mode}
 use Rattle.sheet.specs.Reading.{reading}
 use Rattle.reader.specs.declared.Outcome.{Outcome}
 use Rattle.reader.specs.Read.{roomsOf, readOf, tablesIn}
-use Rattle.cabi.specs.Told.{readTold}
-use Rattle.cabi.proofs.ToldWays.{asked, stored}
+use Rattle.told.specs.Told.{readTold}
+use Rattle.told.proofs.ToldWays.{asked, stored}
 use Rattle.cabi.proofs.cxf_read.Statement.{statement}
 use Rattle.cabi.proofs.cxf_read.Tie as tie
 

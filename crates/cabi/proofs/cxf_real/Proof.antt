@@ -5,8 +5,8 @@ use borrow.Author.Needs.{needs}
 use Rattle.laws.proofs.Bits.{back}
 use Rattle.record.specs.declared.Mode.{Mode}
 use Rattle.number.specs.Number.{realOf}
-use Rattle.cabi.specs.Told.{realTold}
-use Rattle.cabi.proofs.ToldWays.{told, asked}
+use Rattle.told.specs.Told.{realTold}
+use Rattle.told.proofs.ToldWays.{told, asked}
 use Rattle.cabi.proofs.cxf_real.Statement.{statement}
 use Rattle.cabi.proofs.cxf_real.Tie as tie
 

@@ -2,9 +2,9 @@
 use borrow.Author.Needs.{needs}
 use Rattle.record.specs.declared.Mode.{Mode}
 use Rattle.record.specs.Record.{recordAt}
-use Rattle.cabi.specs.Asked.{isDue}
-use Rattle.cabi.specs.Told.{recordTold}
-use Rattle.cabi.proofs.ToldWays.{told, asked}
+use Rattle.told.specs.Asked.{isDue}
+use Rattle.told.specs.Told.{recordTold}
+use Rattle.told.proofs.ToldWays.{told, asked}
 use Rattle.cabi.proofs.cxf_record_at.Statement.{statement}
 use Rattle.cabi.proofs.cxf_record_at.Tie as tie
 

@@ -3,8 +3,8 @@ use mathlib.Core.Path.{ap, _∙_}
 use lib.Ieee.{Float}
 use borrow.Author.Needs.{needs}
 use Rattle.record.specs.Refusals.{offTile}
-use Rattle.cabi.proofs.ToldWays.{told, zero-float, tile-asked}
-use Rattle.cabi.specs.Told.{tileTold}
+use Rattle.told.proofs.ToldWays.{told, zero-float, tile-asked}
+use Rattle.told.specs.Told.{tileTold}
 use Rattle.cabi.proofs.cxf_tile_point.Statement.{statement}
 use Rattle.cabi.proofs.cxf_tile_point.Tie as tie
 

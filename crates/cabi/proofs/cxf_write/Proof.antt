@@ -2,13 +2,13 @@
 use mathlib.Core.Path.{ap, _∙_}
 use lib.ListN.{length}
 use borrow.Author.Needs.{needs}
-use Rattle.header.specs.declared.Header.{Header}
+use Rattle.heading.specs.declared.Header.{Header}
 use Rattle.made.specs.Made.{tablesOf}
 use Rattle.writer.specs.declared.Written.{Written}
-use Rattle.writer.specs.Sheet.{sheetText}
+use Rattle.layout.specs.Sheet.{sheetText}
 use Rattle.writer.specs.Write.{writeOf}
-use Rattle.cabi.specs.Told.{writeTold}
-use Rattle.cabi.proofs.ToldWays.{asked, header-asked, put-out}
+use Rattle.told.specs.Told.{writeTold}
+use Rattle.told.proofs.ToldWays.{asked, header-asked, put-out}
 use Rattle.cabi.proofs.cxf_write.Statement.{statement}
 use Rattle.cabi.proofs.cxf_write.Tie as tie
 

@@ -9,19 +9,20 @@ use mir.Facts.{toZ-ofZ}
 use borrow.Author.Needs.{needs}
 use borrow.Author.Tests.{not-true, not-false}
 use Rattle.laws.proofs.Bounds.{within-sub, within-fits}
-use Rattle.tile.specs.Tiles.{real, in-frame}
+use Rattle.number.specs.Number.{isReal}
+use Rattle.tile.specs.Tiles.{in-frame}
 use Rattle.tile.proofs.Frame.{real-within, off-from, off-to, off-frame, by-scaled}
 use Rattle.tile.proofs.difference.Statement.{statement}
 use Rattle.tile.proofs.difference.Tie as tie
 
-from-real : (c : tie.Else1) → real (c .before .before .args .from) ≡ true
+from-real : (c : tie.Else1) → isReal (c .before .before .args .from) ≡ true
 from-real c = simp (toZ-ofZ (c .before .before .fits .from)) at (sym (c .before .is-real .ensures) ∙ not-false _ (c .if1 .left))
 
 module _ (c : tie.Else2) where
   abbrev s : tie.Start
   s = c .before .before .before .before
 
-  to-real : real (s .args .to) ≡ true
+  to-real : isReal (s .args .to) ≡ true
   to-real = simp (toZ-ofZ (s .fits .to)) at (sym (c .before .is-real2 .ensures) ∙ not-false _ (c .if2 .left))
 
   fits-d : SFits w64 (s .args .to -ℤ s .args .from)

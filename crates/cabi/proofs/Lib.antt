@@ -1,3 +1,0 @@
--- The ways through the functions of the C interface.
-mod ToldWays
-mod FigureWays
