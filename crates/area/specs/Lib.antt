@@ -1,5 +1,5 @@
 -- The definitions that the contracts of crate `area` cite.
 pub mod BorderRings
 pub mod Questions
-mod Examples
-mod QuestionExamples
+pub mod Examples
+pub mod QuestionExamples

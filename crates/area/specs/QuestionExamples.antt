@@ -3,22 +3,15 @@ use Prim.Native.Nat.{ℕ}
 use mathlib.Core.Path.{_≡_, refl}
 use mathlib.Core.List.{List, [], _∷_, _++_}
 use lib.IntN.{ℤ, pos, negsuc}
-use Rattle.laws.specs.Lists.{all, allAt, below, holds, same}
 use Rattle.laws.specs.Text.{text}
-use Rattle.number.specs.Number.{isReal}
-use Rattle.token.specs.Lex.{mayLieOutside}
-use Rattle.kinds.specs.Kinds.{schedule, wantAt}
 use Rattle.heading.specs.declared.Header.{Header}
-use Rattle.heading.specs.Heading.{nameByte, isName, isHeader}
 use Rattle.sheet.specs.Tables.{Tables}
-use Rattle.plane.specs.Rings.{held, near, near-first, all-near, narrow}
-use Rattle.plane.specs.Areas.{east, north, edge-term, signed-sum, areaOf}
-use Rattle.made.specs.Made.{tablesOf, inRange, hasField, isOutside, isCell, areNumbers, areLetters, sum, areCounts, areReals, isClosed, areClosed, ringSizes, arePoints, isMade, isCoded, judgeRows, judgeOf}
-use Rattle.row.specs.Walk.{nextStand, standOf}
-use Rattle.row.specs.Seek.{soughtOf}
+use Rattle.made.specs.Made.{tablesOf, ringSizes}
+use Rattle.row.specs.Examples.{computed as computedSought}
 use Rattle.area.specs.declared.AreaAnswer.{AreaAnswer}
 use Rattle.area.specs.declared.AreaAnswer.the-variants.{Doubled}
-use Rattle.area.specs.BorderRings.{totalFrom, areasOf, ringOf}
+use Rattle.area.specs.BorderRings.{ringOf}
+use Rattle.area.specs.Examples.{computed as computedAreas}
 use Rattle.area.specs.Questions.{ringOfRow, ringAt, netAreaOf, ringAreaAt, netAreaAt, numberOf, rowOf}
 
 abbrev header : Header
@@ -38,12 +31,17 @@ ring side = pos 0 ∷ pos 0 ∷ pos side ∷ pos 0 ∷ pos side ∷ pos side ∷
 abbrev sheet : ℕ → Tables
 sheet side = tablesOf (label ++ border) (text "77") (4 ∷ []) (ring 10 ++ ring side)
 
+-- the definitions opened, so that they compute
+unfoldable pub computed : Header → ℕ → Tables → ℕ → ℕ → AreaAnswer × AreaAnswer
+unfolding ringAreaAt ringAt ringOfRow ringOf ringSizes netAreaAt netAreaOf computedAreas computedSought
+computed h count t row k = (ringAreaAt h count t row k, netAreaAt h count t row)
+
 asked : ℕ → ℕ → ℕ → AreaAnswer
-unfolding ringAreaAt ringAt ringOfRow ringOf soughtOf standOf nextStand judgeOf isHeader isName allAt nameByte same judgeRows isMade areNumbers below isCell isOutside hasField inRange isReal wantAt mayLieOutside schedule holds areLetters all sum areCounts arePoints areReals isClosed areClosed ringSizes isCoded areaOf narrow held near near-first all-near signed-sum edge-term east north
+unfolding computed
 asked side row k = ringAreaAt header 2 (sheet side) row k
 
 net : ℕ → ℕ → AreaAnswer
-unfolding netAreaAt netAreaOf areasOf totalFrom soughtOf standOf nextStand judgeOf isHeader isName allAt nameByte same judgeRows isMade areNumbers below isCell isOutside hasField inRange isReal wantAt mayLieOutside schedule holds areLetters all sum areCounts arePoints areReals isClosed areClosed ringSizes isCoded areaOf narrow held near near-first all-near signed-sum edge-term east north
+unfolding computed
 net side row = netAreaAt header 2 (sheet side) row
 
 outer-ring : asked 2 1 0 ≡ Doubled (pos 100)
@@ -90,9 +88,19 @@ wide-net = (refl, refl)
 
 -- 15 comes before 19 and names the row; 6 comes first
 faulty : numberOf (ringAreaAt header 2 (tablesOf (label ++ label) (text "7") [] []) 5 0) ≡ 15
-unfolding ringAreaAt ringAt soughtOf judgeOf isHeader isName allAt nameByte same judgeRows isMade areNumbers below isCell isOutside hasField inRange isReal wantAt mayLieOutside schedule holds areLetters all areCounts arePoints areReals isCoded
+unfolding computed
 faulty = refl
 
 bad-header : numberOf (netAreaAt (record { kind = 4; name = []; scale = pos 1 }) 2 (tablesOf [] [] [] []) 5) ≡ 6
-unfolding netAreaAt soughtOf judgeOf isHeader
+unfolding computed
 bad-header = refl
+
+-- ---- two borders: the second row's rings stand behind the first row's
+
+abbrev pair : Tables
+pair = tablesOf (border ++ border) (text "77") (4 ∷ 4 ∷ []) (ring 10 ++ ring 2 ++ ring 7 ++ ring 3)
+
+second-row : (ringAreaAt header 2 pair 1 0 ≡ Doubled (pos 49)) × (ringAreaAt header 2 pair 1 1 ≡ Doubled (pos 9)) × (ringAreaAt header 2 pair 0 1 ≡ Doubled (pos 4))
+    × (netAreaAt header 2 pair 1 ≡ Doubled (pos 40)) × (netAreaAt header 2 pair 0 ≡ Doubled (pos 96))
+unfolding computed
+second-row = (refl, refl, refl, refl, refl)

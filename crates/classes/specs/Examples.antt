@@ -1,16 +1,23 @@
--- Letters by example, computed: document 01's (k), and the order of the rules. Assumes nothing.
+-- Letters by example, computed: document 01's (k) and (l), and the order of the rules. Assumes nothing.
 use Prim.Native.Nat.{ℕ}
 use Prim.Native.String.{String}
 use mathlib.Core.Path.{_≡_, refl}
+use mathlib.Core.List.{List, [], _∷_, map}
+use mathlib.Core.Bool.{Bool, true, false}
 use Rattle.laws.specs.Lists.{same}
 use Rattle.laws.specs.Text.{text}
-use Rattle.classes.specs.Classes.{beginsWith, endsIn, isMarked, isRoad, isWater, classOf}
+use Rattle.classes.specs.Classes.{beginsWith, endsIn, isMarked, isRoad, isWater, classOf, indexOf, isSurface}
 use Rattle.classes.specs.declared.Class.{Class}
 use Rattle.classes.specs.declared.Class.the-variants.{Confine, Other, Road, Water, Building, Parcel}
 
+-- the definitions opened, so that they compute
+unfoldable pub computed : ℕ → List ℕ → List ℕ → Class × Bool
+unfolding classOf isRoad isWater isMarked beginsWith endsIn same isSurface
+computed kind name s = (classOf kind name s, isSurface s)
+
 -- the class of letters in a sheet of a kind
-pub inKind : ℕ → String → Class
-unfolding classOf isRoad isWater isMarked beginsWith endsIn same
+unfoldable pub inKind : ℕ → String → Class
+unfolding computed
 inKind kind s = classOf kind (text "Z999_000100") (text s)
 
 -- (k)
@@ -27,3 +34,17 @@ order = (refl, refl, refl, refl)
 pub words : (inKind 1 "STRADA" ≡ Road) × (inKind 3 "ACQUA" ≡ Water) × (inKind 2 "7" ≡ Parcel)
 unfolding inKind
 words = (refl, refl, refl)
+
+-- `S` and `A` count in kind 2 alone, and only in front; `+` only at the end
+pub kinds : (inKind 3 "S7" ≡ Parcel) × (inKind 1 "A7" ≡ Parcel) × (inKind 2 "A7" ≡ Water) × (inKind 2 "7S" ≡ Parcel) × (inKind 1 "+7" ≡ Parcel) × (inKind 2 "STRADE" ≡ Road) × (inKind 1 "STRADE" ≡ Parcel)
+unfolding inKind
+kinds = (refl, refl, refl, refl, refl, refl, refl)
+
+-- (l) at least 3 letters, the first `(`, the last `)`
+pub surface : (isSurface (text "()") ≡ false) × (isSurface (text "(7)") ≡ true) × (isSurface (text "(7(") ≡ false) × (isSurface (text ")7)") ≡ false) × (isSurface (text "(731) ") ≡ false)
+unfolding computed
+surface = (refl, refl, refl, refl, refl)
+
+-- the classes in their order
+pub indices : map indexOf (Confine ∷ Other ∷ Road ∷ Water ∷ Building ∷ Parcel ∷ []) ≡ 0 ∷ 1 ∷ 2 ∷ 3 ∷ 4 ∷ 5 ∷ []
+indices = refl

@@ -1,22 +1,29 @@
 -- Marked example (i) of document 01, by computation, and a ring for each rule of the ring check.
+use Prim.Native.Nat.{ℕ}
 use mathlib.Core.Path.{_≡_, refl}
 use mathlib.Core.List.{List, [], _∷_}
 use lib.IntN.{ℤ, pos, negsuc}
 use Rattle.plane.specs.Rings.{held, near, near-first, all-near, narrow}
-use Rattle.crossing.specs.declared.Verdict.the-variants.{Simple, Faulty, Wide}
+use Rattle.crossing.specs.declared.Verdict.{Verdict}
+use Rattle.crossing.specs.declared.Verdict.the-variants.{Simple, Faulty, Wide, Missing}
 use Rattle.crossing.specs.Edges.{edges-meet, boxes-overlap, beside-line, spans-overlap, one-side, neighbours-overlap, equal-ends, side, dot}
 use Rattle.crossing.specs.Search.{verdictOf, verdict-told, searched, first-edge, second-edge, least, faulty-pair}
+
+-- `verdictOf` with every definition opened, so that it computes
+unfoldable pub computed : List ℤ → ℕ → ℕ → Verdict
+unfolding verdictOf searched held narrow near near-first all-near first-edge second-edge least faulty-pair edges-meet boxes-overlap beside-line spans-overlap one-side neighbours-overlap equal-ends side dot
+computed ps from n = verdictOf ps from n
 
 bowtie : List ℤ
 bowtie = pos 0 ∷ pos 0 ∷ pos 10 ∷ pos 10 ∷ pos 10 ∷ pos 0 ∷ pos 0 ∷ pos 10 ∷ pos 0 ∷ pos 0 ∷ []
 
 -- (i)
 bowtie-pair : verdictOf bowtie 0 5 ≡ Faulty 0 2
-unfolding verdictOf searched held narrow near near-first all-near first-edge second-edge least faulty-pair edges-meet boxes-overlap beside-line spans-overlap one-side neighbours-overlap equal-ends side dot bowtie
+unfolding computed bowtie
 bowtie-pair = refl
 
 bowtie-told : verdict-told (verdictOf bowtie 0 5) ≡ (0, 0 ∷ 2 ∷ [])
-unfolding verdictOf searched held narrow near near-first all-near first-edge second-edge least faulty-pair edges-meet boxes-overlap beside-line spans-overlap one-side neighbours-overlap equal-ends side dot bowtie
+unfolding computed bowtie
 bowtie-told = refl
 
 square : List ℤ
@@ -24,7 +31,7 @@ square = pos 5000000000 ∷ negsuc 4 ∷ pos 5000000010 ∷ negsuc 4 ∷ pos 500
 
 -- far from the origin
 square-simple : verdictOf square 0 5 ≡ Simple
-unfolding verdictOf searched held narrow near near-first all-near first-edge second-edge least faulty-pair edges-meet boxes-overlap beside-line spans-overlap one-side neighbours-overlap equal-ends side dot square
+unfolding computed square
 square-simple = refl
 
 triangle : List ℤ
@@ -32,7 +39,7 @@ triangle = pos 0 ∷ pos 0 ∷ pos 4 ∷ pos 0 ∷ pos 0 ∷ pos 3 ∷ pos 0 ∷
 
 -- three edges, all neighbours
 triangle-simple : verdictOf triangle 0 4 ≡ Simple
-unfolding verdictOf searched held narrow near near-first all-near first-edge second-edge least faulty-pair edges-meet boxes-overlap beside-line spans-overlap one-side neighbours-overlap equal-ends side dot triangle
+unfolding computed triangle
 triangle-simple = refl
 
 flat : List ℤ
@@ -40,7 +47,7 @@ flat = pos 0 ∷ pos 0 ∷ pos 4 ∷ pos 0 ∷ pos 9 ∷ pos 0 ∷ pos 0 ∷ pos
 
 -- the first edge and the last are neighbours, and overlap
 flat-pair : verdictOf flat 0 4 ≡ Faulty 0 2
-unfolding verdictOf searched held narrow near near-first all-near first-edge second-edge least faulty-pair edges-meet boxes-overlap beside-line spans-overlap one-side neighbours-overlap equal-ends side dot flat
+unfolding computed flat
 flat-pair = refl
 
 spike : List ℤ
@@ -48,7 +55,7 @@ spike = pos 0 ∷ pos 0 ∷ pos 9 ∷ pos 0 ∷ pos 4 ∷ pos 0 ∷ pos 4 ∷ po
 
 -- edge 1 runs back along edge 0
 spike-pair : verdictOf spike 0 5 ≡ Faulty 0 1
-unfolding verdictOf searched held narrow near near-first all-near first-edge second-edge least faulty-pair edges-meet boxes-overlap beside-line spans-overlap one-side neighbours-overlap equal-ends side dot spike
+unfolding computed spike
 spike-pair = refl
 
 still : List ℤ
@@ -56,7 +63,7 @@ still = pos 0 ∷ pos 0 ∷ pos 9 ∷ pos 0 ∷ pos 9 ∷ pos 0 ∷ pos 0 ∷ po
 
 -- edge 1 has no length, and edges 0 and 2, which are no neighbours, share its point: (0, 2) comes before (1, 1)
 still-pair : verdictOf still 0 5 ≡ Faulty 0 2
-unfolding verdictOf searched held narrow near near-first all-near first-edge second-edge least faulty-pair edges-meet boxes-overlap beside-line spans-overlap one-side neighbours-overlap equal-ends side dot still
+unfolding computed still
 still-pair = refl
 
 start : List ℤ
@@ -64,7 +71,7 @@ start = pos 0 ∷ pos 0 ∷ pos 0 ∷ pos 0 ∷ pos 9 ∷ pos 0 ∷ pos 0 ∷ po
 
 -- edge 0 has no length, and is the pair of itself
 start-pair : verdictOf start 0 5 ≡ Faulty 0 0
-unfolding verdictOf searched held narrow near near-first all-near first-edge second-edge least faulty-pair edges-meet boxes-overlap beside-line spans-overlap one-side neighbours-overlap equal-ends side dot start
+unfolding computed start
 start-pair = refl
 
 wide : List ℤ
@@ -72,9 +79,50 @@ wide = pos 0 ∷ pos 0 ∷ pos 20000001 ∷ pos 0 ∷ pos 0 ∷ pos 9 ∷ pos 0 
 
 -- refusal 17
 wide-refused : verdictOf wide 0 4 ≡ Wide
-unfolding verdictOf searched held narrow near near-first all-near first-edge second-edge least faulty-pair edges-meet boxes-overlap beside-line spans-overlap one-side neighbours-overlap equal-ends side dot wide
+unfolding computed wide
 wide-refused = refl
 
 wide-told : verdict-told (verdictOf wide 0 4) ≡ (17, [])
-unfolding verdictOf held narrow near near-first all-near wide
+unfolding computed wide
 wide-told = refl
+
+touching : List ℤ
+touching = pos 0 ∷ pos 0 ∷ pos 10 ∷ pos 0 ∷ pos 10 ∷ pos 10 ∷ pos 5 ∷ pos 0 ∷ pos 0 ∷ pos 10 ∷ pos 0 ∷ pos 0 ∷ []
+
+-- edge 2 ends on edge 0, between its ends: their boxes touch, and an end on the line is on neither side of it
+touching-pair : verdictOf touching 0 6 ≡ Faulty 0 2
+unfolding computed touching
+touching-pair = refl
+
+-- the same ring from its vertex 3: edge 0 begins on edge 2
+touching-turned : verdictOf (pos 5 ∷ pos 0 ∷ pos 0 ∷ pos 10 ∷ pos 0 ∷ pos 0 ∷ pos 10 ∷ pos 0 ∷ pos 10 ∷ pos 10 ∷ pos 5 ∷ pos 0 ∷ []) 0 6 ≡ Faulty 0 2
+unfolding computed
+touching-turned = refl
+
+corner : List ℤ
+corner = pos 0 ∷ pos 0 ∷ pos 4 ∷ pos 4 ∷ pos 8 ∷ pos 0 ∷ pos 8 ∷ pos 8 ∷ pos 4 ∷ pos 4 ∷ pos 0 ∷ pos 8 ∷ pos 0 ∷ pos 0 ∷ []
+
+-- a vertex that is met again: boxes that share a corner only
+corner-pair : verdictOf corner 0 7 ≡ Faulty 0 3
+unfolding computed corner
+corner-pair = refl
+
+gate : List ℤ
+gate =
+    pos 0 ∷ pos 0 ∷ pos 3 ∷ pos 0 ∷ pos 3 ∷ pos 5 ∷ pos 6 ∷ pos 5 ∷ pos 6 ∷ pos 0 ∷ pos 9 ∷ pos 0 ∷ pos 9 ∷ pos 9 ∷ pos 0 ∷ pos 9 ∷
+    pos 0 ∷ pos 0 ∷ []
+
+-- edges on one line, and an end on another edge's line, with no shared point: their boxes lie apart
+gate-simple : verdictOf gate 0 9 ≡ Simple
+unfolding computed gate
+gate-simple = refl
+
+-- neighbours may go straight on
+straight-simple : verdictOf (pos 0 ∷ pos 0 ∷ pos 4 ∷ pos 0 ∷ pos 9 ∷ pos 0 ∷ pos 9 ∷ pos 9 ∷ pos 0 ∷ pos 0 ∷ []) 0 5 ≡ Simple
+unfolding computed
+straight-simple = refl
+
+-- exactly 20,000,000 mm pass; a ring that the table does not hold
+limits : (verdictOf (pos 0 ∷ pos 0 ∷ pos 20000000 ∷ pos 0 ∷ pos 0 ∷ pos 9 ∷ pos 0 ∷ pos 0 ∷ []) 0 4 ≡ Simple) × (verdictOf triangle 1 4 ≡ Missing)
+unfolding computed triangle
+limits = (refl, refl)

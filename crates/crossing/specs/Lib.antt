@@ -3,4 +3,4 @@ pub mod Edges
 pub mod Search
 pub mod Runs
 pub mod Shared
-mod Examples
+pub mod Examples

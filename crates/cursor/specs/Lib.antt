@@ -1,2 +1,3 @@
--- The definitions of a cursor.
+-- The definitions of a cursor, and their examples.
 pub mod Cursor
+pub mod Examples

@@ -3,6 +3,7 @@ use Prim.Native.Nat.{ℕ}
 use Prim.Native.String.{String}
 use mathlib.Core.Path.{_≡_, refl}
 use mathlib.Core.Bool.{true, false}
+use mathlib.Core.List.{List}
 use lib.IntN.{pos}
 use Rattle.laws.specs.Lists.{run, kept, all, same, allAt, place}
 use Rattle.laws.specs.Text.{text}
@@ -18,9 +19,14 @@ use Rattle.header.specs.declared.Ahead.the-variants.{Sections}
 use Rattle.header.specs.Header.{firstWords, stopped, kindOf, isNamed, headScale, headName, headed}
 use Rattle.heading.specs.Heading.{nameByte, isName, isHeader}
 
+-- `headed` with every definition opened, so that it computes
+unfoldable pub computed : Mode → List ℕ → Headed
+unfolding headed headName headScale kindOf isNamed isName nameByte firstWords place allAt same lineOf lineIs contentIs content endsCR run all wordOf trimmed unled kept realOf realSigned realAt realIs isNeat isToken thousandths signed signs signOf lean ended value
+computed mode bs = headed mode bs
+
 -- the header of a text
 read : Mode → String → Headed
-unfolding headed headName headScale kindOf isNamed isName nameByte firstWords place allAt same lineOf lineIs contentIs content endsCR run all wordOf trimmed unled kept realOf realSigned realAt realIs isNeat isToken thousandths signed signs signOf lean ended value
+unfolding computed
 read mode s = headed mode (text s)
 
 abbrev header : ℕ → String → ℕ → Header
@@ -79,6 +85,26 @@ minus-zero-exact = refl
 zero : read Exact "MAPPA\r\nH501_0123A0\r\n       0.000\r\n" ≡ stopped badHeader 3 20
 unfolding read
 zero = refl
+
+lower-case : (read Loose "MAPPA\nh501_0123A0\n2000.000\n" ≡ stopped badHeader 2 6) × (read Loose "mappa\nH501_0123A0\n2000.000\n" ≡ stopped badHeader 1 0)
+unfolding read
+lower-case = (refl, refl)
+
+-- of 10 and of 12 characters
+name-length : (read Loose "MAPPA\nH501_0123A\n2000.000\n" ≡ stopped badHeader 2 6) × (read Loose "MAPPA\nH501_0123A00\n2000.000\n" ≡ stopped badHeader 2 6)
+unfolding read
+name-length = (refl, refl)
+
+-- a padded name is refused at its own record
+name-padded : read Exact "MAPPA\r\nH501_0123A0 \r\n    2000.000\r\n" ≡ stopped badHeader 2 7
+unfolding read
+name-padded = refl
+
+-- form comes before value: a scale that is no real is 8, also where it would not be above 0
+scale-form : (read Loose "MAPPA\nH501_0123A0\n2000\n" ≡ stopped malformed 3 18) × (read Loose "MAPPA\nH501_0123A0\n-1\n" ≡ stopped malformed 3 18)
+    × (read Loose "MAPPA\nH501_0123A0\n-1.000\n" ≡ stopped badHeader 3 18)
+unfolding read
+scale-form = (refl, refl, refl)
 
 -- ---- handed in
 

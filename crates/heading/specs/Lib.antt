@@ -1,2 +1,3 @@
--- The definitions of `heading`, in the order to read them.
+-- The definitions of `heading`, in the order to read them, and their examples.
 pub mod Heading
+pub mod Examples

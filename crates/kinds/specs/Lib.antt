@@ -1,2 +1,3 @@
--- The definitions of `kinds`, in the order to read them.
+-- The definitions of `kinds`, in the order to read them, and their examples.
 pub mod Kinds
+pub mod Examples

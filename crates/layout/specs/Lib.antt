@@ -1,2 +1,3 @@
--- The definitions of `layout`, in the order to read them.
+-- The definitions of `layout`, in the order to read them, and their examples.
 pub mod Sheet
+pub mod Examples

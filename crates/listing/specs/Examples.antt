@@ -1,12 +1,25 @@
 -- The lines of document 01's example, and of a refusal, computed: "Listing program".
+use Prim.Native.Nat.{ℕ}
 use mathlib.Core.Path.{_≡_, refl}
 use mathlib.Core.List.{List, [], _∷_, _++_}
 use lib.ListN.{replicate}
 use lib.IntN.{ℤ, pos}
 use Rattle.laws.specs.Text.{text}
 use Rattle.spelling.specs.Spelling.{digits, countText}
+use Rattle.sheet.specs.Examples.{computed as computedReading}
+use Rattle.tally.specs.Examples.{computed as computedTally}
 use Rattle.heading.specs.declared.Header.{Header}
-use Rattle.listing.specs.Listing.{lineEnd, figures, lineOf, mapLine, classWords, fourOf, classLines, rowsLine, refusedLine, sheetLines}
+use Rattle.listing.specs.Listing.{lineEnd, figures, lineOf, mapLine, classWords, fourOf, classLines, rowsLine, refusedLine, sheetLines, talliedText, sheetText, listingOf}
+
+-- the lines with every definition opened, so that they compute
+unfoldable pub computedLines : Header → ℕ → List ℤ → List ℕ
+unfolding sheetLines mapLine classLines classWords fourOf rowsLine lineOf figures countText digits refusedLine
+computedLines h count f = sheetLines h count f
+
+-- `listingOf` with every definition opened, so that it computes
+unfoldable pub computed : List ℕ → List ℕ
+unfolding listingOf sheetText talliedText computedLines computedReading computedTally
+computed bs = listingOf bs
 
 header : Header
 header = record { kind = 1; name = text "Z999_000100"; scale = pos 1000000 }
@@ -24,10 +37,35 @@ the-sheet : sheetLines header 2 tally
     ((text "BUILDING 0 0 0 0" ++ lineEnd) ++
     ((text "PARCEL 1 400000000 0 0" ++ lineEnd) ++
     (text "ROWS 2" ++ lineEnd))))))))
-unfolding sheetLines mapLine classLines classWords fourOf rowsLine lineOf figures countText digits header tally
+unfolding computed header tally
 the-sheet = refl
 
 -- more than 8,192 bytes
 too-long : refusedLine 1 0 0 ≡ text "REFUSED 1 0 0" ++ lineEnd
-unfolding refusedLine lineOf figures countText digits
+unfolding computed
 too-long = refl
+
+-- a class's figures in their order: borders, outer total, islands, island total
+four-figures : classLines 4 (text "BUILDING" ∷ []) (replicate 16 (pos 0) ++ pos 1 ∷ pos 20 ∷ pos 3 ∷ pos 4 ∷ replicate 4 (pos 9)) ≡ text "BUILDING 1 20 3 4\n"
+unfolding computed
+four-figures = refl
+
+-- a refusal's number, place and offset in their order
+refusal : (refusedLine 12 32 176 ≡ text "REFUSED 12 32 176\n") × (listingOf (text "MAPPA\nZ999_000100\n1000.000\n") ≡ text "REFUSED 2 4 27\n")
+unfolding computed
+refusal = (refl, refl)
+
+-- 8,192 bytes are read, one more is not
+input-most : (listingOf (replicate 8192 65) ≡ text "REFUSED 2 1 0\n") × (listingOf (replicate 8193 65) ≡ text "REFUSED 1 0 0\n")
+unfolding computed
+input-most = (refl, refl)
+
+-- an empty sheet; a ring that is too wide gives its row and 0
+no-rows : listingOf (text "MAPPA\nZ999_000100\n1000.000\nEOF") ≡ text "MAP 1 Z999_000100 1000000\nCONFINE 0 0 0 0\nOTHER 0 0 0 0\nROAD 0 0 0 0\nWATER 0 0 0 0\nBUILDING 0 0 0 0\nPARCEL 0 0 0 0\nROWS 0\n"
+unfolding computed
+no-rows = refl
+
+wide-row : listingOf (text "MAPPA\nZ999_000100\n1000.000\nSIMBOLO\n5\n0.000\n0.000\n0.000\nBORDO\n7\n18\n0.000\n1.000\n1.000\n1.000\n1.000\n0\n4\n0.000\n0.000\n20000.001\n0.000\n0.000\n9.000\n0.000\n0.000\nEOF")
+    ≡ text "REFUSED 17 1 0\n"
+unfolding computed
+wide-row = refl

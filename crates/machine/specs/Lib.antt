@@ -1,2 +1,3 @@
--- The definitions of `machine`, in the order to read them.
+-- The definitions of `machine`, in the order to read them, and their examples.
 pub mod Machine
+pub mod Examples

@@ -2,40 +2,49 @@
 use Prim.Native.Nat.{ℕ}
 use mathlib.Core.Path.{_≡_, refl}
 use mathlib.Core.List.{List, [], _∷_, _++_}
+use mathlib.Core.Bool.{true, false}
+use lib.Dec.{leb}
 use lib.IntN.{ℤ, pos, negsuc}
 use Rattle.laws.specs.Lists.{all, allAt, below, holds, same}
 use Rattle.laws.specs.Text.{text}
 use Rattle.record.specs.declared.Mode.{Mode}
 use Rattle.record.specs.declared.Mode.the-variants.{Loose, Exact}
 use Rattle.number.specs.Number.{isReal}
+use Rattle.spelling.specs.Spelling.{integerMost}
 use Rattle.token.specs.Lex.{mayLieOutside}
 use Rattle.kinds.specs.Kinds.{schedule, codes, isListed, wantAt}
 use Rattle.heading.specs.declared.Header.{Header}
 use Rattle.heading.specs.Heading.{nameByte, isName, isHeader}
+use Rattle.sheet.specs.Tables.{Tables}
 use Rattle.made.specs.declared.Verdict.{Verdict}
 use Rattle.made.specs.declared.Verdict.the-variants.{Fine, BadHeader, Faulty, Unlisted}
-use Rattle.made.specs.Made.{tablesOf, inRange, hasField, isOutside, isCell, areNumbers, areLetters, sum, areCounts, areReals, isClosed, areClosed, ringSizes, arePoints, isMade, isCoded, judgeRows, judgeOf}
+use Rattle.made.specs.Made.{tablesOf, inRange, hasField, isOutside, isCell, areNumbers, areLetters, sum, areCounts, areReals, isClosed, areClosed, ringSizes, arePoints, isMade, isCoded, judgeRows, judgeOf, faultOf}
 
-abbrev header : ℕ → Header
+abbrev pub header : ℕ → Header
 header kind = record { kind = kind; name = text "Z999_000100"; scale = pos 1000000 }
 
 -- rows: a text that lies outside, a symbol of a code, a border; and a ring of four vertices, closed where `last` is 0
-abbrev label : List ℤ
+abbrev pub label : List ℤ
 label = pos 2 ∷ pos 1 ∷ pos 0 ∷ pos 18 ∷ pos 0 ∷ pos 3000 ∷ negsuc 4 ∷ pos 0 ∷ pos 0 ∷ pos 1 ∷ pos 0 ∷ pos 0 ∷ []
 
-abbrev symbol : ℕ → List ℤ
+abbrev pub symbol : ℕ → List ℤ
 symbol code = pos 3 ∷ pos 0 ∷ pos code ∷ pos 0 ∷ pos 0 ∷ pos 5 ∷ pos 5 ∷ pos 0 ∷ pos 0 ∷ pos 0 ∷ pos 0 ∷ pos 0 ∷ []
 
-abbrev border : ℕ → ℕ → ℕ → List ℤ
+abbrev pub border : ℕ → ℕ → ℕ → List ℤ
 border outside islands vertices =
     pos 1 ∷ pos outside ∷ pos 0 ∷ pos 18 ∷ pos 0 ∷ pos 1 ∷ pos 1 ∷ pos 1 ∷ pos 1 ∷ pos 1 ∷ pos islands ∷ pos vertices ∷ []
 
-abbrev ring : ℕ → List ℤ
+abbrev pub ring : ℕ → List ℤ
 ring last = pos 0 ∷ pos 0 ∷ pos 9 ∷ pos 0 ∷ pos 9 ∷ pos 9 ∷ pos last ∷ pos 0 ∷ []
 
--- the verdict on the first rows of some tables
-judged : Mode → List ℤ → List ℕ → List ℕ → List ℤ → ℕ → Verdict
+-- `judgeOf` with every definition opened, so that it computes
+unfoldable pub computed : Mode → Header → ℕ → Tables → Verdict
 unfolding judgeOf isHeader isName allAt nameByte same judgeRows isMade areNumbers below isCell isOutside hasField inRange isReal wantAt mayLieOutside schedule holds areLetters all sum areCounts arePoints areReals isClosed areClosed ringSizes isCoded isListed codes
+computed mode h count t = judgeOf mode h count t
+
+-- the verdict on the first rows of some tables
+unfoldable pub judged : Mode → List ℤ → List ℕ → List ℕ → List ℤ → ℕ → Verdict
+unfolding computed
 judged mode rows letters islands points count = judgeOf mode (header 1) count (tablesOf rows letters islands points)
 
 -- a sheet of no rows is well made, whatever its tables hold; the header is judged first
@@ -69,7 +78,7 @@ symbol-exact : judged Exact (symbol 12) [] [] [] 2 ≡ Unlisted 0
 unfolding judged
 symbol-exact = refl
 
--- a closed ring, an open one, a border outside, an island of three, and an island that closes
+-- a closed ring, an open one, a border outside, an island of three, though closed, and an island that closes
 closed : judged Exact (border 0 0 4) (text "7") [] (ring 0) 1 ≡ Fine
 unfolding judged
 closed = refl
@@ -82,10 +91,75 @@ border-outside : judged Exact (border 1 0 4) (text "7") [] (ring 0) 1 ≡ Faulty
 unfolding judged
 border-outside = refl
 
-island-of-three : judged Exact (border 0 1 8) (text "7") (3 ∷ []) (ring 0 ++ ring 0) 1 ≡ Faulty 0
+island-of-three : judged Exact (border 0 1 8) (text "7") (3 ∷ []) (ring 0 ++ (pos 0 ∷ pos 0 ∷ pos 2 ∷ pos 2 ∷ pos 3 ∷ pos 2 ∷ pos 2 ∷ pos 2 ∷ [])) 1 ≡ Faulty 0
 unfolding judged
 island-of-three = refl
 
 with-island : judged Exact (border 0 1 8) (text "7") (4 ∷ []) (ring 0 ++ ring 0) 1 ≡ Fine
 unfolding judged
 with-island = refl
+
+-- ---- numbers, letters and counts, each with the next one that is faulty
+
+-- a text of so many letters, of a size
+abbrev pub labelled : ℕ → ℕ → List ℤ
+labelled letters size = pos 2 ∷ pos 0 ∷ pos 0 ∷ pos size ∷ pos 0 ∷ pos 3000 ∷ negsuc 4 ∷ pos 0 ∷ pos 0 ∷ pos letters ∷ pos 0 ∷ pos 0 ∷ []
+
+-- blanks inside are fine, at an end not; bytes 32 to 126; at least one letter, and all of them held
+letters-in : (judged Loose (labelled 3 18) (text "a b") [] [] 1 ≡ Fine) × (judged Loose (labelled 2 18) (text "7 ") [] [] 1 ≡ Faulty 0)
+    × (judged Loose (labelled 2 18) (text " 7") [] [] 1 ≡ Faulty 0) × (judged Loose (labelled 1 18) (126 ∷ []) [] [] 1 ≡ Fine)
+    × (judged Loose (labelled 1 18) (127 ∷ []) [] [] 1 ≡ Faulty 0) × (judged Loose (labelled 0 18) (text "7") [] [] 1 ≡ Faulty 0)
+    × (judged Loose (labelled 2 18) (text "7") [] [] 1 ≡ Faulty 0)
+unfolding judged
+letters-in = (refl, refl, refl, refl, refl, refl, refl)
+
+-- sizes and codes 0 to 9999
+integers-in : (judged Loose (labelled 1 9999) (text "7") [] [] 1 ≡ Fine) × (judged Loose (labelled 1 10000) (text "7") [] [] 1 ≡ Faulty 0)
+    × (judged Loose (symbol 0) [] [] [] 1 ≡ Fine) × (judged Exact (symbol 0) [] [] [] 1 ≡ Unlisted 0) × (judged Loose (symbol 10000) [] [] [] 1 ≡ Faulty 0)
+unfolding judged
+integers-in = (refl, refl, refl, refl, refl)
+
+-- and that is what four characters spell
+integers-spelt : (leb 9999 integerMost ≡ true) × (leb 10000 integerMost ≡ false)
+integers-spelt = (refl, refl)
+
+-- a symbol of a code, with an outside mark, a size, which it lacks, and a y
+abbrev pub odd : ℕ → ℕ → ℕ → ℕ → List ℤ
+odd outside code size y = pos 3 ∷ pos outside ∷ pos code ∷ pos size ∷ pos 0 ∷ pos 5 ∷ pos y ∷ pos 0 ∷ pos 0 ∷ pos 0 ∷ pos 0 ∷ pos 0 ∷ []
+
+-- a field that the kind lacks is 0, an outside mark 0 or 1, a real in its range
+lacking : (judged Exact (odd 1 5 0 99999999999) [] [] [] 1 ≡ Fine) × (judged Exact (odd 0 5 18 0) [] [] [] 1 ≡ Faulty 0) × (judged Exact (odd 2 5 0 0) [] [] [] 1 ≡ Faulty 0)
+    × (judged Exact (odd 0 5 0 100000000000) [] [] [] 1 ≡ Faulty 0)
+unfolding judged
+lacking = (refl, refl, refl, refl)
+
+-- all but BORDO may lie outside; there is no kind 0 and none past 5
+outside-kinds : (isOutside 0 (pos 1) ≡ false) × (isOutside 1 (pos 1) ≡ false) × (isOutside 2 (pos 1) ≡ true) × (isOutside 5 (pos 1) ≡ true) × (isOutside 6 (pos 1) ≡ false)
+    × (isOutside 1 (pos 0) ≡ true)
+unfolding computed
+outside-kinds = (refl, refl, refl, refl, refl, refl)
+
+-- within a row 15 comes before 10
+both-wrong : (judged Exact (odd 0 12 18 0) [] [] [] 1 ≡ Faulty 0) × (judged Exact (symbol 5 ++ odd 2 12 0 0) [] [] [] 2 ≡ Faulty 1)
+unfolding judged
+both-wrong = (refl, refl)
+
+abbrev line : ℕ → List ℤ
+line vertices = pos 5 ∷ pos 0 ∷ pos 6 ∷ pos 0 ∷ pos 0 ∷ pos 0 ∷ pos 0 ∷ pos 0 ∷ pos 0 ∷ pos 0 ∷ pos 0 ∷ pos vertices ∷ []
+
+-- a line has 2 vertices at least, and need not close; a border 4 and 4 for each island; its points are all held
+counts-in : (judged Exact (line 2) [] [] (ring 0) 1 ≡ Fine) × (judged Exact (line 1) [] [] (ring 0) 1 ≡ Faulty 0) × (judged Exact (border 0 0 3) (text "7") [] (ring 0) 1 ≡ Faulty 0)
+    × (judged Exact (border 0 1 7) (text "7") (4 ∷ []) (ring 0 ++ ring 0) 1 ≡ Faulty 0) × (judged Exact (border 0 1 8) (text "7") [] (ring 0 ++ ring 0) 1 ≡ Faulty 0)
+    × (judged Exact (border 0 1 8) (text "7") (5 ∷ []) (ring 0 ++ ring 0) 1 ≡ Faulty 0) × (judged Exact (border 0 1 8) (text "7") (4 ∷ []) (ring 0) 1 ≡ Faulty 0)
+    × (judged Exact (border 0 1 8) (text "7") (4 ∷ []) (ring 0 ++ ring 1) 1 ≡ Faulty 0)
+unfolding judged
+counts-in = (refl, refl, refl, refl, refl, refl, refl, refl)
+
+-- a ring that is open in y alone
+open-in-y : judged Exact (border 0 0 4) (text "7") [] (pos 0 ∷ pos 0 ∷ pos 9 ∷ pos 0 ∷ pos 9 ∷ pos 9 ∷ pos 0 ∷ pos 1 ∷ []) 1 ≡ Faulty 0
+unfolding judged
+open-in-y = refl
+
+-- the paper's numbers: 6, 15 and 10, the row with the last two
+faults : (faultOf BadHeader ≡ record { number = 6; row = 0 }) × (faultOf (Faulty 3) ≡ record { number = 15; row = 3 }) × (faultOf (Unlisted 3) ≡ record { number = 10; row = 3 })
+faults = (refl, refl, refl)

@@ -2,4 +2,4 @@
 pub mod Rings
 pub mod Areas
 pub mod Moved
-mod Examples
+pub mod Examples

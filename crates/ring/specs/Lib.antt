@@ -1,2 +1,3 @@
--- The definitions of `ring`, in the order to read them.
+-- The definitions of `ring`, in the order to read them, and their examples.
 pub mod RingCheck
+pub mod Examples

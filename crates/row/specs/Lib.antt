@@ -1,3 +1,4 @@
--- The definitions of `row`, in the order to read them.
+-- The definitions of `row`, in the order to read them, and their examples.
 pub mod Walk
 pub mod Seek
+pub mod Examples

@@ -3,7 +3,7 @@ use Prim.Native.Nat.{ℕ}
 use mathlib.Core.Path.{_≡_, refl}
 use mathlib.Core.List.{List, [], _∷_, _++_}
 use lib.ListN.{replicate}
-use lib.IntN.{ℤ, pos, negsuc}
+use lib.IntN.{pos, negsuc}
 use Rattle.laws.specs.Lists.{run, kept, all, same, allAt, holds, place}
 use Rattle.laws.specs.Text.{text}
 use Rattle.record.specs.declared.Mode.{Mode}
@@ -11,6 +11,7 @@ use Rattle.record.specs.declared.Mode.the-variants.{Loose, Exact}
 use Rattle.record.specs.Record.{endsCR, content, contentIs, lineIs, lineOf}
 use Rattle.number.specs.Words.{unled, trimmed, wordOf}
 use Rattle.number.specs.Number as Number
+use Rattle.heading.specs.declared.Header.{Header}
 use Rattle.header.specs.Header.{firstWords, kindOf, isNamed, headScale, headName, headed}
 use Rattle.heading.specs.Heading.{nameByte, isName}
 use Rattle.token.specs.Lex.{keywords, mayLieOutside, lift, unlift, unmarked, isMarked, keyOf, lexOf}
@@ -20,14 +21,14 @@ use Rattle.sheet.specs.Tables.{Tables, empty, setLast, put, ringAfter}
 use Rattle.sheet.specs.Reading.{Reading, sheet, refused, walk, walkFrom, sectionsOf, meaning, reading, sectionsAt, eofAt, sectionBytes, joined}
 
 -- `reading` with every definition opened, so that it computes
-abbrev computed : Mode → List ℕ → Reading
+unfoldable pub computed : Mode → List ℕ → Reading
 unfolding run kept all same allAt holds place endsCR content contentIs lineIs lineOf unled trimmed wordOf Number.value Number.ended Number.lean Number.integerIs Number.integerAt Number.integerOf Number.signOf Number.signs Number.signed Number.thousandths Number.isToken Number.isNeat Number.realIs Number.realAt Number.realSigned Number.realOf firstWords nameByte isName kindOf isNamed headScale headName headed keywords mayLieOutside schedule nextIn nextOf codes isListed lift unlift unmarked isMarked keyOf lexOf wantAt wantOf verticesOf fieldOf islandOf isShut ringStep vertexOf keyStep stepOf oneOf setLast put ringAfter walk walkFrom sectionsOf meaning reading sectionsAt eofAt sectionBytes joined
 computed mode bs = reading mode bs
 
 -- ---- the specification's own examples (1.1.3, 1.1.6, 1.1.9 to 1.1.12)
 
 -- padded, each record with CR LF
-padded : List ℕ
+unfoldable pub padded : List ℕ
 padded =
     text "MAPPA\r\nD458_021200\r\n    2000.000\r\nBORDO\r\n120\r\n  18\r\n"
     ++ text "       0.000\r\n   14935.000\r\n  -29985.000\r\n   14936.000\r\n  -29986.000\r\n   0\r\n"
@@ -57,10 +58,12 @@ printed =
     ++ text "EOF\n"
 
 -- what both mean
-specimen : Reading
-specimen =
-    sheet (record { kind = 1; name = text "D458_021200"; scale = pos 2000000 })
-    (record {
+abbrev pub specimenHeader : Header
+specimenHeader = record { kind = 1; name = text "D458_021200"; scale = pos 2000000 }
+
+unfoldable pub specimenTables : Tables
+specimenTables =
+    record {
       rows =
           pos 1 ∷ pos 0 ∷ pos 0 ∷ pos 18 ∷ pos 0 ∷ pos 14935000 ∷ negsuc 29984999 ∷ pos 14936000 ∷ negsuc 29985999 ∷ pos 3 ∷ pos 0 ∷ pos 6 ∷
           pos 2 ∷ pos 0 ∷ pos 0 ∷ pos 40 ∷ pos 0 ∷ negsuc 13763924 ∷ pos 49312319 ∷ pos 0 ∷ pos 0 ∷ pos 10 ∷ pos 0 ∷ pos 0 ∷
@@ -71,7 +74,11 @@ specimen =
       letters = text "120Corricioni(731)5";
       islands = [];
       points = pos 14941747 ∷ negsuc 29983614 ∷ pos 14939626 ∷ negsuc 29987400 ∷ pos 14936901 ∷ negsuc 29990672 ∷ pos 14933682 ∷ negsuc 29988246 ∷ pos 14937623 ∷ negsuc 29980517 ∷ pos 14941747 ∷ negsuc 29983614 ∷ pos 15181145 ∷ negsuc 29700212 ∷ pos 15179456 ∷ negsuc 29699077 ∷ pos 15181315 ∷ negsuc 29698257 ∷ pos 15181145 ∷ negsuc 29700212 ∷ [];
-    })
+    }
+
+specimen : Reading
+unfolding specimenTables
+specimen = sheet specimenHeader specimenTables
 
 specimen-exact : reading Exact padded ≡ specimen
 unfolding computed padded specimen
@@ -87,7 +94,7 @@ specimen-printed = refl
 
 -- ---- the listing example of document 01: a TESTO may say EOF, and the last record has no line end
 
-listed : List ℕ
+unfoldable pub listed : List ℕ
 listed =
     text "MAPPA\nZ999_000100\n1000.000\nBORDO\n7\n18\n"
     ++ text "0.000\n1.000\n1.000\n1.000\n1.000\n0\n"
@@ -95,7 +102,7 @@ listed =
     ++ text "20.000\n0.000\n20.000\n0.000\n0.000\nTESTO\\\n"
     ++ text "EOF\n18\n0.000\n3.000\n-0.005\nEOF"
 
-listed-is : reading Loose listed
+pub listed-is : reading Loose listed
     ≡ sheet (record { kind = 1; name = text "Z999_000100"; scale = pos 1000000 })
     (record {
       rows =
@@ -173,7 +180,7 @@ unfolding computed
 six-scale = refl
 
 -- RIFERIMENTO_RASTER is not read
-seven : reading Loose (text "MAPPA\nZ999_000100\n1000.000\nRIFERIMENTO_RASTER\n") ≡ refused 7 4 27
+pub seven : reading Loose (text "MAPPA\nZ999_000100\n1000.000\nRIFERIMENTO_RASTER\n") ≡ refused 7 4 27
 unfolding computed
 seven = refl
 
@@ -218,7 +225,7 @@ unfolding computed
 twelve = refl
 
 -- in exact mode nothing follows the EOF record
-thirteen : reading Exact (text "MAPPA\r\nZ999_000100\r\n    1000.000\r\nEOF\r\nx") ≡ refused 13 5 39
+pub thirteen : reading Exact (text "MAPPA\r\nZ999_000100\r\n    1000.000\r\nEOF\r\nx") ≡ refused 13 5 39
 unfolding computed
 thirteen = refl
 
@@ -228,3 +235,91 @@ joined-is : reading Loose (joined Loose bordered listed)
     ≡ reading Loose (text "MAPPA\nZ999_000100\n1000.000\n" ++ text "BORDO\n7\n18\n0.000\n1.000\n1.000\n1.000\n1.000\n1\n9\n4\n0.000\n0.000\n9.000\n0.000\n9.000\n9.000\n0.000\n9.000\n0.000\n0.000\n2.000\n2.000\n3.000\n2.000\n3.000\n3.000\n2.000\n2.000\n" ++ text "BORDO\n7\n18\n0.000\n1.000\n1.000\n1.000\n1.000\n0\n5\n0.000\n0.000\n10.000\n0.000\n10.000\n20.000\n0.000\n20.000\n0.000\n0.000\nTESTO\\\nEOF\n18\n0.000\n3.000\n-0.005\n" ++ text "EOF")
 unfolding computed bordered listed
 joined-is = refl
+
+-- ---- sheets of one element each, and refusals beside them
+
+abbrev header : Header
+header = record { kind = 1; name = text "Z999_000100"; scale = pos 1000000 }
+
+-- LIBRETTO is not read
+seven-libretto : reading Loose (text "MAPPA\nZ999_000100\n1000.000\nLIBRETTO\n") ≡ refused 7 4 27
+unfolding computed
+seven-libretto = refl
+
+-- a blank at a keyword's end: dropped in loose mode, 7 in exact mode; behind the `\`, not before it
+seven-blank : (reading Exact (text "MAPPA\r\nZ999_000100\r\n    1000.000\r\nTESTO \r\n") ≡ refused 7 4 34)
+    × (reading Exact (text "MAPPA\r\nZ999_000100\r\n    1000.000\r\n EOF\r\n") ≡ refused 7 4 34)
+    × (reading Loose (text "MAPPA\nZ999_000100\n1000.000\nTESTO \\\n") ≡ refused 7 4 27)
+unfolding computed
+seven-blank = (refl, refl, refl)
+
+-- `EOF` without a line end where an x is due
+two-x : reading Loose (text "MAPPA\nZ999_000100\n1000.000\nLINEA\n6\n2\nEOF") ≡ refused 2 7 37
+unfolding computed
+two-x = refl
+
+-- a text's inner blanks are kept as they are, in both modes
+inner-blanks : Tables
+inner-blanks =
+    record {
+      rows = pos 2 ∷ pos 1 ∷ pos 0 ∷ pos 18 ∷ pos 0 ∷ pos 1000 ∷ pos 2000 ∷ pos 0 ∷ pos 0 ∷ pos 6 ∷ pos 0 ∷ pos 0 ∷ [];
+      letters = text "Via  3";
+      islands = [];
+      points = [];
+    }
+
+inner-loose : reading Loose (text "MAPPA\nZ999_000100\n1000.000\nTESTO\\ \n  Via  3 \n18\n0.000\n1.000\n2.000\nEOF") ≡ sheet header inner-blanks
+unfolding computed inner-blanks
+inner-loose = refl
+
+inner-exact : reading Exact (text "MAPPA\r\nZ999_000100\r\n    1000.000\r\nTESTO\\\r\nVia  3\r\n  18\r\n       0.000\r\n       1.000\r\n       2.000\r\nEOF\r\n") ≡ sheet header inner-blanks
+unfolding computed inner-blanks
+inner-exact = refl
+
+-- a symbol of a code
+symbol : ℕ → Reading
+symbol code =
+    sheet header
+    (record {
+      rows = pos 3 ∷ pos 0 ∷ pos code ∷ pos 0 ∷ pos 0 ∷ pos 1000 ∷ pos 2000 ∷ pos 0 ∷ pos 0 ∷ pos 0 ∷ pos 0 ∷ pos 0 ∷ [];
+      letters = [];
+      islands = [];
+      points = [];
+    })
+
+-- loose mode takes symbol 12, which is not listed, and drops what follows EOF; exact mode takes 13
+twelve-loose : reading Loose (text "MAPPA\nZ999_000100\n1000.000\nSIMBOLO\n12\n0.000\n1.000\n2.000\nEOF\nx") ≡ symbol 12
+unfolding computed symbol
+twelve-loose = refl
+
+thirteen-listed : reading Exact (text "MAPPA\r\nZ999_000100\r\n    1000.000\r\nSIMBOLO\r\n  13\r\n       0.000\r\n       1.000\r\n       2.000\r\nEOF\r\n") ≡ symbol 13
+unfolding computed symbol
+thirteen-listed = refl
+
+-- form comes before code and count
+eight-first : (reading Exact (text "MAPPA\r\nZ999_000100\r\n    1000.000\r\nSIMBOLO\r\n 012\r\n") ≡ refused 8 5 43)
+    × (reading Exact (text "MAPPA\r\nZ999_000100\r\n    1000.000\r\nLINEA\r\n   6\r\n1\r\n") ≡ refused 8 6 47)
+unfolding computed
+eight-first = (refl, refl)
+
+-- a line of one vertex
+eleven-line : reading Loose (text "MAPPA\nZ999_000100\n1000.000\nLINEA\n6\n1\n") ≡ refused 11 6 35
+unfolding computed
+eleven-line = refl
+
+-- an outer ring that is open in x alone, refused at the record of its last y, before its island
+twelve-outer : reading Loose (text "MAPPA\nZ999_000100\n1000.000\nBORDO\n7\n18\n0.000\n1.000\n1.000\n1.000\n1.000\n1\n8\n4\n0.000\n0.000\n9.000\n0.000\n9.000\n9.000\n1.000\n0.000\nx\n") ≡ refused 12 22 116
+unfolding computed
+twelve-outer = refl
+
+-- two islands of different sizes, each ring with its own count
+two-islands : reading Loose (text "MAPPA\nZ999_000100\n1000.000\nBORDO\n7\n18\n0.000\n1.000\n1.000\n1.000\n1.000\n2\n13\n4\n5\n" ++ text "0.000\n0.000\n9.000\n0.000\n9.000\n9.000\n0.000\n0.000\n1.000\n1.000\n2.000\n1.000\n2.000\n2.000\n1.000\n1.000\n3.000\n3.000\n4.000\n3.000\n4.000\n4.000\n3.000\n4.000\n3.000\n3.000\nEOF")
+    ≡ sheet header
+    (record {
+      rows = pos 1 ∷ pos 0 ∷ pos 0 ∷ pos 18 ∷ pos 0 ∷ pos 1000 ∷ pos 1000 ∷ pos 1000 ∷ pos 1000 ∷ pos 1 ∷ pos 2 ∷ pos 13 ∷ [];
+      letters = text "7";
+      islands = 4 ∷ 5 ∷ [];
+      points = pos 0 ∷ pos 0 ∷ pos 9000 ∷ pos 0 ∷ pos 9000 ∷ pos 9000 ∷ pos 0 ∷ pos 0 ∷ pos 1000 ∷ pos 1000 ∷ pos 2000 ∷ pos 1000 ∷ pos 2000 ∷ pos 2000 ∷ pos 1000 ∷ pos 1000 ∷ pos 3000 ∷ pos 3000 ∷ pos 4000 ∷ pos 3000 ∷ pos 4000 ∷ pos 4000 ∷ pos 3000 ∷ pos 4000 ∷ pos 3000 ∷ pos 3000 ∷ [];
+    })
+unfolding computed
+two-islands = refl

@@ -1,6 +1,7 @@
 -- Numbers of document 01 as exact mode and the listing have them, computed.
 use mathlib.Core.Path.{_≡_, refl}
-use mathlib.Core.List.{[], _∷_}
+use mathlib.Core.List.{[], _∷_, _++_}
+use lib.ListN.{length}
 use lib.IntN.{pos, negℤ}
 use Rattle.spelling.specs.Spelling.{digits, places, countText, aligned, integerText, minus, decimal, realText}
 
@@ -47,3 +48,8 @@ listed-nought = refl
 listed-area : countText 400000000 ≡ 52 ∷ 48 ∷ 48 ∷ 48 ∷ 48 ∷ 48 ∷ 48 ∷ 48 ∷ 48 ∷ []
 unfolding countText digits
 listed-area = refl
+
+-- ten thousand does not find room in four characters, nor the next real below the least in twelve
+too-wide : (length (digits 5 10000) ≡ 5) × (length (minus (negℤ (pos 10000000000)) ++ decimal 10000000000) ≡ 13)
+unfolding minus decimal digits places
+too-wide = (refl, refl)

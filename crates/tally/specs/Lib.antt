@@ -1,4 +1,5 @@
--- The definitions of `tally`, in the order to read them.
+-- The definitions of `tally`, in the order to read them, and their examples.
 pub mod Tally
 pub mod Take
 pub mod Sums
+pub mod Examples

@@ -1,3 +1,3 @@
 -- The definitions that the contracts of crate `tile` cite.
 pub mod Tiles
-mod Examples
+pub mod Examples

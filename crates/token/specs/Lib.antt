@@ -1,2 +1,3 @@
--- The definitions of `token`, in the order to read them.
+-- The definitions of `token`, in the order to read them, and their examples.
 pub mod Lex
+pub mod Examples

@@ -1,3 +1,4 @@
--- The definitions of `writer`, in the order to read them.
+-- The definitions of `writer`, in the order to read them, and their examples.
 pub mod Write
 pub mod Put
+pub mod Examples
