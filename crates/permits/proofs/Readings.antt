@@ -1,0 +1,253 @@
+-- What the contracts of `read_as`, `read` and `cxf_read`, as their sources write them, permit on some files: document 01, "Sheet tables". Assumes nothing.
+use Prim.Native.Nat.{ℕ}
+use mathlib.Core.Path.{_≡_, refl, _∙_, ap}
+use mathlib.Core.List.{List, [], _∷_, _++_}
+use lib.ListN.{length, drop, replicate}
+use lib.IntN.{ℤ, pos, negsuc}
+use contract.Lifetimes.{Lfts}
+use borrow.Fn.World.{ArgsD, ResD}
+use denote.Triple.Clauses.{AtExit}
+use denote.Ref.{now}
+use Rattle.laws.specs.Text.{text}
+use Rattle.record.specs.declared.Mode.the-variants.{Loose, Exact}
+use Rattle.heading.specs.declared.Header.{Header}
+use Rattle.sheet.specs.Tables.{Tables}
+use Rattle.sheet.specs.Reading.{sheet, reading}
+use Rattle.sheet.specs.Examples.{listed, listed-is, seven, thirteen}
+use Rattle.made.specs.Made.{tablesOf}
+use Rattle.reader.specs.declared.Needs.{Needs}
+use Rattle.reader.specs.declared.Answer.the-variants.{Read, NoRoom, Refused}
+use Rattle.reader.specs.declared.Outcome.{Outcome}
+use Rattle.reader.specs.Read.{Rooms, roomsOf, holdsAll, refusedWith, readOf}
+use Rattle.reader.proofs.read_as as read-as
+use Rattle.reader.proofs.read_as.Reads as read-as-reads
+use Rattle.reader.proofs.read as read
+use Rattle.reader.proofs.read.Reads as read-reads
+use Rattle.told.specs.Told.{readTold}
+use Rattle.told.specs.Asked.{modeOf}
+use Rattle.cabi.proofs.cxf_read as cxf-read
+use Rattle.cabi.proofs.cxf_read.Reads as cxf-read-reads
+
+-- ---- the listing example of document 01: what it holds
+
+abbrev pub header : Header
+header = record { kind = 1; name = text "Z999_000100"; scale = pos 1000000 }
+
+-- a border, and a text outside that says EOF
+unfoldable pub rowsHeld : List ℤ
+rowsHeld =
+    pos 1 ∷ pos 0 ∷ pos 0 ∷ pos 18 ∷ pos 0 ∷ pos 1000 ∷ pos 1000 ∷ pos 1000 ∷ pos 1000 ∷ pos 1 ∷ pos 0 ∷ pos 5 ∷
+    pos 2 ∷ pos 1 ∷ pos 0 ∷ pos 18 ∷ pos 0 ∷ pos 3000 ∷ negsuc 4 ∷ pos 0 ∷ pos 0 ∷ pos 3 ∷ pos 0 ∷ pos 0 ∷ []
+
+unfoldable pub pointsHeld : List ℤ
+pointsHeld = pos 0 ∷ pos 0 ∷ pos 10000 ∷ pos 0 ∷ pos 10000 ∷ pos 20000 ∷ pos 0 ∷ pos 20000 ∷ pos 0 ∷ pos 0 ∷ []
+
+abbrev pub tables : Tables
+tables = record { rows = rowsHeld; letters = text "7EOF"; islands = []; points = pointsHeld }
+
+abbrev pub needs : Needs
+needs = record { rows = 2; letters = 4; islands = 0; points = 5 }
+
+pub is : reading Loose listed ≡ sheet header tables
+unfolding rowsHeld pointsHeld
+is = listed-is
+
+-- ---- the answers, computed
+
+-- RIFERIMENTO_RASTER where a keyword is due
+abbrev pub raster : List ℕ
+raster = text "MAPPA\nZ999_000100\n1000.000\nRIFERIMENTO_RASTER\n"
+
+-- a byte behind the EOF record
+abbrev pub followed : List ℕ
+followed = text "MAPPA\r\nZ999_000100\r\n    1000.000\r\nEOF\r\nx"
+
+abbrev pub itsSheet : Outcome
+itsSheet = record { answer = Read needs; header = header }
+
+-- tables with room to spare, tables that are just long enough, and a row table one number short
+spare : readOf Loose listed (roomsOf 36 6 1 11) ≡ itsSheet
+unfolding readOf holdsAll rowsHeld pointsHeld
+spare = rw is refl
+
+enough : readOf Loose listed (roomsOf 24 4 0 10) ≡ itsSheet
+unfolding readOf holdsAll rowsHeld pointsHeld
+enough = rw is refl
+
+short : readOf Loose listed (roomsOf 23 6 1 11) ≡ refusedWith (NoRoom needs)
+unfolding readOf holdsAll rowsHeld pointsHeld
+short = rw is refl
+
+-- a refused file, whatever the tables
+refused-raster : (x : Rooms) → readOf Loose raster x ≡ refusedWith (Refused 7 4 27)
+unfolding readOf
+refused-raster x = rw seven refl
+
+refused-followed : (x : Rooms) → readOf Exact followed x ≡ refusedWith (Refused 13 5 39)
+unfolding readOf
+refused-followed x = rw thirteen refl
+
+-- ---- the four tables together
+
+pub four : {t u : Tables} → t .rows ≡ u .rows → t .letters ≡ u .letters → t .islands ≡ u .islands → t .points ≡ u .points → t ≡ u
+four p q r s i = record { rows = p i; letters = q i; islands = r i; points = s i }
+
+-- tables that hold the example, and then the rest as it was
+abbrev pub holding : Tables → Tables
+holding t =
+    record { rows = rowsHeld ++ drop 24 (t .rows); letters = text "7EOF" ++ drop 4 (t .letters); islands = t .islands; points = pointsHeld ++ drop 10 (t .points) }
+
+-- ---- `read_as`
+
+module _ (κs : Lfts 5) (a : ArgsD read-as.signature κs) (r : ResD read-as.signature κs) (e : AtExit read-as.ended κs) (post : read-as-reads.Learnt κs a r e) where
+  -- the tables as they are lent, and at exit
+  abbrev pub lent : Tables
+  lent = tablesOf (now (a .1 .1 .0)) (now (a .1 .1 .1 .0)) (now (a .1 .1 .1 .1 .0)) (now (a .1 .1 .1 .1 .1 .0))
+
+  abbrev pub left : Tables
+  left = tablesOf (now (e .1 .1 .0)) (now (e .1 .1 .1 .0)) (now (e .1 .1 .1 .1 .0)) (now (e .1 .1 .1 .1 .1 .0))
+
+  -- asked so, with tables of these lengths
+  abbrev pub Lengths : ℕ → ℕ → ℕ → ℕ → Type 0
+  Lengths n l i p = (length (lent .rows) ≡ n) × (length (lent .letters) ≡ l) × (length (lent .islands) ≡ i) × (length (lent .points) ≡ p)
+
+  untouched : {number nth offset : ℕ} → r ≡ refusedWith (Refused number nth offset) → left ≡ lent
+  untouched q = four (post .1 .0 ∙ rw q refl) (post .1 .1 .0 ∙ rw q refl) (post .1 .1 .1 .0 ∙ rw q refl) (post .1 .1 .1 .1 ∙ rw q refl)
+
+  module _ (m : a .0 ≡ Loose) (s : now (a .1 .0) ≡ listed) where
+    -- shuts out a reader that refuses everything
+    pub read-as-answers : Lengths 36 6 1 11 → r ≡ itsSheet
+    read-as-answers n = post .0 ∙ rw (m, s, n .0, n .1, n .2, n .3) spare
+
+    -- shuts out a reader that returns an empty sheet, and one that reads the first section and invents the rest
+    pub read-as-not-empty : Lengths 36 6 1 11 → left ≡ holding lent
+    unfolding rowsHeld pointsHeld
+    read-as-not-empty n =
+        let q : r ≡ itsSheet = read-as-answers n in
+        four (post .1 .0 ∙ rw (q, m, s, is) refl) (post .1 .1 .0 ∙ rw (q, m, s, is) refl) (post .1 .1 .1 .0 ∙ rw (q, m, s, is) refl) (post .1 .1 .1 .1 ∙ rw (q, m, s, is) refl)
+
+    -- shuts out a 14 without need: the tables are just long enough
+    pub read-as-no-14-without-need : Lengths 24 4 0 10 → r ≡ itsSheet
+    read-as-no-14-without-need n = post .0 ∙ rw (m, s, n .0, n .1, n .2, n .3) enough
+
+    -- shuts out a made-up needed count: the row table is one number short
+    pub read-as-needs : Lengths 23 6 1 11 → r ≡ refusedWith (NoRoom needs)
+    read-as-needs n = post .0 ∙ rw (m, s, n .0, n .1, n .2, n .3) short
+
+    pub read-as-needs-untouched : Lengths 23 6 1 11 → left ≡ lent
+    read-as-needs-untouched n =
+        let q : r ≡ refusedWith (NoRoom needs) = read-as-needs n in
+        four (post .1 .0 ∙ rw q refl) (post .1 .1 .0 ∙ rw q refl) (post .1 .1 .1 .0 ∙ rw q refl) (post .1 .1 .1 .1 ∙ rw q refl)
+
+  -- number, record and offset
+  pub read-as-refuses : a .0 ≡ Loose → now (a .1 .0) ≡ raster → r ≡ refusedWith (Refused 7 4 27)
+  read-as-refuses m s = post .0 ∙ rw (m, s) (refused-raster _)
+
+  pub read-as-untouched : a .0 ≡ Loose → now (a .1 .0) ≡ raster → left ≡ lent
+  read-as-untouched m s = untouched (read-as-refuses m s)
+
+  pub read-as-after-eof : a .0 ≡ Exact → now (a .1 .0) ≡ followed → r ≡ refusedWith (Refused 13 5 39)
+  read-as-after-eof m s = post .0 ∙ rw (m, s) (refused-followed _)
+
+  pub read-as-after-eof-untouched : a .0 ≡ Exact → now (a .1 .0) ≡ followed → left ≡ lent
+  read-as-after-eof-untouched m s = untouched (read-as-after-eof m s)
+
+-- ---- `read`: no mode is named, and the example is read, which exact mode refuses
+
+module _ (κs : Lfts 5) (a : ArgsD read.signature κs) (r : ResD read.signature κs) (e : AtExit read.ended κs) (post : read-reads.Learnt κs a r e) where
+  abbrev pub readLent : Tables
+  readLent = tablesOf (now (a .1 .0)) (now (a .1 .1 .0)) (now (a .1 .1 .1 .0)) (now (a .1 .1 .1 .1 .0))
+
+  abbrev pub readLeft : Tables
+  readLeft = tablesOf (now (e .1 .0)) (now (e .1 .1 .0)) (now (e .1 .1 .1 .0)) (now (e .1 .1 .1 .1 .0))
+
+  abbrev pub ReadLengths : ℕ → ℕ → ℕ → ℕ → Type 0
+  ReadLengths n l i p = (length (readLent .rows) ≡ n) × (length (readLent .letters) ≡ l) × (length (readLent .islands) ≡ i) × (length (readLent .points) ≡ p)
+
+  pub read-answers : now (a .0) ≡ listed → ReadLengths 36 6 1 11 → r ≡ itsSheet
+  read-answers s n = post .0 ∙ rw (s, n .0, n .1, n .2, n .3) spare
+
+  pub read-not-empty : now (a .0) ≡ listed → ReadLengths 36 6 1 11 → readLeft ≡ holding readLent
+  unfolding rowsHeld pointsHeld
+  read-not-empty s n =
+      let q : r ≡ itsSheet = read-answers s n in
+      four (post .1 .0 ∙ rw (q, s, is) refl) (post .1 .1 .0 ∙ rw (q, s, is) refl) (post .1 .1 .1 .0 ∙ rw (q, s, is) refl) (post .1 .1 .1 .1 ∙ rw (q, s, is) refl)
+
+  pub read-needs : now (a .0) ≡ listed → ReadLengths 23 6 1 11 → r ≡ refusedWith (NoRoom needs)
+  read-needs s n = post .0 ∙ rw (s, n .0, n .1, n .2, n .3) short
+
+  pub read-needs-untouched : now (a .0) ≡ listed → ReadLengths 23 6 1 11 → readLeft ≡ readLent
+  read-needs-untouched s n =
+      let q : r ≡ refusedWith (NoRoom needs) = read-needs s n in
+      four (post .1 .0 ∙ rw q refl) (post .1 .1 .0 ∙ rw q refl) (post .1 .1 .1 .0 ∙ rw q refl) (post .1 .1 .1 .1 ∙ rw q refl)
+
+  pub read-refuses : now (a .0) ≡ raster → r ≡ refusedWith (Refused 7 4 27)
+  read-refuses s = post .0 ∙ rw s (refused-raster _)
+
+  pub read-untouched : now (a .0) ≡ raster → readLeft ≡ readLent
+  read-untouched s =
+      let q : r ≡ refusedWith (Refused 7 4 27) = read-refuses s in
+      four (post .1 .0 ∙ rw q refl) (post .1 .1 .0 ∙ rw q refl) (post .1 .1 .1 .0 ∙ rw q refl) (post .1 .1 .1 .1 ∙ rw q refl)
+
+-- ---- `cxf_read`: mode 0 is loose, mode 2 exact
+
+module _ (κs : Lfts 5) (a : ArgsD cxf-read.signature κs) (r : ResD cxf-read.signature κs) (e : AtExit cxf-read.ended κs) (post : cxf-read-reads.Learnt κs a r e) where
+  abbrev pub cxfLent : Tables
+  cxfLent = tablesOf (now (a .1 .1 .0)) (now (a .1 .1 .1 .0)) (now (a .1 .1 .1 .1 .0)) (now (a .1 .1 .1 .1 .1 .0))
+
+  abbrev pub cxfLeft : Tables
+  cxfLeft = tablesOf (now (e .1 .1 .0)) (now (e .1 .1 .1 .0)) (now (e .1 .1 .1 .1 .0)) (now (e .1 .1 .1 .1 .1 .0))
+
+  abbrev pub CxfLengths : ℕ → ℕ → ℕ → ℕ → Type 0
+  CxfLengths n l i p = (length (cxfLent .rows) ≡ n) × (length (cxfLent .letters) ≡ l) × (length (cxfLent .islands) ≡ i) × (length (cxfLent .points) ≡ p)
+
+  -- what the library answers
+  abbrev within : Outcome
+  within = readOf (modeOf (a .1 .0)) (now (a .0)) (roomsOf (length (cxfLent .rows)) (length (cxfLent .letters)) (length (cxfLent .islands)) (length (cxfLent .points)))
+
+  cxf-told : (x : Outcome) → within ≡ x → r ≡ readTold x
+  cxf-told x q = post .0 ∙ ap readTold q
+
+  cxf-untouched : (number nth offset : ℕ) → within ≡ refusedWith (Refused number nth offset) → cxfLeft ≡ cxfLent
+  cxf-untouched number nth offset q = four (post .1 .0 ∙ rw q refl) (post .1 .1 .0 ∙ rw q refl) (post .1 .1 .1 .0 ∙ rw q refl) (post .1 .1 .1 .1 ∙ rw q refl)
+
+  module _ (m : a .1 .0 ≡ 0) (s : now (a .0) ≡ listed) where
+    cxf-within : {n l i p : ℕ} → CxfLengths n l i p → within ≡ readOf Loose listed (roomsOf n l i p)
+    cxf-within n = rw (m, s, n .0, n .1, n .2, n .3) refl
+
+    pub cxf-read-answers : CxfLengths 36 6 1 11
+        → r ≡ record { number = 0; nth = 0; offset = 0; rows = 2; letters = 4; islands = 0; points = 5; kind = 1; scale = pos 1000000; name = text "Z999_000100" }
+    cxf-read-answers n = cxf-told itsSheet (cxf-within n ∙ spare)
+
+    pub cxf-read-not-empty : CxfLengths 36 6 1 11 → cxfLeft ≡ holding cxfLent
+    unfolding rowsHeld pointsHeld
+    cxf-read-not-empty n =
+        let q : within ≡ itsSheet = cxf-within n ∙ spare in
+        four (post .1 .0 ∙ rw (q, m, s, is) refl) (post .1 .1 .0 ∙ rw (q, m, s, is) refl) (post .1 .1 .1 .0 ∙ rw (q, m, s, is) refl) (post .1 .1 .1 .1 ∙ rw (q, m, s, is) refl)
+
+    pub cxf-read-no-14-without-need : CxfLengths 24 4 0 10
+        → r ≡ record { number = 0; nth = 0; offset = 0; rows = 2; letters = 4; islands = 0; points = 5; kind = 1; scale = pos 1000000; name = text "Z999_000100" }
+    cxf-read-no-14-without-need n = cxf-told itsSheet (cxf-within n ∙ enough)
+
+    pub cxf-read-needs : CxfLengths 23 6 1 11
+        → r ≡ record { number = 14; nth = 0; offset = 0; rows = 2; letters = 4; islands = 0; points = 5; kind = 0; scale = pos 0; name = replicate 11 0 }
+    cxf-read-needs n = cxf-told (refusedWith (NoRoom needs)) (cxf-within n ∙ short)
+
+    pub cxf-read-needs-untouched : CxfLengths 23 6 1 11 → cxfLeft ≡ cxfLent
+    cxf-read-needs-untouched n =
+        let q : within ≡ refusedWith (NoRoom needs) = cxf-within n ∙ short in
+        four (post .1 .0 ∙ rw q refl) (post .1 .1 .0 ∙ rw q refl) (post .1 .1 .1 .0 ∙ rw q refl) (post .1 .1 .1 .1 ∙ rw q refl)
+
+  pub cxf-read-refuses : a .1 .0 ≡ 0 → now (a .0) ≡ raster
+      → r ≡ record { number = 7; nth = 4; offset = 27; rows = 0; letters = 0; islands = 0; points = 0; kind = 0; scale = pos 0; name = replicate 11 0 }
+  cxf-read-refuses m s = cxf-told (refusedWith (Refused 7 4 27)) (rw (m, s) (refused-raster _))
+
+  pub cxf-read-untouched : a .1 .0 ≡ 0 → now (a .0) ≡ raster → cxfLeft ≡ cxfLent
+  cxf-read-untouched m s = cxf-untouched 7 4 27 (rw (m, s) (refused-raster _))
+
+  pub cxf-read-after-eof : a .1 .0 ≡ 2 → now (a .0) ≡ followed
+      → r ≡ record { number = 13; nth = 5; offset = 39; rows = 0; letters = 0; islands = 0; points = 0; kind = 0; scale = pos 0; name = replicate 11 0 }
+  cxf-read-after-eof m s = cxf-told (refusedWith (Refused 13 5 39)) (rw (m, s) (refused-followed _))
+
+  pub cxf-read-after-eof-untouched : a .1 .0 ≡ 2 → now (a .0) ≡ followed → cxfLeft ≡ cxfLent
+  cxf-read-after-eof-untouched m s = cxf-untouched 13 5 39 (rw (m, s) (refused-followed _))
