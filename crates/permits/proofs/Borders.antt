@@ -117,7 +117,7 @@ module _ (κs : Lfts 5) (a : ArgsD cxf-border-at.signature κs) (r : ResD cxf-bo
 
 -- ---- text_at
 
--- row 0 has size 0, row 2 brackets and the angle 0, each with its own letters; a border is neither
+-- row 0 has size 0, row 2 brackets and the angle 0, each with its own letters; a border of size 0 is neither
 centroid-is : textAt header 4 small 0 ≡ Said.Is (record { surface = false; centroid = true })
 unfolding computed
 centroid-is = refl
@@ -126,7 +126,7 @@ surface-is : textAt header 4 small 2 ≡ Said.Is (record { surface = true; centr
 unfolding computed
 surface-is = refl
 
-neither-is : textAt header 4 small 1 ≡ Said.Is (record { surface = false; centroid = false })
+neither-is : textAt header 4 small 3 ≡ Said.Is (record { surface = false; centroid = false })
 unfolding computed
 neither-is = refl
 
@@ -155,7 +155,7 @@ module _ (κs : Lfts 4) (a : ArgsD text-at.signature κs) (r : ResD text-at.sign
   pub text-surface : OnlyText header 4 small 2 (Said.Is (record { surface = true; centroid = false }))
   text-surface = only-text surface-is
 
-  pub text-neither : OnlyText header 4 small 1 (Said.Is (record { surface = false; centroid = false }))
+  pub text-neither : OnlyText header 4 small 3 (Said.Is (record { surface = false; centroid = false }))
   text-neither = only-text neither-is
 
   pub text-past-the-last : OnlyText header 4 small 4 Said.Missing
@@ -182,7 +182,7 @@ module _ (κs : Lfts 5) (a : ArgsD cxf-text-at.signature κs) (r : ResD cxf-text
   pub cxf-text-surface : OnlyCxfText header 4 small 2 (record { number = 0; row = 0; surface = 1; centroid = 0 })
   cxf-text-surface = only-cxf-text in-C surface-is
 
-  pub cxf-text-neither : OnlyCxfText header 4 small 1 (record { number = 0; row = 0; surface = 0; centroid = 0 })
+  pub cxf-text-neither : OnlyCxfText header 4 small 3 (record { number = 0; row = 0; surface = 0; centroid = 0 })
   cxf-text-neither = only-cxf-text in-C neither-is
 
   pub cxf-text-past-the-last : OnlyCxfText header 4 small 4 (record { number = 19; row = 0; surface = 0; centroid = 0 })

@@ -46,13 +46,13 @@ long-name-in-C = refl
 
 -- ---- sheets of four rows
 
--- row 0, a text of size 0; row 1, a parcel with an island; row 2, a text in brackets; row 3, a building
+-- row 0, a text of size 0; row 1, a parcel with an island; row 2, a text in brackets; row 3, a building of size 0
 abbrev rows : List ℤ
 rows =
     pos 2 ∷ pos 1 ∷ pos 0 ∷ pos 0 ∷ pos 500 ∷ pos 3000 ∷ negsuc 4 ∷ pos 0 ∷ pos 0 ∷ pos 2 ∷ pos 0 ∷ pos 0 ∷
     pos 1 ∷ pos 0 ∷ pos 0 ∷ pos 18 ∷ pos 90 ∷ pos 1 ∷ pos 2 ∷ pos 3 ∷ negsuc 3 ∷ pos 1 ∷ pos 1 ∷ pos 9 ∷
     pos 2 ∷ pos 0 ∷ pos 0 ∷ pos 18 ∷ pos 0 ∷ pos 5 ∷ pos 6 ∷ pos 0 ∷ pos 0 ∷ pos 3 ∷ pos 0 ∷ pos 0 ∷
-    pos 1 ∷ pos 0 ∷ pos 0 ∷ pos 20 ∷ pos 0 ∷ pos 7 ∷ pos 8 ∷ pos 9 ∷ pos 10 ∷ pos 2 ∷ pos 0 ∷ pos 5 ∷ []
+    pos 1 ∷ pos 0 ∷ pos 0 ∷ pos 0 ∷ pos 0 ∷ pos 7 ∷ pos 8 ∷ pos 9 ∷ pos 10 ∷ pos 2 ∷ pos 0 ∷ pos 5 ∷ []
 
 -- the parcel's square of the doubled area 200, then its island, of the doubled area side * side
 abbrev parcel : ℕ → List ℤ
