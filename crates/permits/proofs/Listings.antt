@@ -1,7 +1,7 @@
 -- What the contracts of `list_text` and `cxf_listing`, as their sources write them, permit on some inputs: document 01, "Listing program". Assumes nothing.
 use Prim.Native.Nat.{ℕ}
 use mathlib.Core.Path.{_≡_, refl, _∙_}
-use mathlib.Core.List.{List, _∷_, _++_}
+use mathlib.Core.List.{List, [], _∷_, _++_}
 use lib.ListN.{length, drop, replicate}
 use lib.IntN.{pos}
 use contract.Lifetimes.{Lfts}

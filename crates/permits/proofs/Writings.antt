@@ -1,7 +1,7 @@
 -- What the contracts of `write` and `cxf_write`, as their sources write them, permit on some sheets: document 01, "Refusal numbers". Assumes nothing.
 use Prim.Native.Nat.{ℕ}
 use mathlib.Core.Path.{_≡_, refl, _∙_, ap}
-use mathlib.Core.List.{List, _∷_, _++_}
+use mathlib.Core.List.{List, [], _∷_, _++_}
 use lib.ListN.{length, drop}
 use lib.IntN.{ℤ, pos, negsuc}
 use contract.Lifetimes.{Lfts}
