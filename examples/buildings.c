@@ -1,22 +1,19 @@
 /* buildings.c: prints each building of a sheet, its letters and its doubled area in square millimetres.
  *
- * A worked example of include/cxf.h: learn what a file needs, lend tables of that size, read, then ask about each row.
- * From the root of the repository, on x86-64 Linux:
+ * A worked example of include/cxf.h: lend tables that hold any file of that length, read, then ask about each row alone, so
+ * that the time grows with the sheet and not with its square. From the root of the repository, on x86-64 Linux:
  *
- *     rt staticlib cabi
- *     cc -std=c99 -Iinclude examples/buildings.c target/staticlib/libcabi.a -o target/buildings
+ *     ./lib
+ *     cc -std=c99 -Iinclude examples/buildings.c target/libcxf.a -o target/buildings
  *     target/buildings samples/Z999_000100.cxf
  *
- * The answer is 0, 1 where the sheet is refused, 2 where the file cannot be read.
+ * The answer is 0, 1 where the sheet is refused, 2 where the file cannot be read or the library is another one.
  */
 #include <inttypes.h>
 #include <stdio.h>
 #include <stdlib.h>
 
 #include "cxf.h"
-
-/* The longest file. One byte more is asked for, so that a longer one is refused. */
-#define FILE_MOST 16777216
 
 /* A table of n elements, kept until the program ends; one that needs none has one, since calloc may answer NULL for 0. */
 static void *table(size_t n, size_t size)
@@ -35,48 +32,49 @@ int main(int argc, char **argv)
         fprintf(stderr, "usage: buildings SHEET\n");
         return 2;
     }
+    if (cxf_interface() != CXF_INTERFACE) {
+        fprintf(stderr, "made for interface %d, the library has %" PRIu64 "\n", CXF_INTERFACE, cxf_interface());
+        return 2;
+    }
     FILE *file = fopen(argv[1], "rb");
     if (file == NULL) {
         perror(argv[1]);
         return 2;
     }
-    uint8_t *src = table(FILE_MOST + 1, 1);
-    size_t len = fread(src, 1, FILE_MOST + 1, file);
+    /* One byte more than the longest file is asked for, so that a longer one is refused. */
+    uint8_t *src = table(CXF_FILE_MOST + 1, 1);
+    size_t len = fread(src, 1, CXF_FILE_MOST + 1, file);
     if (ferror(file)) {
         perror(argv[1]);
         return 2;
     }
     fclose(file);
 
-    /* With no room at all the answer is the needs, with 14, or the file's own refusal. */
-    cxf_reading r = cxf_read(src, len, CXF_LOOSE, NULL, 0, NULL, 0, NULL, 0, NULL, 0);
-    size_t rows_len = r.rows * CXF_ROW_WIDTH, points_len = r.points * 2;
+    /* Tables that hold any file of this length: there is nothing to ask first, and 14 cannot come. */
+    size_t rows_len = CXF_ROWS_MOST(len) * CXF_ROW, letters_len = CXF_LETTERS_MOST(len);
+    size_t islands_len = CXF_ISLANDS_MOST(len), points_len = CXF_POINTS_MOST(len) * 2;
     int64_t *rows = table(rows_len, sizeof *rows);
-    uint8_t *letters = table(r.letters, sizeof *letters);
-    uint16_t *islands = table(r.islands, sizeof *islands);
+    uint8_t *letters = table(letters_len, sizeof *letters);
+    uint16_t *islands = table(islands_len, sizeof *islands);
     int64_t *points = table(points_len, sizeof *points);
-    if (r.number == CXF_NO_ROOM)
-        r = cxf_read(src, len, CXF_LOOSE, rows, rows_len, letters, r.letters, islands, r.islands, points, points_len);
+    cxf_reading r = cxf_read(src, len, CXF_LOOSE, rows, rows_len, letters, letters_len, islands, islands_len, points, points_len);
     if (r.number != 0) {
-        fprintf(stderr, "refused %" PRIu64 ", record %" PRIu64 ", byte %" PRIu64 "\n", r.number, r.record, r.offset);
+        fprintf(stderr, "refused %" PRIu64 ", record %" PRIu64 ", byte %" PRIu64 ": %s\n", r.number, r.record, r.offset,
+                cxf_refusal_text(r.number));
         return 1;
     }
 
-    /* The letters of the rows stand one behind the other. */
-    size_t at = 0;
-    for (uint64_t row = 0; row < r.rows; row++) {
-        int count = (int)rows[row * CXF_ROW_WIDTH + CXF_ROW_LETTERS];
-        cxf_border b = cxf_border_at(r.kind, r.name, sizeof r.name, r.scale, r.rows, rows, rows_len, letters, r.letters,
-                                     islands, r.islands, points, points_len, row);
-        if (b.number == 0 && b.class_of == CXF_BUILDING) {
-            cxf_area a = cxf_net_area(r.kind, r.name, sizeof r.name, r.scale, r.rows, rows, rows_len, letters, r.letters,
-                                      islands, r.islands, points, points_len, row);
-            if (a.number == 0)
-                printf("%.*s %" PRId64 "\n", count, (const char *)&letters[at], a.doubled);
-            else
-                printf("%.*s refused %" PRIu64 "\n", count, (const char *)&letters[at], a.number);
-        }
-        at += (size_t)count;
+    /* What was read is well made, so each row may be asked as a sheet of its own. */
+    for (cxf_sheet rest = cxf_sheet_of(&r, rows, letters, islands, points); rest.count > 0; rest = cxf_later_rows(rest)) {
+        cxf_sheet row = cxf_first_row(rest);
+        cxf_border b = cxf_border_at(CXF_SPREAD(row), 0);
+        if (b.number != 0 || b.class_of != CXF_BUILDING)
+            continue;
+        cxf_area a = cxf_net_area(CXF_SPREAD(row), 0);
+        if (a.number == 0)
+            printf("%.*s %" PRId64 "\n", (int)b.letters, (const char *)row.letters, a.doubled);
+        else
+            printf("%.*s refused %" PRIu64 "\n", (int)b.letters, (const char *)row.letters, a.number);
     }
     return 0;
 }

@@ -1,7 +1,7 @@
 /* cxf.h: reads, writes and questions CXF sheets of the Italian cadastre.
  *
- * Link with libcabi.a (see README.md). Every function answers for every input, allocates nothing, keeps nothing between
- * calls and has no state, so calls may run side by side.
+ * Link with libcxf.a or libcxf.so (see README.md). Every function answers for every input, allocates nothing, keeps nothing
+ * between calls and has no state, so calls may run side by side.
  *
  *   A slice     is a pointer and a length, in that order. The length counts elements, not bytes. A slice of length 0 is
  *               not touched, whatever its pointer. No slice that is written may overlap another slice of the same call.
@@ -20,6 +20,42 @@
 #ifdef __cplusplus
 extern "C" {
 #endif
+
+/* ---- the interface's number ------------------------------------------------------------------------------------------ */
+
+/* It rises whenever a struct, a width or a meaning changes. A program that was compiled with one number, or a binding that was
+   written for one, is to refuse a library that answers another, rather than read rows wrongly:
+       if (cxf_interface() != CXF_INTERFACE) .. */
+#define CXF_INTERFACE 1
+
+uint64_t cxf_interface(void);
+
+/* ---- limits ---------------------------------------------------------------------------------------------------------- */
+
+enum {
+    CXF_FILE_MOST = 16777216,    /* bytes of a file */
+    CXF_CONTENT_MOST = 255,      /* bytes of a record, its line end apart */
+    CXF_NAME_LENGTH = 11,        /* bytes of a sheet's name */
+    CXF_INTEGER_MOST = 9999,     /* an integer is 0 to this */
+    CXF_FIGURES = 24,            /* figures of a tally */
+    CXF_REACH = 20000000,        /* millimetres from a ring's first vertex, in x and in y, for areas and ring check */
+    CXF_TILE_MOST = 16777215,    /* millimetres from a tile's corner, to the east and to the south */
+    CXF_LISTING_MOST = 640,      /* bytes of a listing's text */
+    CXF_LISTING_FILE_MOST = 8192 /* bytes of a file that is listed */
+};
+
+/* A real, in thousandths, is CXF_REAL_LEAST to CXF_REAL_MOST; a figure of a tally 0 to CXF_TALLY_MOST. */
+#define CXF_REAL_LEAST (-INT64_C(9999999999))
+#define CXF_REAL_MOST INT64_C(99999999999)
+#define CXF_TALLY_MOST INT64_C(9000000000000000000)
+
+/* What a file of n bytes can need at most, read in either mode: rows, letters, island counts, points. Who lends so much needs no
+   call that asks for the needs, which judges the whole file once more. Proved: `counts-most`, `enough-read` in
+   crates/reader/proofs/NeedLaws.antt. */
+#define CXF_ROWS_MOST(n) ((n) / 28)
+#define CXF_LETTERS_MOST(n) (n)
+#define CXF_ISLANDS_MOST(n) ((n) / 2)
+#define CXF_POINTS_MOST(n) ((n) / 12)
 
 /* ---- refusals -------------------------------------------------------------------------------------------------------- */
 
@@ -45,6 +81,33 @@ enum {
     CXF_OFF_TILE = 20   /* outside the tile frame */
 };
 
+/* The same in a sentence, for a message. */
+static inline const char *cxf_refusal_text(uint64_t number)
+{
+    switch (number) {
+    case CXF_TOO_LONG: return "The file has, or would have, more than 16,777,216 bytes.";
+    case CXF_CUT: return "The file is cut off: a record has no line end.";
+    case CXF_LINE_END: return "A record does not end with CR LF.";
+    case CXF_LENGTH: return "A record has more than 255 bytes.";
+    case CXF_BYTE: return "A record holds a byte that is not a printed ASCII character.";
+    case CXF_HEADER: return "The header is wrong: its first word, its name or its scale.";
+    case CXF_KEYWORD: return "There is no keyword where one is due.";
+    case CXF_NUMBER: return "A number is malformed.";
+    case CXF_LETTERS: return "The letters are empty, or have a blank at an end.";
+    case CXF_CODE: return "A code is not listed in the specification.";
+    case CXF_COUNT: return "A count of vertices or islands cannot be.";
+    case CXF_OPEN_RING: return "A ring does not end where it began.";
+    case CXF_AFTER_EOF: return "Something follows EOF.";
+    case CXF_NO_ROOM: return "What was lent is too short.";
+    case CXF_NOT_MADE: return "The sheet handed in is not well made.";
+    case CXF_TOO_WIDE: return "A ring has a vertex more than 20,000,000 mm from its first.";
+    case CXF_TOO_LARGE: return "A figure of a tally is above 9,000,000,000,000,000,000.";
+    case CXF_NO_SUCH: return "There is no such row, border or ring.";
+    case CXF_OFF_TILE: return "The point lies outside the tile.";
+    default: return "This is not a refusal of this interface.";
+    }
+}
+
 /* ---- modes ----------------------------------------------------------------------------------------------------------- */
 
 /* Loose takes what is met in practice, exact only the layout of the specification. Any mode but 0 is exact. */
@@ -52,9 +115,15 @@ enum { CXF_LOOSE = 0, CXF_EXACT = 1 };
 
 /* ---- reading a file -------------------------------------------------------------------------------------------------- */
 
-/* A row, 12 numbers for each element of the sheet. What its section lacks is 0. */
+/* The header's kinds: MAPPA, MAPPA FONDIARIO, QUADRO D'UNIONE. */
+enum { CXF_MAPPA = 1, CXF_MAPPA_FONDIARIO = 2, CXF_QUADRO_UNIONE = 3 };
+
+/* The kinds of an element. */
+enum { CXF_BORDO = 1, CXF_TESTO = 2, CXF_SIMBOLO = 3, CXF_FIDUCIALE = 4, CXF_LINEA = 5 };
+
+/* A row, CXF_ROW numbers for each element of the sheet. What its section lacks is 0. */
 enum {
-    CXF_ROW_KIND = 0,     /* 1 BORDO, 2 TESTO, 3 SIMBOLO, 4 FIDUCIALE, 5 LINEA */
+    CXF_ROW_KIND = 0,     /* CXF_BORDO to CXF_LINEA */
     CXF_ROW_OUTSIDE = 1,  /* 1 where the keyword has a final backslash, else 0 */
     CXF_ROW_CODE = 2,
     CXF_ROW_SIZE = 3,
@@ -66,22 +135,22 @@ enum {
     CXF_ROW_LETTERS = 9,  /* how many letters, island counts and vertices are this row's: they stand in the other three */
     CXF_ROW_ISLANDS = 10, /* tables in the order of the rows, with no gaps. The vertices of a BORDO are those of its outer */
     CXF_ROW_VERTICES = 11,/* ring, then those of its islands; each ring ends with the vertex it began with */
-    CXF_ROW_WIDTH = 12
+    CXF_ROW = 12
 };
 
 typedef struct {
     uint64_t number;
     uint64_t record, offset;                 /* the refused record, from 1, and its first byte; 0 and 0 with 1 and 14 */
     uint64_t rows, letters, islands, points; /* used where number is 0, needed where it is 14 */
-    uint64_t kind;                           /* the header, where number is 0: 1 MAPPA, 2 MAPPA FONDIARIO, */
-    int64_t scale;                           /* 3 QUADRO D'UNIONE; the scale in thousandths; */
-    uint8_t name[11];                        /* the sheet's name, with no 0 at its end */
+    uint64_t kind;                           /* the header, where number is 0: CXF_MAPPA to CXF_QUADRO_UNIONE; */
+    int64_t scale;                           /* the scale in thousandths; */
+    uint8_t name[CXF_NAME_LENGTH];           /* the sheet's name, with no 0 at its end */
 } cxf_reading;
 
 /* Reads a whole file into four lent tables: rows, 12 numbers each; letters; island counts; points, x and y after each other.
-   The room of a table is rows_len / 12 rows, letters_len letters, islands_len counts, points_len / 2 points. To learn what a
-   file needs, ask with four lengths of 0: the answer is 14 and the needs (0 where the sheet has no rows). Past the used part
-   no table is altered. */
+   The room of a table is rows_len / 12 rows, letters_len letters, islands_len counts, points_len / 2 points. CXF_ROWS_MOST and
+   the three beside it are enough for any file. To learn what a file needs, ask with four lengths of 0: the answer is 14 and the
+   needs (0 where the sheet has no rows). Past the used part no table is altered. */
 cxf_reading cxf_read(const uint8_t *src, size_t src_len, uint64_t mode,
                      int64_t *rows, size_t rows_len, uint8_t *letters, size_t letters_len,
                      uint16_t *islands, size_t islands_len, int64_t *points, size_t points_len);
@@ -89,15 +158,90 @@ cxf_reading cxf_read(const uint8_t *src, size_t src_len, uint64_t mode,
 /* ---- a sheet that is handed in --------------------------------------------------------------------------------------- */
 
 /* Its header, how many rows it has, and its four tables, which may be longer than the rows use. A name_len other than 11 is a
-   wrong name (6). What a reading answered is handed in so: r.kind, r.name, 11, r.scale, r.rows, and the tables. */
+   wrong name (6). Every function below that takes a sheet takes these thirteen parameters. */
 #define CXF_SHEET                                                                                        \
     uint64_t kind, const uint8_t *name, size_t name_len, int64_t scale, uint64_t count,                  \
     const int64_t *rows, size_t rows_len, const uint8_t *letters, size_t letters_len,                    \
     const uint16_t *islands, size_t islands_len, const int64_t *points, size_t points_len
 
+/* The thirteen in one struct, and a variable of it spread into a call: cxf_border_at(CXF_SPREAD(sheet), row). */
+typedef struct {
+    uint64_t kind;
+    const uint8_t *name;
+    size_t name_len;
+    int64_t scale;
+    uint64_t count;
+    const int64_t *rows;
+    size_t rows_len;
+    const uint8_t *letters;
+    size_t letters_len;
+    const uint16_t *islands;
+    size_t islands_len;
+    const int64_t *points;
+    size_t points_len;
+} cxf_sheet;
+
+#define CXF_SPREAD(s)                                                                                    \
+    (s).kind, (s).name, (s).name_len, (s).scale, (s).count, (s).rows, (s).rows_len,                      \
+    (s).letters, (s).letters_len, (s).islands, (s).islands_len, (s).points, (s).points_len
+
+/* What a reading answered, with the tables that it was lent, as a sheet. Its name stands in the reading, which has to be kept. */
+static inline cxf_sheet cxf_sheet_of(const cxf_reading *r, const int64_t *rows, const uint8_t *letters, const uint16_t *islands,
+                                     const int64_t *points)
+{
+    cxf_sheet s;
+    s.kind = r->kind;
+    s.name = r->name;
+    s.name_len = CXF_NAME_LENGTH;
+    s.scale = r->scale;
+    s.count = r->rows;
+    s.rows = rows;
+    s.rows_len = (size_t)r->rows * CXF_ROW;
+    s.letters = letters;
+    s.letters_len = (size_t)r->letters;
+    s.islands = islands;
+    s.islands_len = (size_t)r->islands;
+    s.points = points;
+    s.points_len = (size_t)r->points * 2;
+    return s;
+}
+
 /* Every function below that takes a sheet judges the header (6), then all rows (15, with the first faulty row), then whether
-   the row that is asked for is there (19), each time anew. Rows count from 0. In the answers `row` is the refused row with 15 and 10, and
-   with 17 and 18 of the tallies; else it is 0. */
+   the row that is asked for is there (19), each time anew. Rows count from 0. In the answers `row` is the refused row with 15
+   and 10, and with 17 and 18 of the tallies; else it is 0.
+
+   So a question takes the time that the whole sheet takes to judge, and a question on each row takes the square of that. Of a
+   sheet that is well made, as what a reading answered is, each row may be asked alone instead, as a sheet of one row with its own
+   parts of the tables: class, texts, areas and ring check are the same. All rows together then take the time of one question:
+       for (cxf_sheet rest = sheet; rest.count > 0; rest = cxf_later_rows(rest)) {
+           cxf_sheet row = cxf_first_row(rest);
+           .. cxf_border_at(CXF_SPREAD(row), 0) .. */
+
+/* The first row of a sheet alone, and the rows after it: for a sheet that is well made and has a row. */
+static inline cxf_sheet cxf_first_row(cxf_sheet s)
+{
+    s.count = 1;
+    s.rows_len = CXF_ROW;
+    s.letters_len = (size_t)s.rows[CXF_ROW_LETTERS];
+    s.islands_len = (size_t)s.rows[CXF_ROW_ISLANDS];
+    s.points_len = (size_t)s.rows[CXF_ROW_VERTICES] * 2;
+    return s;
+}
+
+static inline cxf_sheet cxf_later_rows(cxf_sheet s)
+{
+    const cxf_sheet first = cxf_first_row(s);
+    s.count -= 1;
+    s.rows += first.rows_len;
+    s.rows_len -= first.rows_len;
+    s.letters += first.letters_len;
+    s.letters_len -= first.letters_len;
+    s.islands += first.islands_len;
+    s.islands_len -= first.islands_len;
+    s.points += first.points_len;
+    s.points_len -= first.points_len;
+    return s;
+}
 
 /* ---- writing a file -------------------------------------------------------------------------------------------------- */
 
@@ -112,11 +256,12 @@ cxf_written cxf_write(CXF_SHEET, uint8_t *out, size_t out_len);
 
 /* ---- borders and texts ----------------------------------------------------------------------------------------------- */
 
+/* The classes of a border. */
 enum { CXF_CONFINE = 1, CXF_OTHER = 2, CXF_ROAD = 3, CXF_WATER = 4, CXF_BUILDING = 5, CXF_PARCEL = 6 };
 
 typedef struct {
     uint64_t number, row;
-    uint64_t class_of; /* 1 to 6, as above; the other fields are the row's own */
+    uint64_t class_of; /* CXF_CONFINE to CXF_PARCEL; the other fields are the row's own */
     int64_t size, angle, x, y, inner_x, inner_y;
     uint64_t letters, islands, vertices;
 } cxf_border;
@@ -151,7 +296,7 @@ cxf_area cxf_net_area(CXF_SHEET, uint64_t row);
    doubled area. So the figures of a class are figures[4 * (class_of - 1)] and the three after it. */
 typedef struct {
     uint64_t number, row;
-    int64_t figures[24];
+    int64_t figures[CXF_FIGURES];
 } cxf_tally;
 
 /* All borders of a sheet. Refused 17 or 18 it names the row; refused at all, its figures are 0. */
@@ -211,7 +356,7 @@ typedef struct {
 } cxf_listed;
 
 /* What the listing program writes for this input: the header, six lines of figures, the number of rows. A text that says
-   REFUSED is an answer as well: number is 0 whenever the text stands in out. No text is longer than 640 bytes. The tables
+   REFUSED is an answer as well: number is 0 whenever the text stands in out. No text is longer than CXF_LISTING_MOST. The tables
    are on the stack: some 170,000 bytes. */
 cxf_listed cxf_listing(const uint8_t *src, size_t src_len, uint8_t *out, size_t out_len);
 

@@ -357,6 +357,9 @@ static cxf_reading try_read(rng *g, const bytes *src, uint64_t mode, rooms r) {
     else if (!holds(&LETTERS, my_letters)) lent = "the letters table, or what lies around it, differs";
     else if (!holds(&ISLANDS, my_islands)) lent = "the islands table, or what lies around it, differs";
     else if (!holds(&POINTS, my_points)) lent = "the points table, or what lies around it, differs";
+    /* a row takes 28 bytes at least, a letter one, an island count two, a point twelve */
+    else if (theirs.rows > src->len / 28 || theirs.letters > src->len || theirs.islands > src->len / 2 || theirs.points > src->len / 12)
+        lent = "more is used or needed than a file of this length can";
     judge(of_reading(theirs), of_reading(mine), lent);
     return mine;
 }
@@ -538,6 +541,44 @@ static void try_check(const tables *t, uint64_t row, uint64_t ring) {
     else pairs_other++;
 }
 
+/* A row with its own parts of the tables, as a sheet of one row. */
+static tables alone(const tables *t, uint64_t row) {
+    tables one = *t;
+    for (uint64_t i = 0; i <= row; i++) {
+        if (i > 0) {
+            one.rows += ROW_WIDTH;
+            one.letters += one.letters_len;
+            one.islands += one.islands_len;
+            one.points += one.points_len;
+        }
+        one.letters_len = (size_t)one.rows[9];
+        one.islands_len = (size_t)one.rows[10];
+        one.points_len = 2 * (size_t)one.rows[11];
+    }
+    one.rows_len = ROW_WIDTH;
+    one.count = 1;
+    return one;
+}
+
+/* Of a well made sheet, a row that is asked alone answers as it does in the sheet. */
+static void try_alone(const tables *t, uint64_t row, uint64_t ring) {
+    const uint64_t made = ref_text_at(OWN(t), row).number; /* 0 where the sheet is well made and has the row */
+    if (made != 0) return;
+    const tables one = alone(t, row);
+    ask_sheet(BORDER_AT, t);
+    arg("row, asked alone", row);
+    judge(of_border(cxf_border_at(OWN(&one), 0)), of_border(ref_border_at(OWN(t), row)), NULL);
+    now.asked = TEXT_AT;
+    judge(of_text(cxf_text_at(OWN(&one), 0)), of_text(ref_text_at(OWN(t), row)), NULL);
+    now.asked = NET_AREA;
+    judge(of_area(cxf_net_area(OWN(&one), 0)), of_area(ref_net_area(OWN(t), row)), NULL);
+    arg("ring", ring);
+    now.asked = RING_AREA;
+    judge(of_area(cxf_ring_area(OWN(&one), 0, ring)), of_area(ref_ring_area(OWN(t), row, ring)), NULL);
+    now.asked = RING_CHECK;
+    judge(of_ring(cxf_ring_check(OWN(&one), 0, ring)), of_ring(ref_ring_check(OWN(t), row, ring)), NULL);
+}
+
 /* ---- Cases ---- */
 
 static tables sheet, second;
@@ -647,6 +688,10 @@ static void question_sheet(rng *g, const tables *t, bool all) {
     if (all || one_in(g, 3)) {
         const uint64_t row = some_row(g, t, BORDO);
         try_check(t, row, some_ring(g, t, row));
+    }
+    if (all || one_in(g, 3)) {
+        const uint64_t row = some_row(g, t, one_in(g, 3) ? TESTO : BORDO);
+        try_alone(t, row, some_ring(g, t, row));
     }
 }
 

@@ -55,7 +55,10 @@ typedef struct { uint64_t number, length; } cxf_listed;
     cxf_number P##_real(const uint8_t *content, size_t content_len, uint64_t mode);                      \
     cxf_listed P##_listing(const uint8_t *src, size_t src_len, uint8_t *out, size_t out_len);
 
+#ifndef STRUCTS_ALONE /* header.c declares the functions with the header's own structs */
 DECLARE_INTERFACE(cxf)
 DECLARE_INTERFACE(ref)
+uint64_t cxf_interface(void);
+#endif
 
 #endif
