@@ -31,7 +31,7 @@ use Rattle.made.specs.Made.{countAt, kindOf, islandsOf, sum, fourAtLeast, isMad
 use Rattle.made.proofs.RowWays.{made-held, made-counted}
 use Rattle.area.specs.declared.Areas.{Areas}
 use Rattle.area.specs.declared.Areas.the-variants.{Of, Wide as AnyWide, Missing as AnyMissing}
-use Rattle.area.specs.BorderRings.{plus, totalFrom, both, areasOf}
+use Rattle.area.specs.BorderRings.{areasTogether, totalFrom, ofRings, areasOf}
 
 -- ---- how large
 
@@ -49,7 +49,7 @@ area-sized ps from n = go (areaOf ps from n) refl
     go Wide e = tt
     go Missing e = tt
 
-plus-sized : (m n : ℕ) (x y : Area) → Sized m x → Sized n y → Sized (m + n) (plus x y)
+plus-sized : (m n : ℕ) (x y : Area) → Sized m x → Sized n y → Sized (m + n) (areasTogether x y)
 plus-sized m n (Doubled a) (Doubled b) p q =
     let e = p .1 in let f = q .1 in
     (within-le (omega arith) (within-add (p .0) (q .0)), le-true (pos 0) (a +ℤ b) (omega (arith, ints, num a, num b, Parts.sum a b)))
@@ -69,7 +69,7 @@ Fair (Of outer inner) = Within (most * edge-limit) outer × (leZ (pos 0) outer �
 Fair AnyWide = Unit {0}
 Fair AnyMissing = Unit {0}
 
-both-fair : (m n : ℕ) (x y : Area) → Sized m x → Sized n y → ((d : ℤ) → x ≡ Doubled d → m + n ≤ most) → Fair (both x y)
+both-fair : (m n : ℕ) (x y : Area) → Sized m x → Sized n y → ((d : ℤ) → x ≡ Doubled d → m + n ≤ most) → Fair (ofRings x y)
 both-fair m n (Doubled a) (Doubled b) p q h =
     let k = h a refl in
     (within-le (omega arith) (p .0), p .1, within-le (omega arith) (q .0), q .1)
@@ -97,14 +97,14 @@ There (Doubled d) = Unit {0}
 There Wide = Unit {0}
 There Missing = ⊥
 
-plus-there : (x y : Area) → There x → There y → There (plus x y)
+plus-there : (x y : Area) → There x → There y → There (areasTogether x y)
 plus-there (Doubled a) (Doubled b) p q = tt
 plus-there (Doubled a) Wide p q = tt
 plus-there (Doubled a) Missing p q = q
 plus-there Wide y p q = tt
 plus-there Missing y p q = p
 
-both-there : (x y : Area) → There x → There y → both x y ≡ AnyMissing → ⊥
+both-there : (x y : Area) → There x → There y → ofRings x y ≡ AnyMissing → ⊥
 both-there (Doubled a) (Doubled b) p q e = let z : _≡_ {A = ℕ} 0 1 = cc in omega arith
 both-there (Doubled a) Wide p q e = let z : _≡_ {A = ℕ} 0 1 = cc in omega arith
 both-there (Doubled a) Missing p q e = q

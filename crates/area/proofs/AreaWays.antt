@@ -26,8 +26,8 @@ use Rattle.made.specs.Made.{sum, ringSizes}
 use Rattle.made.proofs.TableWays.{sum-on}
 use Rattle.area.specs.declared.Areas.{Areas}
 use Rattle.area.specs.declared.Areas.the-variants.{Of, Wide as AnyWide, Missing as AnyMissing}
-use Rattle.area.specs.declared.Ring.the-variants.{At, Missing as NoRing}
-use Rattle.area.specs.BorderRings.{plus, totalFrom, both, areasOf, netOf, ringOf}
+use Rattle.area.specs.declared.RingPlace.the-variants.{At, Missing as NoRing}
+use Rattle.area.specs.BorderRings.{areasTogether, totalFrom, ofRings, areasOf, netOf, ringOf}
 use Rattle.area.proofs.AreaLaws.{Fair, areas-room, areas-fair}
 
 -- ---- the areas of rings one behind the other
@@ -38,7 +38,7 @@ add-none a = eq-parts (a +ℤ pos 0) a (omega (arith, num a, Parts.sum a (pos 0)
 add-both : (a b c : ℤ) → a +ℤ (b +ℤ c) ≡ (a +ℤ b) +ℤ c
 add-both a b c = eq-parts (a +ℤ (b +ℤ c)) ((a +ℤ b) +ℤ c) (omega (arith, num a, num b, num c, Parts.sum a b, Parts.sum b c, Parts.sum a (b +ℤ c), Parts.sum (a +ℤ b) c))
 
-plus-plus : (a b : ℤ) (x : Area) → plus (Doubled a) (plus (Doubled b) x) ≡ plus (Doubled (a +ℤ b)) x
+plus-plus : (a b : ℤ) (x : Area) → areasTogether (Doubled a) (areasTogether (Doubled b) x) ≡ areasTogether (Doubled (a +ℤ b)) x
 plus-plus a b (Doubled c) = ap Doubled (add-both a b c)
 plus-plus a b Wide = refl
 plus-plus a b Missing = refl
@@ -49,7 +49,7 @@ sum-bits total d = ofZ w64 (toZ w64 total +ℤ toZ w64 (ofZ w64 d))
 -- the ring of n vertices at `at`, whose area is d, is passed
 pub record Passed (ps : List ℤ) (from : ℕ) (sizes : List ℕ) (total at i n : ℕ) (d : ℤ) : Type 0 where
   pub fits : SFits w64 (toZ w64 total +ℤ toZ w64 (ofZ w64 d))
-  pub on : totalFrom ps from sizes ≡ plus (Doubled (toZ w64 (sum-bits total d))) (totalFrom ps (at + n) (drop (i + 1) sizes))
+  pub on : totalFrom ps from sizes ≡ areasTogether (Doubled (toZ w64 (sum-bits total d))) (totalFrom ps (at + n) (drop (i + 1) sizes))
   pub left : at + n + sum (drop (i + 1) sizes) ≤ most
   pub bound : Within ((at + n) * edge-limit) (toZ w64 (sum-bits total d))
 
@@ -57,21 +57,21 @@ pub total-none : (from : ℕ) → Within (from * edge-limit) (pos 0)
 total-none from = within-le (omega arith) (within-lit {n = 0} tt)
 
 module _ (ps : List ℤ) (from : ℕ) (sizes : List ℕ) where
-  pub total-start : totalFrom ps from sizes ≡ plus (Doubled (pos 0)) (totalFrom ps from sizes)
+  pub total-start : totalFrom ps from sizes ≡ areasTogether (Doubled (pos 0)) (totalFrom ps from sizes)
   total-start = go (totalFrom ps from sizes)
     where
-      go : (x : Area) → x ≡ plus (Doubled (pos 0)) x
+      go : (x : Area) → x ≡ areasTogether (Doubled (pos 0)) x
       go (Doubled a) = ap Doubled (eq-parts a (pos 0 +ℤ a) (omega (arith, num a, Parts.sum (pos 0) a)))
       go Wide = refl
       go Missing = refl
 
-  module _ (total at i : ℕ) (q : totalFrom ps from sizes ≡ plus (Doubled (toZ w64 total)) (totalFrom ps at (drop i sizes))) where
+  module _ (total at i : ℕ) (q : totalFrom ps from sizes ≡ areasTogether (Doubled (toZ w64 total)) (totalFrom ps at (drop i sizes))) where
     pub total-over : length sizes ≤ i → Doubled (toZ w64 total) ≡ totalFrom ps from sizes
     unfolding totalFrom
     total-over h = sym (q ∙ rw (left-none sizes i h) (ap Doubled (add-none (toZ w64 total))))
 
     module _ (h : i < length sizes) (n : ℕ) (e : n ≡ getD sizes i 0) (r : Area) (a : r ≡ areaOf ps at n) where
-      total-next : totalFrom ps from sizes ≡ plus (Doubled (toZ w64 total)) (plus r (totalFrom ps (at + n) (drop (i + 1) sizes)))
+      total-next : totalFrom ps from sizes ≡ areasTogether (Doubled (toZ w64 total)) (areasTogether r (totalFrom ps (at + n) (drop (i + 1) sizes)))
       unfolding totalFrom
       total-next = q ∙ rw (left sizes i 0 h, ← e, ← a)
 
@@ -100,7 +100,7 @@ module _ (ps : List ℤ) (from : ℕ) (sizes : List ℕ) where
         total-within : Within ((at + n) * edge-limit) (toZ w64 (sum-bits total d))
         total-within = within-le (omega arith) (read-within both-hold)
 
-        total-step : totalFrom ps from sizes ≡ plus (Doubled (toZ w64 (sum-bits total d))) (totalFrom ps (at + n) (drop (i + 1) sizes))
+        total-step : totalFrom ps from sizes ≡ areasTogether (Doubled (toZ w64 (sum-bits total d))) (totalFrom ps (at + n) (drop (i + 1) sizes))
         total-step = total-next ∙ rw (both-hold .reads, m) (plus-plus (toZ w64 total) d (totalFrom ps (at + n) (drop (i + 1) sizes)))
 
         pub total-passed : Passed ps from sizes total at i n d
@@ -116,7 +116,7 @@ module _ (v : ℕ) (islands : List ℕ) (ps : List ℤ) where
   areas-many h = rw (lt-leb v most h)
 
   module _ (h : v ≤ most) (n : ℕ) (e : n ≡ v - sum islands) (r : Area) (a : r ≡ areaOf ps 0 n) where
-    areas-by : areasOf v islands ps ≡ both r (totalFrom ps n islands)
+    areas-by : areasOf v islands ps ≡ ofRings r (totalFrom ps n islands)
     unfolding areasOf
     areas-by = rw (le-leb v most h, ← e, ← a)
 

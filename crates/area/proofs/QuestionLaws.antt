@@ -27,7 +27,7 @@ use Rattle.area.specs.Questions.{ringOfRow, answerOf, areaFound, netArea
 use Rattle.area.proofs.AreaLaws.{There, area-there, areas-there}
 
 -- a ring ends within the rings
-sum-part : (s : List ℕ) (i : ℕ) → sum (take i s) + getD s i 0 ≤ sum s
+pub sum-part : (s : List ℕ) (i : ℕ) → sum (take i s) + getD s i 0 ≤ sum s
 unfolding sum
 sum-part [] zero = omega arith
 sum-part [] (suc i) = omega arith

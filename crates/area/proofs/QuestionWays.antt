@@ -31,8 +31,8 @@ use Rattle.row.specs.Seek.{soughtOf}
 use Rattle.row.proofs.SeekLaws.{Stood}
 use Rattle.row.specs.declared.Sought.the-variants.{At as Found, Missing as NoRow, Refused as NoSheet}
 use Rattle.area.specs.declared.RingAnswer.the-variants.{At as IsAt, Missing as NoSuchRing, Refused as RingRefused}
-use Rattle.area.specs.declared.Ring.{Ring}
-use Rattle.area.specs.declared.Ring.the-variants.{At, Missing as NoRing}
+use Rattle.area.specs.declared.RingPlace.{RingPlace}
+use Rattle.area.specs.declared.RingPlace.the-variants.{At, Missing as NoRing}
 use Rattle.area.specs.declared.RingAnswer.{RingAnswer}
 use Rattle.area.specs.declared.AreaAnswer.{AreaAnswer}
 use Rattle.area.specs.declared.AreaAnswer.the-variants.{Doubled as IsDoubled, Missing as IsMissing, Refused}
@@ -51,7 +51,7 @@ unfolding ringSizes sum
 sizes-all v islands h = omega arith
 
 -- a ring begins within the border
-pub ring-within : (v : ℕ) (islands : List ℕ) (ring : ℕ) (r : Ring) → r ≡ ringOf v islands ring → (from n : ℕ) → r ≡ At from n → from ≤ v
+pub ring-within : (v : ℕ) (islands : List ℕ) (ring : ℕ) (r : RingPlace) → r ≡ ringOf v islands ring → (from n : ℕ) → r ≡ At from n → from ≤ v
 unfolding ringOf
 ring-within v islands ring r e from n f = go (ltb (sum islands) v && leb ring (length islands)) refl (sym e ∙ f)
   where
@@ -72,11 +72,11 @@ module _ (rows : List ℤ) (islands : List ℕ) (points : List ℤ) (kind : ℕ)
   net-no-border n = rw (← k, ne-eqb kind 1 n)
 
   module _ (b : kind ≡ 1) (i v : ℕ) (e : i ≡ natOf (getD rows islandsPlace (pos 0))) (f : v ≡ natOf (getD rows verticesPlace (pos 0))) where
-    pub ring-no-ring : (first ring : ℕ) (r : Ring) → r ≡ ringOf v (take i islands) ring → r ≡ NoRing → NoSuchRing ≡ ringOfRow (tablesOf rows [] islands []) first ring
+    pub ring-no-ring : (first ring : ℕ) (r : RingPlace) → r ≡ ringOf v (take i islands) ring → r ≡ NoRing → NoSuchRing ≡ ringOfRow (tablesOf rows [] islands []) first ring
     unfolding ringOfRow
     ring-no-ring first ring r q g = rw (← k, eq-eqb kind 1 b, ← e, ← f, ← q, g)
 
-    pub ring-is : (first ring : ℕ) (r : Ring) → r ≡ ringOf v (take i islands) ring → (from n : ℕ) → r ≡ At from n → IsAt (first + from) n ≡ ringOfRow (tablesOf rows [] islands []) first ring
+    pub ring-is : (first ring : ℕ) (r : RingPlace) → r ≡ ringOf v (take i islands) ring → (from n : ℕ) → r ≡ At from n → IsAt (first + from) n ≡ ringOfRow (tablesOf rows [] islands []) first ring
     unfolding ringOfRow
     ring-is first ring r q from n g = rw (← k, eq-eqb kind 1 b, ← e, ← f, ← q, g)
 

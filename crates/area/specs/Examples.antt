@@ -8,7 +8,7 @@ use Rattle.plane.specs.Examples.{computed as computedArea}
 use Rattle.made.specs.Made.{sum, ringSizes}
 use Rattle.area.specs.declared.Areas.{Areas}
 use Rattle.area.specs.declared.Areas.the-variants.{Of, Wide, Missing}
-use Rattle.area.specs.declared.Ring.the-variants.{At, Missing as NoRing}
+use Rattle.area.specs.declared.RingPlace.the-variants.{At, Missing as NoRing}
 use Rattle.area.specs.BorderRings.{totalFrom, areasOf, netOf, ringOf}
 
 -- a square ring from its lowest corner

@@ -1,4 +1,4 @@
--- The definitions that the contracts of crate `area` cite.
+-- To read beside document 01, "Areas": a border's rings, and the questions on a sheet.
 pub mod BorderRings
 pub mod Questions
 pub mod Examples

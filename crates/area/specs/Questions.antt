@@ -17,8 +17,8 @@ use Rattle.row.specs.Walk.{leftAt}
 use Rattle.row.specs.Seek.{soughtOf}
 use Rattle.row.specs.declared.Sought.the-variants.{At as Stood, Missing as NoRow, Refused as NoSheet}
 use Rattle.area.specs.declared.RingAnswer.the-variants.{At as IsAt, Missing as NoSuchRing, Refused as RingRefused}
-use Rattle.area.specs.declared.Ring.{Ring}
-use Rattle.area.specs.declared.Ring.the-variants.{At, Missing as NoRing}
+use Rattle.area.specs.declared.RingPlace.{RingPlace}
+use Rattle.area.specs.declared.RingPlace.the-variants.{At, Missing as NoRing}
 use Rattle.area.specs.declared.RingAnswer.{RingAnswer}
 use Rattle.area.specs.declared.AreaAnswer.{AreaAnswer}
 use Rattle.area.specs.declared.AreaAnswer.the-variants.{Doubled as IsDoubled, Wide as IsWide, Missing as IsMissing, Refused}
@@ -27,7 +27,7 @@ use Rattle.area.specs.BorderRings.{areasOf, netOf, ringOf}
 -- ---- the first row of what is left; a row that is no border has no areas
 
 -- one ring of it: its first vertex in the table of points, where the row's own begin at `first`
-abbrev pub ringFrom : ℕ → Ring → RingAnswer
+abbrev pub ringFrom : ℕ → RingPlace → RingAnswer
 ringFrom first (At from n) = IsAt (first + from) n
 ringFrom first NoRing = NoSuchRing
 
@@ -70,6 +70,16 @@ unfoldable pub netAreaAt : Header → ℕ → Tables → ℕ → AreaAnswer
 netAreaAt h count t row = netFound t (soughtOf h count t row)
 
 -- ---- the paper's number and values; 17 and 19 return no row
+
+abbrev pub foundNumber : RingAnswer → ℕ
+foundNumber (IsAt from n) = 0
+foundNumber NoSuchRing = noSuch
+foundNumber (RingRefused v) = Rattle.made.specs.Made.numberOf v
+
+abbrev pub foundRow : RingAnswer → ℕ
+foundRow (IsAt from n) = 0
+foundRow NoSuchRing = 0
+foundRow (RingRefused v) = Rattle.made.specs.Made.rowOf v
 
 abbrev pub numberOf : AreaAnswer → ℕ
 numberOf (IsDoubled d) = 0

@@ -39,7 +39,7 @@ pub enum Areas {
 }
 
 // A ring of a border: its first vertex, counted from the border's first, and its vertices.
-pub enum Ring {
+pub enum RingPlace {
     At { from: usize, count: usize },
     Missing,
 }
@@ -114,24 +114,24 @@ pub fn net_of(v: usize, islands: &[u16], points: &[i64]) -> Area
 }
 
 // Ring 0 is the outer one, ring i island i.
-pub fn ring_of(v: usize, islands: &[u16], ring: usize) -> Ring
+pub fn ring_of(v: usize, islands: &[u16], ring: usize) -> RingPlace
     ensures { λ r. ⌜ r ≡ ringOf v (now (islands .entry)) ring ⌝ }
 {
     let outer = outer_of(v, islands);
     if outer == 0 {
-        return Ring::Missing;
+        return RingPlace::Missing;
     }
     if ring == 0 {
-        return Ring::At {
+        return RingPlace::At {
             from: 0,
             count: outer,
         };
     }
     if islands.len() < ring {
-        return Ring::Missing;
+        return RingPlace::Missing;
     }
     let from = outer_of(v, &islands[ring - 1..]);
-    Ring::At {
+    RingPlace::At {
         from,
         count: wide(islands[ring - 1]),
     }
@@ -148,8 +148,8 @@ fn ring_of_row(rows: &[i64], islands: &[u16], first: usize, ring: usize) -> Ring
     let i = count_at(rows, ISLANDS_PLACE);
     let v = count_at(rows, VERTICES_PLACE);
     match ring_of(v, &islands[..i], ring) {
-        Ring::Missing => RingAnswer::Missing,
-        Ring::At { from, count } => RingAnswer::At {
+        RingPlace::Missing => RingAnswer::Missing,
+        RingPlace::At { from, count } => RingAnswer::At {
             from: first + from,
             count,
         },

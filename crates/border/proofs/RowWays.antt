@@ -16,8 +16,9 @@ use Rattle.heading.specs.declared.Header.{Header}
 use Rattle.kinds.specs.Kinds.{sizePlace, anglePlace, xPlace, yPlace, x2Place, y2Place, lettersPlace, islandsPlace, verticesPlace}
 use Rattle.made.specs.Made.{tablesOf, natOf}
 use Rattle.classes.specs.Classes.{classOf, isSurface}
-use Rattle.border.specs.Borders.{isBorder, borderOf, textOf}
+use Rattle.border.specs.Borders.{isBorder, borderWith, borderOf, textOf}
 use Rattle.classes.specs.declared.Class.{Class}
+use Rattle.border.specs.declared.Border.{Border}
 
 -- ---- a number, and how many letters are held
 
@@ -62,9 +63,12 @@ module _ (rows : List ℤ) (letters : List ℕ) where
     pub kind-other : (c ≡ 1 → ⊥) → false ≡ isBorder (tablesOf rows [] [] [])
     kind-other f = rw (← q, ne-eqb c 1 f)
 
-  pub border-is : (h : Header) (n : ℕ) → n ≡ length (take (counted lettersPlace) letters)
-      → (k : Class) → k ≡ classOf (h .kind) (h .name) (take n letters)
-      → (s : ℤ) → mag s < 2 ^ 63 → s ≡ cell sizePlace
+  pub border-is : (h : Header) (n : ℕ) → n ≡ length (take (counted lettersPlace) letters) → (k : Class) → k ≡ classOf (h .kind) (h .name) (take n letters)
+      → (b : Border) → b ≡ borderWith k (tablesOf rows [] [] []) → b ≡ borderOf h (tablesOf rows letters [] [])
+  unfolding borderOf
+  border-is h n p k q b e = e ∙ ap (λ (c : Class). borderWith c (tablesOf rows letters [] [])) (q ∙ ap (classOf (h .kind) (h .name)) (held-letters n (counted lettersPlace) letters p))
+
+  pub with-is : (k : Class) (s : ℤ) → mag s < 2 ^ 63 → s ≡ cell sizePlace
       → (a : ℤ) → mag a < 2 ^ 63 → a ≡ cell anglePlace
       → (x : ℤ) → mag x < 2 ^ 63 → x ≡ cell xPlace
       → (y : ℤ) → mag y < 2 ^ 63 → y ≡ cell yPlace
@@ -72,10 +76,8 @@ module _ (rows : List ℤ) (letters : List ℕ) where
       → (v : ℤ) → mag v < 2 ^ 63 → v ≡ cell y2Place
       → (l i w : ℕ) → l ≡ counted lettersPlace → i ≡ counted islandsPlace → w ≡ counted verticesPlace
       → record { class = k; size = bits s; angle = bits a; x = bits x; y = bits y; x2 = bits u; y2 = bits v; letters = l; islands = i; vertices = w }
-      ≡ borderOf h (tablesOf rows letters [] [])
-  unfolding borderOf
-  border-is h n p k q s fs es a fa ea x fx ex y fy ey u fu eu v fv ev l i w el ei ew =
-      cc (held-letters n (counted lettersPlace) letters p, back s fs, back a fa, back x fx, back y fy, back u fu, back v fv)
+      ≡ borderWith k (tablesOf rows [] [] [])
+  with-is k s fs es a fa ea x fx ex y fy ey u fu eu v fv ev l i w el ei ew = cc (back s fs, back a fa, back x fx, back y fy, back u fu, back v fv)
 
   module _ (c : ℕ) (q : c ≡ counted 0) where
     pub text-none : (c ≡ 2 → ⊥) → record { surface = false; centroid = false } ≡ textOf (tablesOf rows letters [] [])

@@ -1,4 +1,5 @@
 -- A row as a border, or as a text: document 01, "Border classes". Assumes nothing: these are definitions.
+use Rattle.classes.specs.declared.Class.{Class}
 use Rattle.classes.specs.Classes.{classOf, isSurface}
 use Prim.Native.Nat.{_-_}
 use mathlib.Core.Bool.{Bool, _&&_}
@@ -20,10 +21,10 @@ abbrev pub isText : Tables → Bool
 isText t = eqb (kindOf t) 2
 
 -- a border row answers as one record, with its class inside
-unfoldable pub borderOf : Header → Tables → Border
-borderOf h t =
+abbrev pub borderWith : Class → Tables → Border
+borderWith c t =
     record {
-      class = classOf (h .kind) (h .name) (lettersOf t);
+      class = c;
       size = cellAt t sizePlace;
       angle = cellAt t anglePlace;
       x = cellAt t xPlace;
@@ -34,6 +35,9 @@ borderOf h t =
       islands = countAt t islandsPlace;
       vertices = countAt t verticesPlace;
     }
+
+unfoldable pub borderOf : Header → Tables → Border
+borderOf h t = borderWith (classOf (h .kind) (h .name) (lettersOf t)) t
 
 -- such a TESTO is a surface right, one of size 0 a raster parcel's centroid; any other row is neither
 unfoldable pub textOf : Tables → Text

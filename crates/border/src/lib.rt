@@ -6,7 +6,7 @@ ghost use mathlib.Core.List.{[]};
 ghost use lib.ListN.{length, getD};
 ghost use lib.IntN.{pos};
 ghost use Rattle.made.specs.Made.{tablesOf, lettersOf};
-ghost use Rattle.border.specs.Borders.{isBorder, borderOf, textOf};
+ghost use Rattle.border.specs.Borders.{isBorder, borderWith, borderOf, textOf};
 ghost use Rattle.border.specs.BorderAt.{borderAt};
 ghost use Rattle.border.specs.TextAt.{textAt};
 use classes::Class;
@@ -98,13 +98,12 @@ pub fn is_border(rows: &[i64]) -> bool
     if count_at(rows, 0) == 1 { true } else { false }
 }
 
-// The first row as a border, its letters at the front of `letters`.
-pub fn border_of(header: Header, rows: &[i64], letters: &[u8]) -> Border
-    ensures { λ r. ⌜ r ≡ borderOf header (tablesOf (now (rows .entry)) (now (letters .entry)) [] []) ⌝ }
+// The first row as a border of this class.
+pub fn border_with(class: Class, rows: &[i64]) -> Border
+    ensures { λ r. ⌜ r ≡ borderWith class (tablesOf (now (rows .entry)) [] [] []) ⌝ }
 {
-    let n = letters_held(rows, letters);
     Border {
-        class: class_of(header, &letters[..n]),
+        class,
         size: cell_at(rows, SIZE_PLACE),
         angle: cell_at(rows, ANGLE_PLACE),
         x: cell_at(rows, X_PLACE),
@@ -115,6 +114,14 @@ pub fn border_of(header: Header, rows: &[i64], letters: &[u8]) -> Border
         islands: count_at(rows, ISLANDS_PLACE),
         vertices: count_at(rows, VERTICES_PLACE),
     }
+}
+
+// The first row as a border, its letters at the front of `letters`.
+pub fn border_of(header: Header, rows: &[i64], letters: &[u8]) -> Border
+    ensures { λ r. ⌜ r ≡ borderOf header (tablesOf (now (rows .entry)) (now (letters .entry)) [] []) ⌝ }
+{
+    let n = letters_held(rows, letters);
+    border_with(class_of(header, &letters[..n]), rows)
 }
 
 // What the first row says as a text, its letters at the front of `letters`.

@@ -18,8 +18,8 @@ ghost use Rattle.tally.specs.Take.{takenOf, tallyOf};
 ghost use Rattle.tile.specs.Tiles.{tileOf};
 ghost use Rattle.listing.specs.Listing.{listingOf};
 ghost use Rattle.listing.specs.Listed.{listedOf, outputOf as listedIn};
-ghost use Rattle.told.specs.Asked.{modeOf, isDue, headerOf};
-ghost use Rattle.told.specs.Told.{readTold, writeTold, recordTold, integerTold, realTold, tileTold, listedTold};
+ghost use Rattle.told.specs.Asked.{modeOf, isKeywordDue, headerOf};
+ghost use Rattle.told.specs.Told.{interfaceNumber, readTold, writeTold, recordTold, integerTold, realTold, tileTold, listedTold};
 ghost use Rattle.told.specs.Answers.{borderTold, textTold, areaTold, ringTold};
 ghost use Rattle.told.specs.Tallies.{tallyIn, tallyTold, takeTold};
 use area::net_area;
@@ -67,6 +67,14 @@ use told::tallies::tally_told;
 use told::written_of;
 use writer::write;
 
+// The number of this interface, for a binding that was made for one number and is to refuse another.
+#[no_mangle]
+pub extern "C" fn cxf_interface() -> usize
+    ensures { λ r. ⌜ r ≡ interfaceNumber ⌝ }
+{
+    1
+}
+
 // Reads a sheet into the tables that are lent.
 #[no_mangle]
 pub extern "C" fn cxf_read(
@@ -108,7 +116,7 @@ pub extern "C" fn cxf_write(
 
 #[no_mangle]
 pub extern "C" fn cxf_record_at(src: &[u8], at: usize, mode: usize, due: usize) -> CxfRecord
-    ensures { λ r. ⌜ r ≡ recordTold (recordAt (now (src .entry)) at (modeOf mode) (isDue due)) ⌝ }
+    ensures { λ r. ⌜ r ≡ recordTold (recordAt (now (src .entry)) at (modeOf mode) (isKeywordDue due)) ⌝ }
 {
     match record_at(src, at, mode_of(mode), due != 0) {
         Found::Record { start, len, next } => CxfRecord {

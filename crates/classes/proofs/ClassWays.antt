@@ -9,7 +9,7 @@ use borrow.Author.Tests.{eq-eqb, ne-eqb, le-leb, lt-leb, not-true, not-false}
 use Rattle.laws.specs.Lists.{same}
 use Rattle.laws.specs.Text.{text}
 use Rattle.laws.proofs.Choice.{and-false}
-use Rattle.classes.specs.Classes.{byte, beginsWith, endsIn, isMarked, isRoad, isWater, classOf, isSurface}
+use Rattle.classes.specs.Classes.{byte, beginsWith, endsIn, beginsInKind2, isRoad, isWater, classOf, isSurface}
 use Rattle.classes.specs.declared.Class.the-variants.{Confine, Other, Road, Water, Building, Parcel}
 
 -- ---- the first letter, and the last
@@ -47,12 +47,12 @@ pub ruleset end-ways = (ends-none, ends-so, ends-not)
 -- ---- roads and waters
 
 module _ (b kind : ℕ) (s : List ℕ) where
-  pub marked-not : (kind ≡ 2 → ⊥) → false ≡ isMarked b kind s
-  unfolding isMarked
+  pub marked-not : (kind ≡ 2 → ⊥) → false ≡ beginsInKind2 b kind s
+  unfolding beginsInKind2
   marked-not f = rw (ne-eqb kind 2 f)
 
-  pub marked-by : kind ≡ 2 → (r : Bool) → r ≡ beginsWith b s → r ≡ isMarked b kind s
-  unfolding isMarked
+  pub marked-by : kind ≡ 2 → (r : Bool) → r ≡ beginsWith b s → r ≡ beginsInKind2 b kind s
+  unfolding beginsInKind2
   marked-by e r q = rw (eq-eqb kind 2 e) q
 
 pub ruleset mark-ways = (marked-not, marked-by)
@@ -62,7 +62,7 @@ module _ (kind : ℕ) (s : List ℕ) (a : Bool) where
   unfolding isRoad
   road-word p t = rw (← p, t)
 
-  pub road-mark : a ≡ same s (text "STRADA") → a ≡ false → (r : Bool) → r ≡ isMarked (byte "S") kind s → r ≡ isRoad kind s
+  pub road-mark : a ≡ same s (text "STRADA") → a ≡ false → (r : Bool) → r ≡ beginsInKind2 (byte "S") kind s → r ≡ isRoad kind s
   unfolding isRoad
   road-mark p t r q = rw (← p, t) q
 
@@ -70,7 +70,7 @@ module _ (kind : ℕ) (s : List ℕ) (a : Bool) where
   unfolding isWater
   water-word p t = rw (← p, t)
 
-  pub water-mark : a ≡ same s (text "ACQUA") → a ≡ false → (r : Bool) → r ≡ isMarked (byte "A") kind s → r ≡ isWater kind s
+  pub water-mark : a ≡ same s (text "ACQUA") → a ≡ false → (r : Bool) → r ≡ beginsInKind2 (byte "A") kind s → r ≡ isWater kind s
   unfolding isWater
   water-mark p t r q = rw (← p, t) q
 

@@ -24,14 +24,14 @@ unfoldable pub endsIn : ℕ → List ℕ → Bool
 endsIn b s = leb 1 (length s) && eqb (getD s (length s - 1) 0) b
 
 -- beginning with a letter in kind 2
-unfoldable pub isMarked : ℕ → ℕ → List ℕ → Bool
-isMarked b kind s = eqb kind 2 && beginsWith b s
+unfoldable pub beginsInKind2 : ℕ → ℕ → List ℕ → Bool
+beginsInKind2 b kind s = eqb kind 2 && beginsWith b s
 
 unfoldable pub isRoad : ℕ → List ℕ → Bool
-isRoad kind s = same s (text "STRADA") || isMarked (byte "S") kind s
+isRoad kind s = same s (text "STRADA") || beginsInKind2 (byte "S") kind s
 
 unfoldable pub isWater : ℕ → List ℕ → Bool
-isWater kind s = same s (text "ACQUA") || isMarked (byte "A") kind s
+isWater kind s = same s (text "ACQUA") || beginsInKind2 (byte "A") kind s
 
 -- ---- the class
 

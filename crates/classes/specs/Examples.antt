@@ -6,13 +6,13 @@ use mathlib.Core.List.{List, [], _∷_, map}
 use mathlib.Core.Bool.{Bool, true, false}
 use Rattle.laws.specs.Lists.{same}
 use Rattle.laws.specs.Text.{text}
-use Rattle.classes.specs.Classes.{beginsWith, endsIn, isMarked, isRoad, isWater, classOf, indexOf, isSurface}
+use Rattle.classes.specs.Classes.{beginsWith, endsIn, beginsInKind2, isRoad, isWater, classOf, indexOf, isSurface}
 use Rattle.classes.specs.declared.Class.{Class}
 use Rattle.classes.specs.declared.Class.the-variants.{Confine, Other, Road, Water, Building, Parcel}
 
 -- the definitions opened, so that they compute
 unfoldable pub computed : ℕ → List ℕ → List ℕ → Class × Bool
-unfolding classOf isRoad isWater isMarked beginsWith endsIn same isSurface
+unfolding classOf isRoad isWater beginsInKind2 beginsWith endsIn same isSurface
 computed kind name s = (classOf kind name s, isSurface s)
 
 -- the class of letters in a sheet of a kind

@@ -1,7 +1,7 @@
 // Border classes (document 01, "Border classes"): the class of a border by its letters, and letters that say a surface right.
 // All of it is proved, and no public function has a `requires`.
 ghost use mathlib.Core.Path.{_≡_};
-ghost use Rattle.classes.specs.Classes.{beginsWith, endsIn, isMarked, isRoad, isWater, classOf, indexOf, isSurface};
+ghost use Rattle.classes.specs.Classes.{beginsWith, endsIn, beginsInKind2, isRoad, isWater, classOf, indexOf, isSurface};
 use heading::Header;
 use record::is_same;
 
@@ -41,7 +41,7 @@ fn ends_in(byte: u8, s: &[u8]) -> bool
 
 // Letters that begin with a byte, in kind 2.
 fn is_marked(byte: u8, kind: usize, s: &[u8]) -> bool
-    ensures { λ r. ⌜ r ≡ isMarked byte kind (now (s .entry)) ⌝ }
+    ensures { λ r. ⌜ r ≡ beginsInKind2 byte kind (now (s .entry)) ⌝ }
 {
     if kind != 2 {
         return false;

@@ -3,6 +3,8 @@ mod EdgeLaws
 mod RunLaws
 pub mod SearchLaws
 pub mod VerdictLaws
+pub mod AlikeLaws
 pub mod SharedLaws
 pub mod NeighbourLaws
+pub mod MeetLaws
 pub mod SimpleLaws

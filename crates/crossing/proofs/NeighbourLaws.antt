@@ -16,12 +16,12 @@ use Rattle.laws.proofs.Products.{mul-plus, times-assoc, plus-mul, mul-minus}
 use Rattle.crossing.specs.declared.Point.{Point}
 use Rattle.crossing.specs.Edges.{side, dot, neighbours-overlap}
 use Rattle.crossing.specs.Shared.{OnlyAt, SharedElsewhere}
-use Rattle.crossing.proofs.SharedLaws.{from-any, less-itself, swapped, no-P, some-P, some-N}
+use Rattle.crossing.proofs.SharedLaws.{from-any, less-itself, no-difference, swapped, no-P, some-P, some-N}
 
 -- ---- products and squares
 
 -- a positive multiple is 0 only of 0
-times-zero : (k : ℕ) (s : ℤ) → pos (suc k) *ℤ s ≡ pos 0 → s ≡ pos 0
+pub times-zero : (k : ℕ) (s : ℤ) → pos (suc k) *ℤ s ≡ pos 0 → s ≡ pos 0
 times-zero k (pos zero) e = refl
 times-zero k (pos (suc n)) e = let h = some-P (suc k) (pos (suc n)) (omega arith) in let z : ⊥ = omega (arith, ap P e) in absurd z
 times-zero k (negsuc n) e = let h = some-N (suc k) (negsuc n) (omega arith) in let z : ⊥ = omega (arith, ap N e) in absurd z
@@ -95,8 +95,7 @@ from-common u v p q a b c w e =
 -- the weighted sum is that of b alone
 at-common : (u v : ℕ) (a b : ℤ) → pos u *ℤ (a -ℤ b) ≡ pos 0 → pos u *ℤ a +ℤ pos v *ℤ b ≡ pos (u + v) *ℤ b
 at-common u v a b e =
-    let d : pos u *ℤ a -ℤ pos u *ℤ b ≡ pos 0 = sym (mul-minus (pos u) a b) ∙ e in
-    let s : pos u *ℤ a ≡ pos u *ℤ b = eq-parts (pos u *ℤ a) (pos u *ℤ b) (omega (arith, ap P d, ap N d, diff (pos u *ℤ a) (pos u *ℤ b))) in
+    let s : pos u *ℤ a ≡ pos u *ℤ b = no-difference (pos u *ℤ a) (pos u *ℤ b) (sym (mul-minus (pos u) a b) ∙ e) in
     ap (λ (x : ℤ). x +ℤ pos v *ℤ b) s ∙ sym (plus-mul (pos u) (pos v) b)
 
 -- every point that neighbours share is B, where they do not overlap
@@ -125,7 +124,7 @@ module _ (ax ay cx cy : ℤ) (e : ax *ℤ cy ≡ cx *ℤ ay) where
       plus-mul (ax *ℤ cx) (ay *ℤ cy) ay ∙ rw (l, r) (sym (plus-mul (ax *ℤ ax) (ay *ℤ ay) cy))
 
 -- a number that is not below 0
-positive : (z : ℤ) → N z ≡ 0 → pos (P z) ≡ z
+pub positive : (z : ℤ) → N z ≡ 0 → pos (P z) ≡ z
 positive z e = eq-parts (pos (P z)) z (omega (arith, num z))
 
 -- u a + q b is u b + q c, where u (a - b) is q (c - b)
@@ -137,9 +136,7 @@ to-weights u q a b c e =
 
 module _ (ax ay cx cy : ℤ) (e : eqZ (ax *ℤ cy -ℤ cx *ℤ ay) (pos 0) ≡ true) (g : ltZ (pos 0) (ax *ℤ cx +ℤ ay *ℤ cy) ≡ true) where
   no-cross : ax *ℤ cy ≡ cx *ℤ ay
-  no-cross =
-      let d = eqZ-same (ax *ℤ cy -ℤ cx *ℤ ay) (pos 0) e in
-      eq-parts (ax *ℤ cy) (cx *ℤ ay) (omega (arith, ap P d, ap N d, diff (ax *ℤ cy) (cx *ℤ ay)))
+  no-cross = no-difference (ax *ℤ cy) (cx *ℤ ay) (eqZ-same (ax *ℤ cy -ℤ cx *ℤ ay) (pos 0) e)
 
   the-dot : pos (P (ax *ℤ cx +ℤ ay *ℤ cy)) ≡ ax *ℤ cx +ℤ ay *ℤ cy
   the-dot = positive (ax *ℤ cx +ℤ ay *ℤ cy) (omega (arith, ints, num (ax *ℤ cx +ℤ ay *ℤ cy)))
@@ -190,3 +187,18 @@ neighbours-faulty a b c e =
       part = h;
       apart = λ x y. not-still ax ay cx cy f g (ap (λ (z : ℤ). z -ℤ b .x) x ∙ less-itself (b .x)) (ap (λ (z : ℤ). z -ℤ b .y) y ∙ less-itself (b .y));
     }
+
+-- ---- and that point keeps B from being the only one
+
+part-none : (u v : ℕ) (a b : ℤ) → 0 < u → pos u *ℤ a +ℤ pos v *ℤ b ≡ pos (u + v) *ℤ b → a ≡ b
+part-none zero v a b h e = let z : ⊥ = omega arith in absurd z
+part-none (suc k) v a b h e =
+    let d : pos (suc k) *ℤ a +ℤ pos v *ℤ b ≡ pos (suc k) *ℤ b +ℤ pos v *ℤ b = e ∙ plus-mul (pos (suc k)) (pos v) b in
+    let s : pos (suc k) *ℤ a ≡ pos (suc k) *ℤ b =
+    eq-parts (pos (suc k) *ℤ a) (pos (suc k) *ℤ b) (omega (arith, ap P d, ap N d, sum (pos (suc k) *ℤ a) (pos v *ℤ b), sum (pos (suc k) *ℤ b) (pos v *ℤ b))) in
+    no-difference a b (times-zero k (a -ℤ b) (mul-minus (pos (suc k)) a b ∙ rw s (less-itself (pos (suc k) *ℤ b))))
+
+pub elsewhere-not-only : (a b c : Point) → SharedElsewhere a b c → OnlyAt a b c → ⊥
+elsewhere-not-only a b c s only =
+    let r = only (s .point) in
+    s .apart (part-none (s .point .u) (s .point .v) (a .x) (b .x) (s .part) (r .0)) (part-none (s .point .u) (s .point .v) (a .y) (b .y) (s .part) (r .1))

@@ -10,7 +10,7 @@ use lib.Dec.{ltb}
 use lib.IntN.{ℤ}
 use borrow.Author.Tests.{lt-ltb, le-ltb, ltb-true, ltb-false}
 use Rattle.laws.proofs.Choice.{cond-elim}
-use Rattle.crossing.specs.declared.Verdict.the-variants.{Simple, Faulty}
+use Rattle.crossing.specs.declared.RingVerdict.the-variants.{Simple, Faulty}
 use Rattle.crossing.specs.Search.{faulty-pair, least, second-edge, first-edge, searched, FirstFault, FirstPair}
 
 module _ (p : ℕ → Bool) where

@@ -29,17 +29,22 @@ cancels a b c d k r s =
 pub less-itself : (a : ℤ) → a -ℤ a ≡ pos 0
 less-itself a = eq-parts (a -ℤ a) (pos 0) (omega (arith, num a, diff a a))
 
+pub no-difference : (a b : ℤ) → a -ℤ b ≡ pos 0 → a ≡ b
+no-difference a b e = eq-parts a b (omega (arith, ap P e, ap N e, diff a b))
+
 pub swapped : (k e y : ℤ) → k *ℤ (e *ℤ y) ≡ e *ℤ (k *ℤ y)
 swapped k e y = sym (times-assoc k e y) ∙ ap (λ (z : ℤ). z *ℤ y) (*ℤ-comm k e) ∙ times-assoc e k y
 
 -- ---- weighted sums
 
+pub same-weight : (u v p q : ℕ) (z : ℤ) → u + v ≡ p + q → pos u *ℤ z +ℤ pos v *ℤ z ≡ pos p *ℤ z +ℤ pos q *ℤ z
+same-weight u v p q z w = sym (plus-mul (pos u) (pos v) z) ∙ ap (λ (n : ℕ). pos n *ℤ z) w ∙ plus-mul (pos p) (pos q) z
+
 -- measured from any number, two equal weighted sums of equal weight are equal
 pub from-any : (u v p q : ℕ) (a b c d z : ℤ) → u + v ≡ p + q → pos u *ℤ a +ℤ pos v *ℤ b ≡ pos p *ℤ c +ℤ pos q *ℤ d → pos u *ℤ (a -ℤ z) +ℤ pos v *ℤ (b -ℤ z) ≡ pos p *ℤ (c -ℤ z) +ℤ pos q *ℤ (d -ℤ z)
 from-any u v p q a b c d z w e =
-    let m : pos u *ℤ z +ℤ pos v *ℤ z ≡ pos p *ℤ z +ℤ pos q *ℤ z = sym (plus-mul (pos u) (pos v) z) ∙ ap (λ (n : ℕ). pos n *ℤ z) w ∙ plus-mul (pos p) (pos q) z in
     rw (mul-minus (pos u) a z, mul-minus (pos v) b z, mul-minus (pos p) c z, mul-minus (pos q) d z)
-    (less-each (pos u *ℤ a) (pos v *ℤ b) (pos p *ℤ c) (pos q *ℤ d) (pos u *ℤ z) (pos v *ℤ z) (pos p *ℤ z) (pos q *ℤ z) e m)
+    (less-each (pos u *ℤ a) (pos v *ℤ b) (pos p *ℤ c) (pos q *ℤ d) (pos u *ℤ z) (pos v *ℤ z) (pos p *ℤ z) (pos q *ℤ z) e (same-weight u v p q z w))
 
 -- a product with a weight has the weight in its parts
 weight-parts : (u : ℕ) (s : ℤ) → (P (pos u *ℤ s) ≡ u * P s) × (N (pos u *ℤ s) ≡ u * N s)
@@ -135,11 +140,11 @@ reached u v p q a b c d h w e = go (leZ (lowZ a b) (highZ c d)) refl
 
 -- ---- edges
 
-flipped : {a b c d : Point} → Shared a b c d → Shared c d a b
+pub flipped : {a b c d : Point} → Shared a b c d → Shared c d a b
 flipped s = record { u = s .p; v = s .q; p = s .u; q = s .v; some = omega (arith, s .some, s .weights); weights = sym (s .weights); same-x = sym (s .same-x); same-y = sym (s .same-y) }
 
 -- one coordinate of the shared point, measured from a
-from-first : (u v p q : ℕ) (a b c d : ℤ) → u + v ≡ p + q → pos u *ℤ a +ℤ pos v *ℤ b ≡ pos p *ℤ c +ℤ pos q *ℤ d → pos p *ℤ (c -ℤ a) +ℤ pos q *ℤ (d -ℤ a) ≡ pos v *ℤ (b -ℤ a)
+pub from-first : (u v p q : ℕ) (a b c d : ℤ) → u + v ≡ p + q → pos u *ℤ a +ℤ pos v *ℤ b ≡ pos p *ℤ c +ℤ pos q *ℤ d → pos p *ℤ (c -ℤ a) +ℤ pos q *ℤ (d -ℤ a) ≡ pos v *ℤ (b -ℤ a)
 from-first u v p q a b c d w e =
     sym (from-any u v p q a b c d a w e) ∙ ap (λ (z : ℤ). pos u *ℤ z +ℤ pos v *ℤ (b -ℤ a)) (less-itself a)
     ∙ ap (λ (z : ℤ). z +ℤ pos v *ℤ (b -ℤ a)) (*ℤ-zero (pos u)) ∙ +ℤ-idl (pos v *ℤ (b -ℤ a))

@@ -1,5 +1,5 @@
--- The check's four answers, from what the judgements and the search say; and what an answer says of the ring: `verdict-faulty-is`, `verdict-simple-is`. Assumes nothing.
-use mathlib.Core.Path.{_≡_, refl, _∙_}
+-- The check's four answers, from what the judgements and the search say; and what an answer says of the ring: `verdict-faulty-is`, `verdict-simple-is`, `verdict-not-faulty`. Assumes nothing.
+use mathlib.Core.Path.{_≡_, refl, sym, _∙_}
 use mathlib.Core.List.{List}
 use mathlib.Core.Bool.{Bool, true, false}
 use Prim.Native.Nat.{ℕ, _-_, _≤_, _<_}
@@ -7,10 +7,11 @@ use native.Mathlib.Omega.{arith}
 use lib.ListN.{length}
 use lib.Dec.{ltb}
 use lib.IntN.{ℤ}
-use borrow.Author.Tests.{lt-ltb, le-ltb}
+use borrow.Author.Tests.{lt-ltb, le-ltb, ltb-true, ltb-false}
 use Rattle.plane.specs.Rings.{held, narrow}
-use Rattle.crossing.specs.declared.Verdict.{Verdict}
-use Rattle.crossing.specs.declared.Verdict.the-variants.{Simple, Faulty, Wide, Missing}
+use Rattle.plane.proofs.RingLaws.{narrow-held}
+use Rattle.crossing.specs.declared.RingVerdict.{RingVerdict}
+use Rattle.crossing.specs.declared.RingVerdict.the-variants.{Simple, Faulty, Wide, Missing}
 use Rattle.crossing.specs.Search.{faulty-pair, FirstFault, FirstPair, first-edge, second-edge, searched, verdictOf}
 use Rattle.crossing.proofs.SearchLaws.{pair-is, simple-is}
 
@@ -40,7 +41,7 @@ module _ (ps : List ℤ) (from n : ℕ) where
           simp (h, e, t) (cc)
 
   -- an answer that is no refusal is the search's
-  verdict-searched : (v : Verdict) → (Wide ≡ v → ⊥) → (Missing ≡ v → ⊥) → verdictOf ps from n ≡ v → searched ps from (n - 1) ≡ v
+  verdict-searched : (v : RingVerdict) → (Wide ≡ v → ⊥) → (Missing ≡ v → ⊥) → verdictOf ps from n ≡ v → searched ps from (n - 1) ≡ v
   unfolding verdictOf
   verdict-searched v f g q = go (held (length ps) from n) (narrow ps from n) refl refl
     where
@@ -60,3 +61,17 @@ module _ (ps : List ℤ) (from n : ℕ) where
   verdict-simple-is q =
       simple-is ps from (n - 1)
       (verdict-searched Simple (λ e. let z : _≡_ {A = ℕ} 0 1 = cc in omega arith) (λ e. let z : _≡_ {A = ℕ} 0 1 = cc in omega arith) q)
+
+  -- a ring that is not refused, and not called faulty, is called simple
+  pub verdict-not-faulty : narrow ps from n ≡ true → ((i j : ℕ) → verdictOf ps from n ≡ Faulty i j → ⊥) → verdictOf ps from n ≡ Simple
+  verdict-not-faulty h f = go (ltb i (n - 1)) refl
+    where
+      i : ℕ
+      i = first-edge ps from (n - 1)
+
+      r : FirstFault ps from (n - 1) i (second-edge ps from (n - 1) i)
+      r = record { lowest = refl; then = λ x. refl }
+
+      go : (t : Bool) → ltb i (n - 1) ≡ t → verdictOf ps from n ≡ Simple
+      go true e = absurd (f i (second-edge ps from (n - 1) i) (sym (verdict-faulty (narrow-held ps from n h) h i (second-edge ps from (n - 1) i) r (ltb-true i (n - 1) e))))
+      go false e = sym (verdict-simple (narrow-held ps from n h) h i (second-edge ps from (n - 1) i) r (ltb-false i (n - 1) e))

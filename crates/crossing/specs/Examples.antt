@@ -1,16 +1,20 @@
--- Marked example (i) of document 01, by computation, and a ring for each rule of the ring check.
-use Prim.Native.Nat.{ℕ}
+-- Marked example (i) of document 01, by computation, a ring for each rule of the ring check, and edges with a point that they share.
 use mathlib.Core.Path.{_≡_, refl}
+use mathlib.Core.Bool.{true, false}
 use mathlib.Core.List.{List, [], _∷_}
+use Prim.Native.Nat.{ℕ}
+use native.Mathlib.Omega.{arith}
 use lib.IntN.{ℤ, pos, negsuc}
 use Rattle.plane.specs.Rings.{held, near, near-first, all-near, narrow}
-use Rattle.crossing.specs.declared.Verdict.{Verdict}
-use Rattle.crossing.specs.declared.Verdict.the-variants.{Simple, Faulty, Wide, Missing}
+use Rattle.crossing.specs.declared.Point.{Point}
+use Rattle.crossing.specs.declared.RingVerdict.{RingVerdict}
+use Rattle.crossing.specs.declared.RingVerdict.the-variants.{Simple, Faulty, Wide, Missing}
 use Rattle.crossing.specs.Edges.{edges-meet, boxes-overlap, beside-line, spans-overlap, one-side, neighbours-overlap, equal-ends, side, dot}
 use Rattle.crossing.specs.Search.{verdictOf, verdict-told, searched, first-edge, second-edge, least, faulty-pair}
+use Rattle.crossing.specs.Shared.{Shared}
 
 -- `verdictOf` with every definition opened, so that it computes
-unfoldable pub computed : List ℤ → ℕ → ℕ → Verdict
+unfoldable pub computed : List ℤ → ℕ → ℕ → RingVerdict
 unfolding verdictOf searched held narrow near near-first all-near first-edge second-edge least faulty-pair edges-meet boxes-overlap beside-line spans-overlap one-side neighbours-overlap equal-ends side dot
 computed ps from n = verdictOf ps from n
 
@@ -126,3 +130,31 @@ straight-simple = refl
 limits : (verdictOf (pos 0 ∷ pos 0 ∷ pos 20000000 ∷ pos 0 ∷ pos 0 ∷ pos 9 ∷ pos 0 ∷ pos 0 ∷ []) 0 4 ≡ Simple) × (verdictOf triangle 1 4 ≡ Missing)
 unfolding computed triangle
 limits = (refl, refl)
+
+-- ---- edges that meet, and a point that they share
+
+point : ℕ → ℕ → Point
+point x y = record { x = pos x; y = pos y }
+
+-- the second edge starts in the middle of the first
+touching-meet : edges-meet (point 0 0) (point 4 2) (point 2 1) (point 2 9) ≡ true
+unfolding edges-meet boxes-overlap beside-line spans-overlap one-side side point
+touching-meet = refl
+
+touching-shared : Shared (point 0 0) (point 4 2) (point 2 1) (point 2 9)
+unfolding point
+touching-shared = record { u = 1; v = 1; p = 2; q = 0; some = omega arith; weights = refl; same-x = refl; same-y = refl }
+
+-- in one line, from (4, 2) to (6, 3) in common; the point is (5, 5/2)
+inline-meet : edges-meet (point 0 0) (point 6 3) (point 4 2) (point 10 5) ≡ true
+unfolding edges-meet boxes-overlap beside-line spans-overlap one-side side point
+inline-meet = refl
+
+inline-shared : Shared (point 0 0) (point 6 3) (point 4 2) (point 10 5)
+unfolding point
+inline-shared = record { u = 1; v = 5; p = 5; q = 1; some = omega arith; weights = refl; same-x = refl; same-y = refl }
+
+-- in one line and apart: only the boxes tell
+inline-apart : edges-meet (point 0 0) (point 2 1) (point 4 2) (point 10 5) ≡ false
+unfolding edges-meet boxes-overlap beside-line spans-overlap one-side side point
+inline-apart = refl

@@ -1,6 +1,8 @@
--- The definitions that the contracts of crate `crossing` cite.
+-- To read beside document 01, "Ring check": the tests, the search, a ring that is simple in the paper's words.
 pub mod Edges
 pub mod Search
-pub mod Runs
 pub mod Shared
+pub mod SimpleRing
 pub mod Examples
+-- For private contracts alone: runs of edges that are passed over.
+pub mod Runs

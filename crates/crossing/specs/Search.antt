@@ -8,8 +8,8 @@ use lib.Dec.{ltb, eqb}
 use lib.ListN.{length}
 use lib.IntN.{ℤ}
 use Rattle.plane.specs.Rings.{held, narrow}
-use Rattle.crossing.specs.declared.Verdict.{Verdict}
-use Rattle.crossing.specs.declared.Verdict.the-variants.{Simple, Faulty, Wide, Missing}
+use Rattle.crossing.specs.declared.RingVerdict.{RingVerdict}
+use Rattle.crossing.specs.declared.RingVerdict.the-variants.{Simple, Faulty, Wide, Missing}
 use Rattle.crossing.specs.Edges.{point-at, equal-ends, neighbours-overlap, edges-meet}
 
 -- edges i and j, j not before i, of a ring of so many edges: an edge of no length is the pair of itself; first and last edge are neighbours
@@ -39,18 +39,18 @@ pub record FirstFault (ps : List ℤ) (from edges i j : ℕ) : Type 0 where
   pub then : i < edges → j ≡ second-edge ps from edges i
 
 -- the verdict on a ring of so many edges that may be searched
-unfoldable pub searched : List ℤ → ℕ → ℕ → Verdict
+unfoldable pub searched : List ℤ → ℕ → ℕ → RingVerdict
 searched ps from edges =
     cond (ltb (first-edge ps from edges) edges)
     (Faulty (first-edge ps from edges) (second-edge ps from edges (first-edge ps from edges)))
     Simple
 
 -- the answer: a ring of n vertices has n - 1 edges
-unfoldable pub verdictOf : List ℤ → ℕ → ℕ → Verdict
+unfoldable pub verdictOf : List ℤ → ℕ → ℕ → RingVerdict
 verdictOf ps from n = cond (held (length ps) from n) (cond (narrow ps from n) (searched ps from (n - 1)) Wide) Missing
 
 -- an answer in the paper's terms: the refusal's number, or 0 and the first faulty pair, if there is one
-abbrev pub verdict-told : Verdict → ℕ × List ℕ
+abbrev pub verdict-told : RingVerdict → ℕ × List ℕ
 verdict-told Simple = (0, [])
 verdict-told (Faulty i j) = (0, i ∷ j ∷ [])
 verdict-told Wide = (17, [])

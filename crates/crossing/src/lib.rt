@@ -23,7 +23,7 @@ struct Pair {
     second: usize,
 }
 
-pub enum Verdict {
+pub enum RingVerdict {
     // No pair of edges is faulty.
     Simple,
     // The first faulty pair: lowest first edge, then lowest second.
@@ -300,18 +300,18 @@ fn search(points: &[i64], from: usize, edges: usize) -> Pair
 }
 
 // The ring check of the ring of `count` vertices from vertex `from` on: its count - 1 edges.
-pub fn first_fault(points: &[i64], from: usize, count: usize) -> Verdict
+pub fn first_fault(points: &[i64], from: usize, count: usize) -> RingVerdict
     ensures { λ r. ⌜ r ≡ verdictOf (now (points .entry)) from count ⌝ }
 {
     if !plane::is_ring(points, from, count) {
-        return Verdict::Missing;
+        return RingVerdict::Missing;
     }
     if !plane::is_narrow(points, from, count) {
-        return Verdict::Wide;
+        return RingVerdict::Wide;
     }
     let found = search(points, from, count - 1);
     if found.first < count - 1 {
-        return Verdict::Faulty(found.first, found.second);
+        return RingVerdict::Faulty(found.first, found.second);
     }
-    Verdict::Simple
+    RingVerdict::Simple
 }

@@ -19,7 +19,7 @@ use Rattle.record.specs.Record.{isLoose, plain, notLF, wordEOF, endsCR, content
 use Rattle.record.specs.RecordView.{Lies}
 use Rattle.record.proofs.RecordLaws.{record-long, record-end, record-lies}
 use Rattle.cursor.specs.declared.Cursor.{Cursor}
-use Rattle.cursor.specs.Cursor.{after, atStart, handed, moved, past, nthFrom, nthRecord}
+use Rattle.cursor.specs.Cursor.{placeAfter, atStart, handed, movedOn, passing, nthFrom, nthRecord}
 
 -- the file's length
 abbrev size : Cursor → ℕ
@@ -36,22 +36,22 @@ module _ (c : Cursor) (due : Bool) where
 
   module _ (number : ℕ) (e : handed c due ≡ Refused number) where
     -- a refusal does not move the place
-    pub refused-stays : moved c due ≡ c
-    refused-stays = ap (λ (r : Found). record { src = c .src; at = after r (c .at); mode = c .mode }) e
+    pub refused-stays : movedOn c due ≡ c
+    refused-stays = ap (λ (r : Found). record { src = c .src; at = placeAfter r (c .at); mode = c .mode }) e
 
     -- so the same request is refused the same way again
-    pub refused-again : handed (moved c due) due ≡ Refused number
+    pub refused-again : handed (movedOn c due) due ≡ Refused number
     refused-again = ap (λ (d : Cursor). handed d due) refused-stays ∙ e
 
   -- a record that is found is at the place and inside the file, and the place after it is its next one
-  pub found-lies : (start len next : ℕ) → handed c due ≡ Record start len next → Lies (now (c .src)) (c .at) start len next × (moved c due .at ≡ next)
-  found-lies start len next e = (record-lies (now (c .src)) (c .at) (c .mode) due start len next e, ap (λ (r : Found). after r (c .at)) e)
+  pub found-lies : (start len next : ℕ) → handed c due ≡ Record start len next → Lies (now (c .src)) (c .at) start len next × (movedOn c due .at ≡ next)
+  found-lies start len next e = (record-lies (now (c .src)) (c .at) (c .mode) due start len next e, ap (λ (r : Found). placeAfter r (c .at)) e)
 
   -- the place never goes back, and never leaves the file
-  pub place-on : (c .at ≤ moved c due .at) × (c .at ≤ size c → moved c due .at ≤ size c)
+  pub place-on : (c .at ≤ movedOn c due .at) × (c .at ≤ size c → movedOn c due .at ≤ size c)
   place-on = go (handed c due) refl
     where
-      go : (r : Found) → handed c due ≡ r → (c .at ≤ moved c due .at) × (c .at ≤ size c → moved c due .at ≤ size c)
+      go : (r : Found) → handed c due ≡ r → (c .at ≤ movedOn c due .at) × (c .at ≤ size c → movedOn c due .at ≤ size c)
       go (Record start len next) e = let f = found-lies start len next e in (omega (arith, f .0 .on, f .1), λ _. omega (arith, f .0 .within, f .1))
       go (Refused number) e = let f = ap (λ (d : Cursor). d .at) (refused-stays number e) in (omega arith, λ k. omega arith)
 
@@ -97,7 +97,7 @@ refused-number c due number e = subst FoundTold e (found-told (now (c .src)) (c 
 -- a cursor after n requests of records that are no keywords
 abbrev pub turns : ℕ → Cursor → Cursor
 turns zero c = c
-turns (suc n) c = turns n (moved c false)
+turns (suc n) c = turns n (movedOn c false)
 
 module _ (due : Bool) (start len next : ℕ) where
   abbrev Hands : ℕ → Cursor → Type 0
@@ -106,10 +106,10 @@ module _ (due : Bool) (start len next : ℕ) where
   hands : (n : ℕ) (c : Cursor) → Hands n c
   unfolding nthFrom
   hands zero c e = e
-  hands (suc n) c e = go (hands n (moved c false)) (handed c false) refl e
+  hands (suc n) c e = go (hands n (movedOn c false)) (handed c false) refl e
     where
-      go : Hands n (moved c false) → (r : Found) → handed c false ≡ r → past r (nthFrom (now (c .src)) (c .mode) due n) ≡ Record start len next → handed (turns n (moved c false)) due ≡ Record start len next
-      go f (Record a l x) q z = f (ap (λ (r : Found). nthFrom (now (c .src)) (c .mode) due n (after r (c .at))) q ∙ z)
+      go : Hands n (movedOn c false) → (r : Found) → handed c false ≡ r → passing r (nthFrom (now (c .src)) (c .mode) due n) ≡ Record start len next → handed (turns n (movedOn c false)) due ≡ Record start len next
+      go f (Record a l x) q z = f (ap (λ (r : Found). nthFrom (now (c .src)) (c .mode) due n (placeAfter r (c .at))) q ∙ z)
       go f (Refused number) q z = absurd (let y : _≡_ {A = ℕ} 0 1 = cc in omega arith)
 
   -- what `nth` finds, a cursor hands out after n requests

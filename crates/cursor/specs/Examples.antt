@@ -12,7 +12,7 @@ use Rattle.record.specs.declared.Found.{Found}
 use Rattle.record.specs.declared.Found.the-variants.{Record, Refused}
 use Rattle.record.specs.Record.{endsCR, content, contentIs, lineIs, lineOf, recordAt}
 use Rattle.cursor.specs.declared.Cursor.{Cursor}
-use Rattle.cursor.specs.Cursor.{atStart, handed, moved, stepAt, nthFrom, nthRecord}
+use Rattle.cursor.specs.Cursor.{atStart, handed, movedOn, stepAt, nthFrom, nthRecord}
 
 -- `nthRecord` with every definition opened, so that it computes
 unfoldable pub computed : List ℕ → Mode → ℕ → Bool → Found
@@ -31,18 +31,18 @@ module _ (block : ℕ × ℕ) (name : ℕ) where
   start mode = atStart src mode
 
   -- it begins at the file's start; a record moves it past the line end, and the file and the mode stay
-  first : (handed (start Exact) false ≡ Record 0 2 4) × (moved (start Exact) false ≡ record { src = src; at = 4; mode = Exact })
+  first : (handed (start Exact) false ≡ Record 0 2 4) × (movedOn (start Exact) false ≡ record { src = src; at = 4; mode = Exact })
   unfolding computed
   first = (refl, refl)
 
   -- the next record is handed out there: `EOF`, where a keyword is due
-  next : (handed (moved (start Loose) false) true ≡ Record 4 3 7) × (moved (moved (start Loose) false) true ≡ record { src = src; at = 7; mode = Loose })
+  next : (handed (movedOn (start Loose) false) true ≡ Record 4 3 7) × (movedOn (movedOn (start Loose) false) true ≡ record { src = src; at = 7; mode = Loose })
   unfolding computed
   next = (refl, refl)
 
   -- a refusal does not move its place
-  stays : (handed (moved (start Loose) false) false ≡ Refused 2) × (moved (moved (start Loose) false) false ≡ moved (start Loose) false)
-      × (handed (moved (start Exact) false) true ≡ Refused 2) × (moved (moved (start Exact) false) true ≡ moved (start Exact) false)
+  stays : (handed (movedOn (start Loose) false) false ≡ Refused 2) × (movedOn (movedOn (start Loose) false) false ≡ movedOn (start Loose) false)
+      × (handed (movedOn (start Exact) false) true ≡ Refused 2) × (movedOn (movedOn (start Exact) false) true ≡ movedOn (start Exact) false)
   unfolding computed
   stays = (refl, refl, refl, refl)
 

@@ -2,7 +2,7 @@
 // All of it is proved, and no function has a `requires`. `new`, `next` and `next_at` have a struct that holds the caller's
 // slice, so they are thin and proved by hand; the work is `record::record_at`.
 ghost use mathlib.Core.Path.{_≡_};
-ghost use Rattle.cursor.specs.Cursor.{after, atStart, handed, moved, stepAt, nthRecord};
+ghost use Rattle.cursor.specs.Cursor.{placeAfter, atStart, handed, movedOn, stepAt, nthRecord};
 use record::Found;
 use record::Mode;
 use record::record_at;
@@ -15,14 +15,14 @@ pub struct Cursor<'a> {
 }
 
 // An answer, and the place after it.
-pub struct Step {
+pub struct Request {
     pub found: Found,
     pub at: usize,
 }
 
 // The place after an answer at a place: past the record that is found, and the same where it is refused.
 fn place_after(found: Found, at: usize) -> usize
-    ensures { λ r. ⌜ r ≡ after found at ⌝ }
+    ensures { λ r. ⌜ r ≡ placeAfter found at ⌝ }
 {
     match found {
         Found::Record { next, .. } => next,
@@ -39,7 +39,7 @@ pub fn new<'a>(src: &'a [u8], mode: Mode) -> Cursor<'a>
 
 // Hands out the record at the cursor's place, and moves past it. A refusal does not move it.
 pub fn next<'s, 'a>(c: &'s mut Cursor<'a>, due: bool) -> Found
-    ensures { λ r. ⌜ (r ≡ handed (now (c .entry)) due) × (now (c .exit) ≡ moved (now (c .entry)) due) ⌝ }
+    ensures { λ r. ⌜ (r ≡ handed (now (c .entry)) due) × (now (c .exit) ≡ movedOn (now (c .entry)) due) ⌝ }
 {
     let found = record_at(c.src, c.at, c.mode, due);
     c.at = place_after(found, c.at);
@@ -47,12 +47,12 @@ pub fn next<'s, 'a>(c: &'s mut Cursor<'a>, due: bool) -> Found
 }
 
 // One request at a place, with plain parameters: for a caller that keeps the place itself, and for covered functions.
-pub fn next_at(src: &[u8], at: usize, mode: Mode, due: bool) -> Step
+pub fn next_at(src: &[u8], at: usize, mode: Mode, due: bool) -> Request
     ensures { λ r. ⌜ r ≡ stepAt (now (src .entry)) at mode due ⌝ }
 {
     let mut c = Cursor { src, at, mode };
     let found = next(&mut c, due);
-    Step { found, at: c.at }
+    Request { found, at: c.at }
 }
 
 // The record of a number, from 0: for a caller that has a number, as from a refusal, and wants the record's bytes.

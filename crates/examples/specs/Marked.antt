@@ -23,8 +23,8 @@ use Rattle.plane.specs.declared.Area.{Area}
 use Rattle.plane.specs.declared.Area.the-variants as Area
 use Rattle.plane.specs.Rings.{held, near, near-first, all-near, narrow}
 use Rattle.plane.specs.Areas.{east, north, edge-term, signed-sum, areaOf}
-use Rattle.crossing.specs.declared.Verdict.{Verdict}
-use Rattle.crossing.specs.declared.Verdict.the-variants as Verdict
+use Rattle.crossing.specs.declared.RingVerdict.{RingVerdict}
+use Rattle.crossing.specs.declared.RingVerdict.the-variants as RingVerdict
 use Rattle.crossing.specs.Edges.{edges-meet, boxes-overlap, beside-line, spans-overlap, one-side, neighbours-overlap, equal-ends, side, dot}
 use Rattle.crossing.specs.Search.{verdictOf, searched, first-edge, second-edge, least, faulty-pair}
 use Rattle.made.specs.Made.{sum}
@@ -33,7 +33,7 @@ use Rattle.area.specs.declared.Areas.the-variants as Areas
 use Rattle.area.specs.BorderRings.{totalFrom, areasOf, netOf}
 use Rattle.classes.specs.declared.Class.{Class}
 use Rattle.classes.specs.declared.Class.the-variants.{Building, Road, Parcel}
-use Rattle.classes.specs.Classes.{beginsWith, endsIn, isMarked, isRoad, isWater, classOf, isSurface}
+use Rattle.classes.specs.Classes.{beginsWith, endsIn, beginsInKind2, isRoad, isWater, classOf, isSurface}
 
 -- what is asked
 data Question : Type 0 where
@@ -78,11 +78,11 @@ ofArea (Area.Doubled d) = d ∷ []
 ofArea Area.Wide = []
 ofArea Area.Missing = []
 
-abbrev ofVerdict : Verdict → Answer
-ofVerdict Verdict.Simple = passes
-ofVerdict (Verdict.Faulty i j) = numbers (pos i ∷ pos j ∷ [])
-ofVerdict Verdict.Wide = refused tooWide
-ofVerdict Verdict.Missing = refused noSuch
+abbrev ofVerdict : RingVerdict → Answer
+ofVerdict RingVerdict.Simple = passes
+ofVerdict (RingVerdict.Faulty i j) = numbers (pos i ∷ pos j ∷ [])
+ofVerdict RingVerdict.Wide = refused tooWide
+ofVerdict RingVerdict.Missing = refused noSuch
 
 abbrev ofAreas : Areas → List ℤ
 ofAreas (Areas.Of outer inner) = outer ∷ inner ∷ []
@@ -90,7 +90,7 @@ ofAreas Areas.Wide = []
 ofAreas Areas.Missing = []
 
 answer : Question → Answer
-unfolding realOf realSigned realAt realIs isNeat isToken thousandths signed signs signOf lean ended value unled run integerOf integerAt integerIs verticesOf islandOf areaOf narrow held near near-first all-near signed-sum edge-term east north verdictOf searched first-edge second-edge least faulty-pair edges-meet boxes-overlap beside-line spans-overlap one-side neighbours-overlap equal-ends side dot areasOf totalFrom sum classOf isRoad isWater isMarked beginsWith endsIn same isSurface
+unfolding realOf realSigned realAt realIs isNeat isToken thousandths signed signs signOf lean ended value unled run integerOf integerAt integerIs verticesOf islandOf areaOf narrow held near near-first all-near signed-sum edge-term east north verdictOf searched first-edge second-edge least faulty-pair edges-meet boxes-overlap beside-line spans-overlap one-side neighbours-overlap equal-ends side dot areasOf totalFrom sum classOf isRoad isWater beginsInKind2 beginsWith endsIn same isSurface
 answer (real mode s) = ofDecimal (realOf mode (text s))
 answer (integer mode s) = ofWhole (integerOf mode (text s))
 answer (vertices n) = ofStep (verticesOf 1 1 n)

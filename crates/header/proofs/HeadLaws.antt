@@ -31,7 +31,7 @@ use Rattle.heading.specs.declared.Header.{Header}
 use Rattle.header.specs.declared.Headed.{Headed}
 use Rattle.header.specs.declared.Ahead.{Ahead}
 use Rattle.header.specs.declared.Ahead.the-variants.{Sections, Refused}
-use Rattle.header.specs.Header.{firstWords, isWord, kindOf, isNamed, scaled, scaleLine, headScale, nameLine, headName, firstLine, headed}
+use Rattle.header.specs.Header.{firstWords, isWord, kindSaid, isNamed, ofScale, scaleLine, headScale, nameLine, headName, firstLine, headed}
 use Rattle.heading.specs.Heading.{isName}
 
 -- a content and the line end behind it
@@ -67,7 +67,7 @@ line-front mode bs len width q = by (line-view mode false bs len width q)
 
 -- the three contents of a header, and what they say
 pub record Says (mode : Mode) (h : Header) (c₁ c₂ c₃ : List ℕ) : Type 0 where
-  pub kind : kindOf mode c₁ ≡ h .kind
+  pub kind : kindSaid mode c₁ ≡ h .kind
   pub known : h .kind ≡ 0 → ⊥
   pub named : isNamed mode (h .kind) c₂ ≡ true
   pub name : trimmed c₂ ≡ h .name
@@ -148,7 +148,7 @@ third-view : (mode : Mode) (kind : ℕ) (name : List ℕ) (at : ℕ) (bs : List 
 unfolding headScale
 third-view mode kind name at bs = by-line (lineOf mode false bs) refl
   where
-    by-real : (len width : ℕ) → Front mode bs len width → (d : Decimal) → realOf mode (take len bs) ≡ d → FoundIn (Third mode kind name at bs) (scaled kind name at width d)
+    by-real : (len width : ℕ) → Front mode bs len width → (d : Decimal) → realOf mode (take len bs) ≡ d → FoundIn (Third mode kind name at bs) (ofScale kind name at width d)
     by-real len width f (Decimal.Is z) q =
         cond-elim (FoundIn (Third mode kind name at bs)) (ltZ (pos 0) z) _ _
         (λ a. record { c₃ = take len bs; e₃ = f .e; rest = drop width bs; split = f .split; third = f .whole; scale = q; above = a; kind-is = refl; name-is = refl; long = ap (λ (n : ℕ). at + n) (f .wide) })
@@ -196,7 +196,7 @@ first-view mode bs = by-line (lineOf mode false bs) refl
     by-line (Got len width) q =
         let f = line-front mode bs len width q in
         let c = take len bs in
-        let kind = kindOf mode c in
+        let kind = kindSaid mode c in
         let r = headName mode kind width (drop width bs) in
         cond-elim (FoundIn (IsHead mode bs)) (eqb kind 0) _ _
         (λ _. tt)
@@ -257,8 +257,8 @@ word-loose c = go (wordOf Exact c) refl
     go (Word.Is start len) e t = rw (word-widens c start len e)
     go Word.Padded e t = absurd (let y : _≡_ {A = ℕ} 0 1 = cc in omega arith)
 
-kind-loose : (c : List ℕ) → (kindOf Exact c ≡ 0 → ⊥) → kindOf Loose c ≡ kindOf Exact c
-unfolding kindOf
+kind-loose : (c : List ℕ) → (kindSaid Exact c ≡ 0 → ⊥) → kindSaid Loose c ≡ kindSaid Exact c
+unfolding kindSaid
 kind-loose c = go (isWord (wordOf Exact c)) refl
   where
     go : (x : Bool) → isWord (wordOf Exact c) ≡ x → (cond x (place 1 firstWords (trimmed c)) 0 ≡ 0 → ⊥)

@@ -33,7 +33,7 @@ use Rattle.number.proofs.WordLaws.{word-is}
 use Rattle.heading.proofs.HeadingWays.{scale-low, scale-above}
 use Rattle.header.specs.declared.Headed.{Headed}
 use Rattle.header.specs.declared.Ahead.the-variants.{Sections}
-use Rattle.header.specs.Header.{firstWords, stopped, kindOf, isNamed, scaled, scaleLine, headScale, nameLine, headName, firstLine, headed}
+use Rattle.header.specs.Header.{firstWords, stopped, kindSaid, isNamed, ofScale, scaleLine, headScale, nameLine, headName, firstLine, headed}
 use Rattle.heading.specs.Heading.{isName}
 
 -- the part `&s[i..i + n]` of a slice, as the borrow checker states it
@@ -64,8 +64,8 @@ module _ (w : List ℕ) (a : Bool) (p : a ≡ same w (text "MAPPA")) where
 pub ruleset kind-ways = (kind-1, kind-2, kind-3, kind-0)
 
 module _ (mode : Mode) (c : List ℕ) (w : Word) (q : w ≡ wordOf mode c) where
-  pub kind-padded : w ≡ Word.Padded → 0 ≡ kindOf mode c
-  unfolding kindOf
+  pub kind-padded : w ≡ Word.Padded → 0 ≡ kindSaid mode c
+  unfolding kindSaid
   kind-padded e = rw (← q, e)
 
   module _ (start len : ℕ) (e : w ≡ Word.Is start len) where
@@ -75,8 +75,8 @@ module _ (mode : Mode) (c : List ℕ) (w : Word) (q : w ≡ wordOf mode c) where
     pub word-fits : length c < 2 ^ 64 → Fits w64 (start + len)
     word-fits h = record { fits = omega (arith, word-within) }
 
-    pub kind-word : (k : ℕ) → k ≡ place 1 firstWords (part c start len) → k ≡ kindOf mode c
-    unfolding kindOf
+    pub kind-word : (k : ℕ) → k ≡ place 1 firstWords (part c start len) → k ≡ kindSaid mode c
+    unfolding kindSaid
     kind-word k p =
         let s : part c start len ≡ trimmed c = rw (add-sub-cancel-left start len) (word-is mode c start len (sym q ∙ e) .1) in
         p ∙ ap (place 1 firstWords) s ∙ rw (← q, e)
@@ -155,8 +155,8 @@ module _ (mode : Mode) (kind : ℕ) (name src : List ℕ) (at : ℕ) (l : Line) 
   scale-bad number r e o = o ∙ scale-as (Bad number) e
 
   module _ (len width : ℕ) (e : l ≡ Got len width) (d : Decimal) (o : d ≡ realOf mode (part src at len)) where
-    real-as : (x : Decimal) → d ≡ x → scaled kind name at width x ≡ headScale mode kind name at (drop at src)
-    real-as x f = ap (scaled kind name at width) (rw (add-sub-cancel-left at len) at (sym f ∙ o)) ∙ scale-as (Got len width) e
+    real-as : (x : Decimal) → d ≡ x → ofScale kind name at width x ≡ headScale mode kind name at (drop at src)
+    real-as x f = ap (ofScale kind name at width) (rw (add-sub-cancel-left at len) at (sym f ∙ o)) ∙ scale-as (Got len width) e
 
     pub scale-malformed : (r : Headed) → d ≡ Decimal.Malformed → r ≡ stopped malformed 3 at → r ≡ headScale mode kind name at (drop at src)
     scale-malformed r f p = p ∙ real-as Decimal.Malformed f
@@ -221,7 +221,7 @@ module _ (mode : Mode) (src : List ℕ) (l : Line) (q : l ≡ lineOf mode false 
     pub first-within : width ≤ length src
     first-within = first-is .within
 
-    module _ (k : ℕ) (o : k ≡ kindOf mode (take len src)) (r : Headed) where
+    module _ (k : ℕ) (o : k ≡ kindSaid mode (take len src)) (r : Headed) where
       pub head-none : k ≡ 0 → r ≡ stopped badHeader 1 0 → r ≡ headed mode src
       head-none z p = p ∙ rw (← o, z) at (head-as (Got len width) e)
 

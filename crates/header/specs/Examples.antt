@@ -16,12 +16,12 @@ use Rattle.number.specs.Number.{value, ended, lean, signOf, signs, signed, thou
 use Rattle.heading.specs.declared.Header.{Header}
 use Rattle.header.specs.declared.Headed.{Headed}
 use Rattle.header.specs.declared.Ahead.the-variants.{Sections}
-use Rattle.header.specs.Header.{firstWords, stopped, kindOf, isNamed, headScale, headName, headed}
+use Rattle.header.specs.Header.{firstWords, stopped, kindSaid, isNamed, headScale, headName, headed}
 use Rattle.heading.specs.Heading.{nameByte, isName, isHeader}
 
 -- `headed` with every definition opened, so that it computes
 unfoldable pub computed : Mode → List ℕ → Headed
-unfolding headed headName headScale kindOf isNamed isName nameByte firstWords place allAt same lineOf lineIs contentIs content endsCR run all wordOf trimmed unled kept realOf realSigned realAt realIs isNeat isToken thousandths signed signs signOf lean ended value
+unfolding headed headName headScale kindSaid isNamed isName nameByte firstWords place allAt same lineOf lineIs contentIs content endsCR run all wordOf trimmed unled kept realOf realSigned realAt realIs isNeat isToken thousandths signed signs signOf lean ended value
 computed mode bs = headed mode bs
 
 -- the header of a text

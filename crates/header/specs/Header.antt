@@ -35,23 +35,23 @@ isWord (Word.Is start len) = true
 isWord Word.Padded = false
 
 -- record 1 is one of the first words: its kind, or 0
-unfoldable pub kindOf : Mode → List ℕ → ℕ
-kindOf mode c = cond (isWord (wordOf mode c)) (place 1 firstWords (trimmed c)) 0
+unfoldable pub kindSaid : Mode → List ℕ → ℕ
+kindSaid mode c = cond (isWord (wordOf mode c)) (place 1 firstWords (trimmed c)) 0
 
 -- record 2 is the name
 unfoldable pub isNamed : Mode → ℕ → List ℕ → Bool
 isNamed mode kind c = isWord (wordOf mode c) && isName kind (trimmed c)
 
 -- record 3 is the scale, a real above 0: form (8) first, then 6
-abbrev pub scaled : ℕ → List ℕ → ℕ → ℕ → Decimal → Headed
-scaled kind name at width (Decimal.Is z) =
+abbrev pub ofScale : ℕ → List ℕ → ℕ → ℕ → Decimal → Headed
+ofScale kind name at width (Decimal.Is z) =
     cond (ltZ (pos 0) z)
     (record { ahead = Sections (at + width); header = record { kind = kind; name = name; scale = z } })
     (stopped badHeader 3 at)
-scaled kind name at width Decimal.Malformed = stopped malformed 3 at
+ofScale kind name at width Decimal.Malformed = stopped malformed 3 at
 
 abbrev pub scaleLine : Mode → ℕ → List ℕ → ℕ → List ℕ → Line → Headed
-scaleLine mode kind name at bs (Got len width) = scaled kind name at width (realOf mode (take len bs))
+scaleLine mode kind name at bs (Got len width) = ofScale kind name at width (realOf mode (take len bs))
 scaleLine mode kind name at bs (Bad number) = stopped number 3 at
 
 unfoldable pub headScale : Mode → ℕ → List ℕ → ℕ → List ℕ → Headed
@@ -69,9 +69,9 @@ headName mode kind at bs = nameLine mode kind at bs (lineOf mode false bs)
 
 abbrev pub firstLine : Mode → List ℕ → Line → Headed
 firstLine mode bs (Got len width) =
-    cond (eqb (kindOf mode (take len bs)) 0)
+    cond (eqb (kindSaid mode (take len bs)) 0)
     (stopped badHeader 1 0)
-    (headName mode (kindOf mode (take len bs)) width (drop width bs))
+    (headName mode (kindSaid mode (take len bs)) width (drop width bs))
 firstLine mode bs (Bad number) = stopped number 1 0
 
 -- the header of a file, and where its sections begin

@@ -4,7 +4,7 @@ ghost use mathlib.Core.Path.{_≡_};
 ghost use Prim.Native.Nat.{_≤_};
 ghost use lib.ListN.{length, drop};
 ghost use Rattle.laws.specs.Lists.{place};
-ghost use Rattle.header.specs.Header.{firstWords, stopped, kindOf, headScale, headName, headed};
+ghost use Rattle.header.specs.Header.{firstWords, stopped, kindSaid, headScale, headName, headed};
 use heading::Header;
 use heading::is_name;
 use number::Decimal;
@@ -53,7 +53,7 @@ fn kind_of_word(w: &[u8]) -> usize
 }
 
 fn kind_of(c: &[u8], mode: Mode) -> usize
-    ensures { λ r. ⌜ r ≡ kindOf mode (now (c .entry)) ⌝ }
+    ensures { λ r. ⌜ r ≡ kindSaid mode (now (c .entry)) ⌝ }
 {
     match word_of(c, mode) {
         Word::Is { start, len } => {

@@ -28,7 +28,7 @@ use Rattle.machine.specs.declared.State.{State}
 use Rattle.machine.specs.declared.State.the-variants.{Due, Field, Island, X}
 use Rattle.machine.specs.declared.Step.the-variants.{Go}
 use Rattle.kinds.specs.Kinds.{schedule, nextIn, nextOf, isListed, wantAt}
-use Rattle.machine.specs.Machine.{wantOf, ringOf, verticesOf, fieldOf, stepOf}
+use Rattle.machine.specs.Machine.{wantOf, freshRing, verticesOf, fieldOf, stepOf}
 use Rattle.sheet.specs.Tables.{Tables, cellOf, setLast, put}
 use Rattle.sheet.proofs.Pass.{Pass, done}
 use Rattle.made.specs.Made.{cellAt, natOf, countAt, kindOf, lettersOf, sum, fourAtLeast, inRange, hasField, isCell, areLetters, areCounts, isCoded}
@@ -50,7 +50,7 @@ islandsDue t ps = cond (holds ps 10) 0 (countAt t 10)
 
 -- the state behind the fields
 abbrev pub behind : ℕ → ℕ → ℕ → State
-behind kind i v = cond (hasField kind 11) (cond (eqb kind 1) (cond (eqb i 0) (X (ringOf true 0 v)) (Island i v i)) (X (ringOf false 0 v))) Due
+behind kind i v = cond (hasField kind 11) (cond (eqb kind 1) (cond (eqb i 0) (X (freshRing true 0 v)) (Island i v i)) (X (freshRing false 0 v))) Due
 
 abbrev pub stateAt : Tables → List ℕ → State
 stateAt t [] = behind (kindOf t) (countAt t 10) (countAt t 11)
@@ -324,7 +324,7 @@ module _ (mode : Mode) (t : Tables) (cells : (p : ℕ) → p < 12 → isCell (ki
       go : (x : Bool) → eqb (kindOf t) 1 ≡ x → verticesOf (kindOf t) (countAt t 10) (countAt t 11) ≡ Go (behind (kindOf t) (countAt t 10) (countAt t 11))
       go true q =
           let b = border-is (kindOf t) (countAt t 10) (countAt t 11) (t .islands) q counts in
-          rw (e, q, le-leb (4 + 4 * countAt t 10) (countAt t 11) (b .enough)) (go-cond (eqb (countAt t 10) 0) (X (ringOf true 0 (countAt t 11))) (Island (countAt t 10) (countAt t 11) (countAt t 10)))
+          rw (e, q, le-leb (4 + 4 * countAt t 10) (countAt t 11) (b .enough)) (go-cond (eqb (countAt t 10) 0) (X (freshRing true 0 (countAt t 11))) (Island (countAt t 10) (countAt t 11) (countAt t 10)))
       go false q = rw (e, q, le-leb 2 (countAt t 11) (line-is (kindOf t) (countAt t 10) (countAt t 11) (t .islands) q e counts))
 
   field-on : (p : ℕ) (ps : List ℕ) → Place (kindOf t) p ps → (n : ℕ) → (p ≡ 2 → n ≡ countAt t 2) → (p ≡ 10 → n ≡ countAt t 10) → (p ≡ 11 → n ≡ countAt t 11)

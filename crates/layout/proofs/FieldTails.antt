@@ -21,7 +21,7 @@ use Rattle.number.proofs.WordLaws.{trimmed-first, trimmed-last, trimmed-plain}
 use Rattle.token.specs.declared.Token.the-variants.{Say}
 use Rattle.token.specs.Lex.{lexOf}
 use Rattle.kinds.specs.Kinds.{schedule, nextOf, isListed, wantAt}
-use Rattle.machine.specs.Machine.{ringOf, verticesOf, fieldOf}
+use Rattle.machine.specs.Machine.{freshRing, verticesOf, fieldOf}
 use Rattle.machine.specs.declared.State.the-variants.{Due, Field}
 use Rattle.machine.specs.declared.Step.{Step}
 use Rattle.machine.specs.declared.Step.the-variants.{Go, No, End}
@@ -209,7 +209,7 @@ module _ (mode : Mode) (c e : List ℕ) (t : ℕ) (l : LineEnd mode e) (kind p i
     vertices-said = ap natOf (subst (λ (q : ℕ). cellAt part₁ q ≡ cellOf (wantAt q) t) v cell-here)
 
     -- the points of one ring, or of a line, follow
-    module _ (closed : Bool) (now : Tables) (cs : List ℕ) (w : PointsTail mode (ringOf closed 0 t) [] part₁ now cs) where
+    module _ (closed : Bool) (now : Tables) (cs : List ℕ) (w : PointsTail mode (freshRing closed 0 t) [] part₁ now cs) where
       rows-now : now .rows ≡ part₁ .rows
       rows-now = ap (λ (o : Tables). o .rows) (w .is)
 
@@ -219,7 +219,7 @@ module _ (mode : Mode) (c e : List ℕ) (t : ℕ) (l : LineEnd mode e) (kind p i
       points-now : now .points ≡ w .more
       points-now = ap (λ (o : Tables). o .points) (w .is) ∙ rw (k .points)
 
-      none-behind : sizesLeft (ringOf closed 0 t) part₁ ≡ []
+      none-behind : sizesLeft (freshRing closed 0 t) part₁ ≡ []
       none-behind = rw (k .islands)
 
       long-now : length (now .points) ≡ 2 * t
@@ -237,7 +237,7 @@ module _ (mode : Mode) (c e : List ℕ) (t : ℕ) (l : LineEnd mode e) (kind p i
       reals-now = rw points-now (w .reals)
 
     -- a line's points follow
-    line-fields : eqb kind 1 ≡ false → 2 ≤ t → (now : Tables) (cs : List ℕ) → PointsTail mode (ringOf false 0 t) [] part₁ now cs → Fielded now cs
+    line-fields : eqb kind 1 ≡ false → 2 ≤ t → (now : Tables) (cs : List ℕ) → PointsTail mode (freshRing false 0 t) [] part₁ now cs → Fielded now cs
     line-fields n h now cs w =
         one-fields false now cs w
         (λ zeros. line-body kind 0 t now (ap natOf (zeros 10 (omega arith) (line-islands kind p (k .low) (k .most) (k .field) v n))) (counts-now false now cs w)
@@ -248,7 +248,7 @@ module _ (mode : Mode) (c e : List ℕ) (t : ℕ) (l : LineEnd mode e) (kind p i
         either false = refl
 
     -- a border's with no islands
-    ring-fields : eqb kind 1 ≡ true → 4 + 4 * i ≤ t → i ≡ 0 → (now : Tables) (cs : List ℕ) → PointsTail mode (ringOf true 0 t) [] part₁ now cs → Fielded now cs
+    ring-fields : eqb kind 1 ≡ true → 4 + 4 * i ≤ t → i ≡ 0 → (now : Tables) (cs : List ℕ) → PointsTail mode (freshRing true 0 t) [] part₁ now cs → Fielded now cs
     unfolding sum all closing areClosed isClosed
     ring-fields n h z now cs w =
         let I = islands-now true now cs w in

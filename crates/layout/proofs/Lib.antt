@@ -13,3 +13,4 @@ mod MadeRows
 mod PassRows
 pub mod ReadMade
 pub mod ReadWritten
+pub mod UsedLaws

@@ -15,7 +15,7 @@ use Rattle.number.specs.Words.{wordOf, trimmed}
 use Rattle.number.specs.Number.{realLeast, realMost, isReal}
 use Rattle.number.proofs.NumberLaws.{real-in}
 use Rattle.heading.specs.declared.Header.{Header}
-use Rattle.header.specs.Header.{firstWords, isWord, kindOf, isNamed}
+use Rattle.header.specs.Header.{firstWords, isWord, kindSaid, isNamed}
 use Rattle.heading.specs.Heading.{isName, isHeader}
 use Rattle.header.proofs.HeadLaws.{Says, head-view}
 use Rattle.sheet.specs.Tables.{Tables}
@@ -32,9 +32,9 @@ unfolding firstWords
 three-words = refl
 
 -- the first word of a header that was read is in either mode one of the list, and its place is the kind
-pub kind-says : (mode : Mode) (c : List ℕ) (kind : ℕ) → kindOf mode c ≡ kind → (kind ≡ 0 → ⊥)
+pub kind-says : (mode : Mode) (c : List ℕ) (kind : ℕ) → kindSaid mode c ≡ kind → (kind ≡ 0 → ⊥)
     → (isWord (wordOf mode c) ≡ true) × (kind ≤ 3) × (trimmed c ≡ getD firstWords (kind - 1) [])
-unfolding kindOf
+unfolding kindSaid
 kind-says mode c kind q n =
     let r = cond-first (isWord (wordOf mode c)) (place 1 firstWords (trimmed c)) 0 kind (λ e. n (sym e)) q in
     let v = place-is 1 firstWords (trimmed c) (positive (r .1)) in

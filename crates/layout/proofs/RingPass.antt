@@ -22,7 +22,7 @@ use Rattle.machine.specs.declared.Ring.{Ring}
 use Rattle.machine.specs.declared.State.{State}
 use Rattle.machine.specs.declared.State.the-variants.{Due, Island, X, Y}
 use Rattle.machine.specs.declared.Step.the-variants.{Go}
-use Rattle.machine.specs.Machine.{wantOf, ringOf, islandOf, isShut, ringStep, vertexOf, stepOf}
+use Rattle.machine.specs.Machine.{wantOf, freshRing, islandOf, isShut, ringStep, vertexOf, stepOf}
 use Rattle.sheet.specs.Tables.{Tables, put, ringAfter}
 use Rattle.sheet.proofs.Pass.{Pass, done}
 use Rattle.sheet.proofs.Join.{pass-append}
@@ -53,7 +53,7 @@ vertex-pass {mode} {st} {st₂} {o} {o₂} {bs} r x y hx hy s p =
 
 -- where the last vertex of a ring leads
 abbrev afterRing : Bool → ℕ → ℕ → State
-afterRing closed rings next = cond (eqb rings 0) Due (X (ringOf closed (rings - 1) next))
+afterRing closed rings next = cond (eqb rings 0) Due (X (freshRing closed (rings - 1) next))
 
 pub go-cond : (b : Bool) (s t : State) → cond b (Go s) (Go t) ≡ Go (cond b s t)
 go-cond true s t = refl
@@ -71,7 +71,7 @@ later r x y =
 
 step-last : (r : Ring) (x y : ℤ) (next : ℕ) → r .left ≤ 1 → Meets r (x ∷ y ∷ []) → vertexOf r (lift x) (lift y) next ≡ Go (afterRing (r .closed) (r .rings) next)
 unfolding vertexOf ringStep
-step-last r x y next h e = rw (le-leb (r .left) 1 h, e) (go-cond (eqb (r .rings) 0) Due (X (ringOf (r .closed) (r .rings - 1) next)))
+step-last r x y next h e = rw (le-leb (r .left) 1 h, e) (go-cond (eqb (r .rings) 0) Due (X (freshRing (r .closed) (r .rings - 1) next)))
 
 step-on : (r : Ring) (x y : ℤ) (next : ℕ) → 1 < r .left → vertexOf r (lift x) (lift y) next ≡ Go (X (later r x y))
 unfolding vertexOf ringStep
@@ -111,7 +111,7 @@ are-reals-append (z ∷ s) t = go (isReal z) (are-reals-append s t)
     go false h = refl
 
 -- a ring that is closed meets
-closed-meets : (rings n : ℕ) (s : List ℤ) → 1 ≤ n → 2 * n ≤ length s → isClosed n s ≡ true → Meets (ringOf true rings n) (take (2 * n) s)
+closed-meets : (rings n : ℕ) (s : List ℤ) → 1 ≤ n → 2 * n ≤ length s → isClosed n s ≡ true → Meets (freshRing true rings n) (take (2 * n) s)
 unfolding isClosed isShut
 closed-meets rings n s h l e =
     let i : length (take (2 * n) s) - 2 ≡ 2 * (n - 1) = omega (arith, length-take-le (2 * n) s l) in
@@ -139,7 +139,7 @@ next-size a m ms =
     let i : length (a ++ m ∷ ms) - suc (length ms) ≡ length a = omega (arith, length-append a (m ∷ ms)) in
     rw i (lib.Seq.getD-append-seam a m ms 0)
 
-after-is : (k next m : ℕ) → next ≡ m → afterRing true (suc k) next ≡ X (ringOf true k m)
+after-is : (k next m : ℕ) → next ≡ m → afterRing true (suc k) next ≡ X (freshRing true k m)
 after-is k next m e =
     let i : suc k - 1 ≡ k = omega arith in
     rw (e, ne-eqb (suc k) 0 (λ z. omega arith), i)
@@ -147,11 +147,11 @@ after-is k next m e =
 -- the outer ring of n vertices and the islands of sizes ns behind it
 pub rings-pass : {mode : Mode} (ns : List ℕ) (n : ℕ) (s : List ℤ) (a : List ℕ) (o : Tables) → o .islands ≡ a ++ ns → 1 ≤ n → all fourAtLeast ns ≡ true
     → 2 * (n + sum ns) ≤ length s → areReals (take (2 * (n + sum ns)) s) ≡ true → areClosed (n ∷ ns) s ≡ true
-    → Pass mode (X (ringOf true (length ns) n)) o (realsText (take (2 * (n + sum ns)) s)) Due (pointed o (take (2 * (n + sum ns)) s))
+    → Pass mode (X (freshRing true (length ns) n)) o (realsText (take (2 * (n + sum ns)) s)) Due (pointed o (take (2 * (n + sum ns)) s))
 unfolding sum all areClosed ringAfter
 rings-pass [] n s a o q h f l e c =
     let i : 2 * (n + 0) ≡ 2 * n = omega arith in
-    rw i (ring-pass (take (2 * n) s) (ringOf true 0 n) o (length-take-le (2 * n) s (omega arith)) h (rw i at e) (closed-meets 0 n s h (omega arith) (and-left (isClosed n s) true c)))
+    rw i (ring-pass (take (2 * n) s) (freshRing true 0 n) o (length-take-le (2 * n) s (omega arith)) h (rw i at e) (closed-meets 0 n s h (omega arith) (and-left (isClosed n s) true c)))
 rings-pass {mode} (m ∷ ms) n s a o q h f l e c =
     let k = 2 * (m + sum ms) in
     let i : 2 * (n + (m + sum ms)) ≡ 2 * n + k = omega arith in
@@ -162,23 +162,23 @@ rings-pass {mode} (m ∷ ms) n s a o q h f l e c =
     let c₁ = and-left (isClosed n s) (areClosed (m ∷ ms) (drop (2 * n) s)) c in
     let c₂ = and-right (isClosed n s) (areClosed (m ∷ ms) (drop (2 * n) s)) c in
     let four = leb-true 4 m (and-left (leb 4 m) (all fourAtLeast ms) f) in
-    let size : ringAfter (X (ringOf true (suc (length ms)) n)) o ≡ m = rw q (next-size a m ms) in
-    let first = ring-pass {mode = mode} (take (2 * n) s) (ringOf true (suc (length ms)) n) o (length-take-le (2 * n) s (omega arith)) h e₂ (closed-meets (suc (length ms)) n s h (omega arith) c₁) in
+    let size : ringAfter (X (freshRing true (suc (length ms)) n)) o ≡ m = rw q (next-size a m ms) in
+    let first = ring-pass {mode = mode} (take (2 * n) s) (freshRing true (suc (length ms)) n) o (length-take-le (2 * n) s (omega arith)) h e₂ (closed-meets (suc (length ms)) n s h (omega arith) c₁) in
     let rest = rings-pass {mode = mode} ms m (drop (2 * n) s) (a ++ m ∷ []) (pointed o (take (2 * n) s)) (q ∙ sym (append-assoc a (m ∷ []) ms)) (omega arith)
     (and-right (leb 4 m) (all fourAtLeast ms) f) (omega (arith, length-drop (2 * n) s)) e₃ c₂ in
     rw (t, reals-append (take (2 * n) s) (take k (drop (2 * n) s)), ← append-assoc (o .points) (take (2 * n) s) (take k (drop (2 * n) s)))
-    (pass-append (subst (λ (st : State). Pass mode (X (ringOf true (suc (length ms)) n)) o (realsText (take (2 * n) s)) st (pointed o (take (2 * n) s))) (after-is (length ms) _ m size) first) rest)
+    (pass-append (subst (λ (st : State). Pass mode (X (freshRing true (suc (length ms)) n)) o (realsText (take (2 * n) s)) st (pointed o (take (2 * n) s))) (after-is (length ms) _ m size) first) rest)
 
 -- the vertices of a line
 pub line-points-pass : {mode : Mode} (n : ℕ) (s : List ℤ) (o : Tables) → 1 ≤ n → length s ≡ 2 * n → areReals s ≡ true
-    → Pass mode (X (ringOf false 0 n)) o (realsText s) Due (pointed o s)
+    → Pass mode (X (freshRing false 0 n)) o (realsText s) Due (pointed o s)
 unfolding isShut
-line-points-pass n s o h l e = ring-pass s (ringOf false 0 n) o l h e refl
+line-points-pass n s o h l e = ring-pass s (freshRing false 0 n) o l h e refl
 
 -- ---- island counts
 
 pub islands-pass : {mode : Mode} (ns : List ℕ) (spare rings : ℕ) (o : Tables) → all fourAtLeast ns ≡ true → sum ns + 4 ≤ spare → spare ≤ 9999 → 1 ≤ length ns
-    → Pass mode (Island (length ns) spare rings) o (integersText ns) (X (ringOf true rings (spare - sum ns))) (islanded o ns)
+    → Pass mode (Island (length ns) spare rings) o (integersText ns) (X (freshRing true rings (spare - sum ns))) (islanded o ns)
 unfolding sum all integersText wantOf stepOf islandOf put
 islands-pass [] spare rings o f l m h = absurd (omega arith)
 islands-pass (n ∷ []) spare rings o f l m h =
@@ -198,7 +198,7 @@ islands-pass {mode} (n ∷ k ∷ ns) spare rings o f l m h =
 
 pub border-pass : {mode : Mode} (ns : List ℕ) (v : ℕ) (s : List ℤ) (o : Tables) → all fourAtLeast ns ≡ true → sum ns + 4 ≤ v → v ≤ 9999
     → 2 * v ≤ length s → areReals (take (2 * v) s) ≡ true → areClosed (ringSizes v ns) s ≡ true
-    → Pass mode (cond (eqb (length ns) 0) (X (ringOf true 0 v)) (Island (length ns) v (length ns))) o (integersText ns ++ realsText (take (2 * v) s)) Due
+    → Pass mode (cond (eqb (length ns) 0) (X (freshRing true 0 v)) (Island (length ns) v (length ns))) o (integersText ns ++ realsText (take (2 * v) s)) Due
     (pointed (islanded o ns) (take (2 * v) s))
 unfolding ringSizes sum integersText
 border-pass {mode} ns v s o f l m h e c =
@@ -206,9 +206,9 @@ border-pass {mode} ns v s o f l m h e c =
     let p = rings-pass {mode = mode} ns (v - sum ns) s (o .islands) (islanded o ns) refl (omega arith) f (omega arith) (rw i e) c in
     go ns (rw i at p) f l
   where
-    go : (ns : List ℕ) → Pass mode (X (ringOf true (length ns) (v - sum ns))) (islanded o ns) (realsText (take (2 * v) s)) Due (pointed (islanded o ns) (take (2 * v) s))
+    go : (ns : List ℕ) → Pass mode (X (freshRing true (length ns) (v - sum ns))) (islanded o ns) (realsText (take (2 * v) s)) Due (pointed (islanded o ns) (take (2 * v) s))
         → all fourAtLeast ns ≡ true → sum ns + 4 ≤ v
-        → Pass mode (cond (eqb (length ns) 0) (X (ringOf true 0 v)) (Island (length ns) v (length ns))) o (integersText ns ++ realsText (take (2 * v) s)) Due
+        → Pass mode (cond (eqb (length ns) 0) (X (freshRing true 0 v)) (Island (length ns) v (length ns))) o (integersText ns ++ realsText (take (2 * v) s)) Due
         (pointed (islanded o ns) (take (2 * v) s))
     go [] p f l =
         let i : v - 0 ≡ v = omega arith in

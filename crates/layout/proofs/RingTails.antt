@@ -19,7 +19,7 @@ use Rattle.record.specs.RecordView.{LineEnd}
 use Rattle.number.specs.Number.{isReal}
 use Rattle.spelling.specs.Spelling.{integerText, realText}
 use Rattle.token.specs.Lex.{unlift}
-use Rattle.machine.specs.Machine.{ringOf, islandOf, isShut, ringStep, vertexOf}
+use Rattle.machine.specs.Machine.{freshRing, islandOf, isShut, ringStep, vertexOf}
 use Rattle.machine.specs.declared.Ring.{Ring}
 use Rattle.machine.specs.declared.State.the-variants.{X}
 use Rattle.sheet.specs.Tables.{Tables, put}
@@ -131,10 +131,10 @@ module _ (mode : Mode) (c e : List ℕ) (x y next : ℕ) (l : LineEnd mode e) (r
       (λ t after. close-last (r .fresh) (r .left) (r .fx) (r .fy) (sizesLeft r part) x y after (omega (arith, k .some)) (rw t at sh) (rw ms))
       (λ _. sym (w .1))
 
-  y-ring : r .left ≤ 1 → (r .rings ≡ 0 → ⊥) → isShut (r .closed) fx₁ fy₁ x y ≡ true → (now : Tables) (cs : List ℕ) → PointsTail mode (ringOf (r .closed) (r .rings - 1) next) [] part₁ now cs → Now now cs
+  y-ring : r .left ≤ 1 → (r .rings ≡ 0 → ⊥) → isShut (r .closed) fx₁ fy₁ x y ≡ true → (now : Tables) (cs : List ℕ) → PointsTail mode (freshRing (r .closed) (r .rings - 1) next) [] part₁ now cs → Now now cs
   unfolding sum areClosed isClosed closing
   y-ring h z sh now cs w =
-      let ms : sizesLeft r part ≡ next ∷ sizesLeft (ringOf (r .closed) (r .rings - 1) next) part₁ = rw nx (sizes-next (part .islands) (r .rings) (omega arith) (k .all-in)) in
+      let ms : sizesLeft r part ≡ next ∷ sizesLeft (freshRing (r .closed) (r .rings - 1) next) part₁ = rw nx (sizes-next (part .islands) (r .rings) (omega arith) (k .all-in)) in
       y-more (w .more) now cs (w .is) (rw ms (omega (arith, w .long, k .some))) (w .reals)
       (λ t after. close-last (r .fresh) (r .left) (r .fx) (r .fy) (sizesLeft r part) x y (w .more ++ after) (omega (arith, k .some)) (rw t at sh) (rw ms (w .closes t after)))
       (w .text)
@@ -175,12 +175,12 @@ module _ (mode : Mode) (c e : List ℕ) (t : ℕ) (l : LineEnd mode e) (left₀ 
 
   module _ (least : leb 4 t ≡ true) (most : t + 4 ≤ spare) where
     -- the last count: the rings follow
-    island-last : left₀ ≤ 1 → (now : Tables) (cs : List ℕ) → PointsTail mode (ringOf true rings (spare - t)) [] part₂ now cs → Then now cs
+    island-last : left₀ ≤ 1 → (now : Tables) (cs : List ℕ) → PointsTail mode (freshRing true rings (spare - t)) [] part₂ now cs → Then now cs
     unfolding sum all closing areClosed isClosed integersText
     island-last h now cs w =
         let z : length (part .islands ++ t ∷ []) - rings ≡ 0 = omega (arith, length-append (part .islands) (t ∷ []), k .all-in, k .some) in
         let o : t + 0 ≡ t = omega arith in
-        let ms : sizesLeft (ringOf true rings (spare - t)) part₂ ≡ part .islands ++ t ∷ [] = rw z in
+        let ms : sizesLeft (freshRing true rings (spare - t)) part₂ ≡ part .islands ++ t ∷ [] = rw z in
         record {
           counts = t ∷ [];
           more = w .more;

@@ -19,7 +19,7 @@ use Rattle.token.specs.Lex.{mayLieOutside, isKey, keyText}
 use Rattle.machine.specs.declared.State.the-variants.{Due, Field, Island, X}
 use Rattle.machine.specs.declared.Step.the-variants.{Go}
 use Rattle.kinds.specs.Kinds.{codePlace, schedule, wantAt}
-use Rattle.machine.specs.Machine.{wantOf, ringOf, keyStep, stepOf}
+use Rattle.machine.specs.Machine.{wantOf, freshRing, keyStep, stepOf}
 use Rattle.sheet.specs.Tables.{Tables, empty, newRow, put}
 use Rattle.sheet.proofs.Pass.{Pass, done}
 use Rattle.sheet.proofs.Join.{pass-join, pass-append, then-empty}
@@ -186,7 +186,7 @@ module _ (mode : Mode) (t : Tables) (r : Row t) (coded : isCoded mode (kindOf t)
   vertices-most e = counted 0 9999 (cellAt t 11) (field-in mode t (r .cells) (r .letters) (r .counts) coded 11 (omega arith) (omega arith) e) .2
 
   of-border : hasField (kindOf t) 11 ≡ true → eqb (kindOf t) 1 ≡ true
-      → Pass mode (cond (eqb (countAt t 10) 0) (X (ringOf true 0 (countAt t 11))) (Island (countAt t 10) (countAt t 11) (countAt t 10))) whole
+      → Pass mode (cond (eqb (countAt t 10) 0) (X (freshRing true 0 (countAt t 11))) (Island (countAt t 10) (countAt t 11) (countAt t 10))) whole
       (integersText (islandsOf t) ++ realsText (pointsOf t)) Due (firstOf t)
   of-border e q =
       let b = border-is (kindOf t) (countAt t 10) (countAt t 11) (t .islands) q (r .counts) in
@@ -195,7 +195,7 @@ module _ (mode : Mode) (t : Tables) (r : Row t) (coded : isCoded mode (kindOf t)
       rw n at (border-pass {mode = mode} (islandsOf t) (countAt t 11) (t .points) whole (b .fours) (b .spare) (vertices-most e) (s .held) (s .real) (s .closed q))
 
   of-line : hasField (kindOf t) 11 ≡ true → eqb (kindOf t) 1 ≡ false
-      → Pass mode (X (ringOf false 0 (countAt t 11))) whole (integersText (islandsOf t) ++ realsText (pointsOf t)) Due (firstOf t)
+      → Pass mode (X (freshRing false 0 (countAt t 11))) whole (integersText (islandsOf t) ++ realsText (pointsOf t)) Due (firstOf t)
   unfolding integersText
   of-line e q =
       let s = points-are (kindOf t) (countAt t 11) (islandsOf t) (t .points) (r .points) in
@@ -215,7 +215,7 @@ module _ (mode : Mode) (t : Tables) (r : Row t) (coded : isCoded mode (kindOf t)
   points-pass = rw row-whole (by-vertices (hasField (kindOf t) 11) refl (eqb (kindOf t) 1) refl)
     where
       by-vertices : (x : Bool) → hasField (kindOf t) 11 ≡ x → (y : Bool) → eqb (kindOf t) 1 ≡ y
-          → Pass mode (cond x (cond y (cond (eqb (countAt t 10) 0) (X (ringOf true 0 (countAt t 11))) (Island (countAt t 10) (countAt t 11) (countAt t 10))) (X (ringOf false 0 (countAt t 11)))) Due) whole
+          → Pass mode (cond x (cond y (cond (eqb (countAt t 10) 0) (X (freshRing true 0 (countAt t 11))) (Island (countAt t 10) (countAt t 11) (countAt t 10))) (X (freshRing false 0 (countAt t 11)))) Due) whole
           (integersText (islandsOf t) ++ realsText (pointsOf t)) Due (firstOf t)
       by-vertices true e true q = of-border e q
       by-vertices true e false q = of-line e q

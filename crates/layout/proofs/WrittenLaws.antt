@@ -30,7 +30,7 @@ use Rattle.machine.specs.declared.One.{One}
 use Rattle.machine.specs.declared.State.the-variants.{Due}
 use Rattle.heading.specs.declared.Header.{Header}
 use Rattle.header.specs.declared.Ahead.the-variants as Ahead
-use Rattle.header.specs.Header.{firstWords, kindOf, isNamed, headed}
+use Rattle.header.specs.Header.{firstWords, kindSaid, isNamed, headed}
 use Rattle.heading.specs.Heading.{capital, nameByte, isName, isHeader}
 use Rattle.heading.proofs.HeadingLaws.{header-is}
 use Rattle.header.proofs.HeadLaws.{Whole, Says, head-make}
@@ -61,10 +61,10 @@ written-end mode = record { width = 5; ends = eof-ends mode; ok = ok mode }
 
 -- the first word of a kind is read as that kind, in either mode: one computed test
 isFirst : Mode → ℕ → Bool
-isFirst mode k = eqb k 0 || all plain (getD firstWords (k - 1) []) && leb (length (getD firstWords (k - 1) [])) 255 && eqb (kindOf mode (getD firstWords (k - 1) [])) k
+isFirst mode k = eqb k 0 || all plain (getD firstWords (k - 1) []) && leb (length (getD firstWords (k - 1) [])) 255 && eqb (kindSaid mode (getD firstWords (k - 1) [])) k
 
 all-first : (mode : Mode) → below 4 (isFirst mode) ≡ true
-unfolding below isFirst firstWords all kindOf wordOf trimmed unled run kept place same
+unfolding below isFirst firstWords all kindSaid wordOf trimmed unled run kept place same
 all-first Loose = refl
 all-first Exact = refl
 
@@ -133,9 +133,9 @@ header-begins mode h e z =
     let w = getD firstWords (h .kind - 1) [] in
     let end : List ℕ = 13 ∷ 10 ∷ [] in
     let f = rw (ne-eqb (h .kind) 0 (λ q. omega (arith, g .low))) at (below-at 4 (isFirst mode) (h .kind) (all-first mode) (omega (arith, g .high))) in
-    let f₁ = and-left (all plain w && leb (length w) 255) (eqb (kindOf mode w) (h .kind)) f in
+    let f₁ = and-left (all plain w && leb (length w) 255) (eqb (kindSaid mode w) (h .kind)) f in
     let says : Says mode h w (h .name) (realText (h .scale)) = record {
-      kind = eqb-true (kindOf mode w) (h .kind) (and-right (all plain w && leb (length w) 255) (eqb (kindOf mode w) (h .kind)) f);
+      kind = eqb-true (kindSaid mode w) (h .kind) (and-right (all plain w && leb (length w) 255) (eqb (kindSaid mode w) (h .kind)) f);
       known = λ q. omega (arith, g .low);
       named = rw (word-make mode (h .name) (n .first) (n .last), untrimmed (h .name) (n .first) (n .last)) (g .name);
       name = untrimmed (h .name) (n .first) (n .last);
@@ -171,7 +171,3 @@ sheet-meaning mode h count t e =
 pub written-then-read : (h : Header) (count : ℕ) (t : Tables) → judgeOf Exact h count t ≡ Fine → length (sheetText h count t) ≤ fileMost
     → reading Exact (sheetText h count t) ≡ sheet h (usedOf count t)
 written-then-read h count t e l = meaning-reading Exact (sheetText h count t) h (usedOf count t) l (sheet-meaning Exact h count t e)
-
--- **a well made sheet could come from a loose reading**, the length limit apart
-pub made-could-come : (h : Header) (count : ℕ) (t : Tables) → judgeOf Loose h count t ≡ Fine → (bs : List ℕ) × (meaning Loose bs ≡ sheet h (usedOf count t))
-made-could-come h count t e = (sheetText h count t, sheet-meaning Loose h count t e)

@@ -3,3 +3,4 @@ mod LineWays
 pub mod ListLaws
 mod ReadWays
 pub mod Sound
+pub mod LimitLaws

@@ -21,14 +21,14 @@ use Rattle.heading.specs.declared.Header.{Header}
 use Rattle.made.specs.Made.{natOf}
 use Rattle.writer.specs.Put.{Put}
 use Rattle.writer.proofs.Putting.{Putting, putting-start, putting-room, putting-on, putting-end, putting-last, stored-on, put-part}
-use Rattle.listing.specs.Listing.{blank, lineEnd, figure, figures, lineOf, mapLine, classWords, figureAt, fourOf, classLines, rowsLine, refusedLine, sheetLines}
+use Rattle.listing.specs.Listing.{oneBlank, lineFeed, figure, figures, wordLine, mapLine, classWords, figureAt, fourOf, classLines, rowsLine, refusedLine, sheetLines}
 
 -- ---- a figure
 
 module _ (l : List ℕ) (at n : ℕ) (room : at + length (figure n) ≤ length l) where
-  module _ {d : List ℕ} {next : ℕ} (w : Stored l at blank d next) where
+  module _ {d : List ℕ} {next : ℕ} (w : Stored l at oneBlank d next) where
     digits-left : Putting l at (figure n) d next (countText n)
-    digits-left = stored-on (putting-start l at (figure n) room) blank (countText n) refl w
+    digits-left = stored-on (putting-start l at (figure n) room) oneBlank (countText n) refl w
 
     pub digits-at : next ≤ length d
     digits-at = omega (arith, digits-left .room)
@@ -56,16 +56,16 @@ module _ (s : List ℕ) (i : ℕ) where
   unfolding figures
   figures-on h = rw (left s i 0 h)
 
-  pub figures-end : length s ≤ i → figures (drop i s) ≡ lineEnd
+  pub figures-end : length s ≤ i → figures (drop i s) ≡ lineFeed
   unfolding figures
   figures-end h = rw (left-none s i h)
 
 -- ---- a line
 
-module _ (l : List ℕ) (at : ℕ) (word s : List ℕ) (room : at + length (lineOf word s) ≤ length l) where
-  pub line-start : Putting l at (lineOf word s) l at (word ++ figures s)
-  unfolding lineOf
-  line-start = putting-start l at (lineOf word s) room
+module _ (l : List ℕ) (at : ℕ) (word s : List ℕ) (room : at + length (wordLine word s) ≤ length l) where
+  pub line-start : Putting l at (wordLine word s) l at (word ++ figures s)
+  unfolding wordLine
+  line-start = putting-start l at (wordLine word s) room
 
 -- the same figures, and the line of them
 pub one-is : {a b : ℕ} → a ≡ b → a ∷ [] ≡ b ∷ []
@@ -77,16 +77,16 @@ figures-room e at size h = subst (λ (x : List ℕ). at + length (figures x) ≤
 pub figures-put : {s t : List ℕ} → s ≡ t → {l d : List ℕ} {at r : ℕ} → Put l at (figures s) d r → Put l at (figures t) d r
 figures-put e {l} {d} {at} {r} p = subst (λ (x : List ℕ). Put l at (figures x) d r) e p
 
-pub line-room : (word : List ℕ) {s t : List ℕ} → s ≡ t → (at size : ℕ) → at + length (lineOf word t) ≤ size → at + length (lineOf word s) ≤ size
-line-room word e at size h = subst (λ (x : List ℕ). at + length (lineOf word x) ≤ size) (sym e) h
+pub line-room : (word : List ℕ) {s t : List ℕ} → s ≡ t → (at size : ℕ) → at + length (wordLine word t) ≤ size → at + length (wordLine word s) ≤ size
+line-room word e at size h = subst (λ (x : List ℕ). at + length (wordLine word x) ≤ size) (sym e) h
 
-pub line-put : (word : List ℕ) {s t : List ℕ} → s ≡ t → {l d : List ℕ} {at r : ℕ} → Put l at (lineOf word s) d r → Put l at (lineOf word t) d r
-line-put word e {l} {d} {at} {r} p = subst (λ (x : List ℕ). Put l at (lineOf word x) d r) e p
+pub line-put : (word : List ℕ) {s t : List ℕ} → s ≡ t → {l d : List ℕ} {at r : ℕ} → Put l at (wordLine word s) d r → Put l at (wordLine word t) d r
+line-put word e {l} {d} {at} {r} p = subst (λ (x : List ℕ). Put l at (wordLine word x) d r) e p
 
 -- ---- the line of a refusal
 
 pub refused-room : (number place offset size : ℕ) → length (refusedLine number place offset) ≤ size
-    → 0 + length (lineOf (text "REFUSED") (number ∷ place ∷ offset ∷ [])) ≤ size
+    → 0 + length (wordLine (text "REFUSED") (number ∷ place ∷ offset ∷ [])) ≤ size
 unfolding refusedLine
 refused-room number place offset size h = omega (arith, h)
 
@@ -100,21 +100,21 @@ module _ (l : List ℕ) (h : Header) (room : length (mapLine h) ≤ length l) wh
   abbrev scale : List ℕ
   scale = figures (natOf (h .scale) ∷ [])
 
-  pub map-start : Putting l 0 (mapLine h) l 0 (text "MAP" ++ (figure (h .kind) ++ (blank ++ (h .name ++ scale))))
+  pub map-start : Putting l 0 (mapLine h) l 0 (text "MAP" ++ (figure (h .kind) ++ (oneBlank ++ (h .name ++ scale))))
   unfolding mapLine
   map-start = putting-start l 0 (mapLine h) (omega (arith, room))
 
-  pub map-kind : {d : List ℕ} {n : ℕ} → Stored l 0 (text "MAP") d n → Putting l 0 (mapLine h) d n (figure (h .kind) ++ (blank ++ (h .name ++ scale)))
-  map-kind w = stored-on map-start (text "MAP") (figure (h .kind) ++ (blank ++ (h .name ++ scale))) refl w
+  pub map-kind : {d : List ℕ} {n : ℕ} → Stored l 0 (text "MAP") d n → Putting l 0 (mapLine h) d n (figure (h .kind) ++ (oneBlank ++ (h .name ++ scale)))
+  map-kind w = stored-on map-start (text "MAP") (figure (h .kind) ++ (oneBlank ++ (h .name ++ scale))) refl w
 
   module _ {d : List ℕ} {n : ℕ} (w : Stored l 0 (text "MAP") d n) {e : List ℕ} {m : ℕ} (k : Put d n (figure (h .kind)) e m) where
-    pub map-blank : Putting l 0 (mapLine h) e m (blank ++ (h .name ++ scale))
-    map-blank = putting-on (map-kind w) (figure (h .kind)) (blank ++ (h .name ++ scale)) refl k
+    pub map-blank : Putting l 0 (mapLine h) e m (oneBlank ++ (h .name ++ scale))
+    map-blank = putting-on (map-kind w) (figure (h .kind)) (oneBlank ++ (h .name ++ scale)) refl k
 
-    pub map-name : {f : List ℕ} {i : ℕ} → Stored e m blank f i → Putting l 0 (mapLine h) f i (h .name ++ scale)
-    map-name b = stored-on map-blank blank (h .name ++ scale) refl b
+    pub map-name : {f : List ℕ} {i : ℕ} → Stored e m oneBlank f i → Putting l 0 (mapLine h) f i (h .name ++ scale)
+    map-name b = stored-on map-blank oneBlank (h .name ++ scale) refl b
 
-    pub map-scale : {f : List ℕ} {i : ℕ} → Stored e m blank f i → {g : List ℕ} {j : ℕ} → Stored f i (h .name) g j → Putting l 0 (mapLine h) g j scale
+    pub map-scale : {f : List ℕ} {i : ℕ} → Stored e m oneBlank f i → {g : List ℕ} {j : ℕ} → Stored f i (h .name) g j → Putting l 0 (mapLine h) g j scale
     map-scale b p = stored-on (map-name b) (h .name) scale refl p
 
 -- ---- the lines of the classes
@@ -127,7 +127,7 @@ classes-six : length classWords ≡ 6
 unfolding classWords
 classes-six = refl
 
-class-next : (k : ℕ) (f : List ℤ) → k < 6 → classesFrom k f ≡ lineOf (getD classWords k []) (fourOf f k) ++ classesFrom (k + 1) f
+class-next : (k : ℕ) (f : List ℤ) → k < 6 → classesFrom k f ≡ wordLine (getD classWords k []) (fourOf f k) ++ classesFrom (k + 1) f
 unfolding classLines
 class-next k f h = rw (left classWords k [] (omega (arith, classes-six)))
 
@@ -137,12 +137,12 @@ unfolding fourOf
 four-is f k a b c d p q r s = rw (p, q, r, s)
 
 module _ (f : List ℤ) where
-  pub class-room : (k : ℕ) → k < 6 → {l : List ℕ} {at : ℕ} {s d : List ℕ} {n : ℕ} → Putting l at s d n (classesFrom k f) → n + length (lineOf (getD classWords k []) (fourOf f k)) ≤ length d
-  class-room k h p = putting-room p (lineOf (getD classWords k []) (fourOf f k)) (classesFrom (k + 1) f) (class-next k f h)
+  pub class-room : (k : ℕ) → k < 6 → {l : List ℕ} {at : ℕ} {s d : List ℕ} {n : ℕ} → Putting l at s d n (classesFrom k f) → n + length (wordLine (getD classWords k []) (fourOf f k)) ≤ length d
+  class-room k h p = putting-room p (wordLine (getD classWords k []) (fourOf f k)) (classesFrom (k + 1) f) (class-next k f h)
 
   pub class-on : (k : ℕ) → k < 6 → {l : List ℕ} {at : ℕ} {s d : List ℕ} {n : ℕ} → Putting l at s d n (classesFrom k f)
-      → {e : List ℕ} {m : ℕ} → Put d n (lineOf (getD classWords k []) (fourOf f k)) e m → Putting l at s e m (classesFrom (k + 1) f)
-  class-on k h p w = putting-on p (lineOf (getD classWords k []) (fourOf f k)) (classesFrom (k + 1) f) (class-next k f h) w
+      → {e : List ℕ} {m : ℕ} → Put d n (wordLine (getD classWords k []) (fourOf f k)) e m → Putting l at s e m (classesFrom (k + 1) f)
+  class-on k h p w = putting-on p (wordLine (getD classWords k []) (fourOf f k)) (classesFrom (k + 1) f) (class-next k f h) w
 
   pub classes-end : {l : List ℕ} {at : ℕ} {s d : List ℕ} {n : ℕ} → Putting l at s d n (classesFrom 6 f) → Put l at s d n
   unfolding classLines classWords
@@ -162,6 +162,6 @@ module _ (l : List ℕ) (h : Header) (count : ℕ) (f : List ℤ) (room : length
   sheet-classes w = putting-on sheet-start (mapLine h) (classesFrom 0 f ++ rowsLine count) refl w
 
   pub sheet-rows : {d : List ℕ} {n : ℕ} → Put l 0 (mapLine h) d n → {e : List ℕ} {m : ℕ} → Put d n (classesFrom 0 f) e m
-      → Putting l 0 (sheetLines h count f) e m (lineOf (text "ROWS") (count ∷ []))
+      → Putting l 0 (sheetLines h count f) e m (wordLine (text "ROWS") (count ∷ []))
   unfolding rowsLine
   sheet-rows w k = putting-on (sheet-classes w) (classesFrom 0 f) (rowsLine count) refl k

@@ -24,7 +24,7 @@ use Rattle.sheet.proofs.Meaning.{reading-meaning}
 use Rattle.made.specs.Made.{natOf}
 use Rattle.layout.proofs.ReadMade.{reading-made}
 use Rattle.tally.specs.Take.{tallyOf, numberOf, rowOf}
-use Rattle.listing.specs.Listing.{blank, figure, figures, lineOf, mapLine, classWords, fourOf, classLines, rowsLine, refusedLine, sheetLines, talliedText, sheetText, readText, inputMost, listingOf}
+use Rattle.listing.specs.Listing.{oneBlank, figure, figures, wordLine, mapLine, classWords, fourOf, classLines, rowsLine, refusedLine, sheetLines, talliedText, sheetListing, readText, inputMost, listingOf}
 use Rattle.listing.specs.Listed.{listedOf, outputOf, textMost}
 use Rattle.listing.specs.declared.Listed.{Listed}
 use Rattle.listing.specs.declared.Listed.the-variants.{Wrote, NoRoom}
@@ -36,15 +36,15 @@ unfolding countText
 count-most n = digits-most 20 n
 
 pub figure-most : (n : ℕ) → length (figure n) ≤ 21
-figure-most n = omega (arith, length-append blank (countText n), count-most n)
+figure-most n = omega (arith, length-append oneBlank (countText n), count-most n)
 
 figures-most : (s : List ℕ) → length (figures s) ≤ 21 * length s + 1
 unfolding figures
 figures-most [] = omega arith
 figures-most (n ∷ s) = omega (arith, figures-most s, figure-most n, length-append (figure n) (figures s))
 
-line-most : (w s : List ℕ) → length (lineOf w s) ≤ length w + 21 * length s + 1
-unfolding lineOf
+line-most : (w s : List ℕ) → length (wordLine w s) ≤ length w + 21 * length s + 1
+unfolding wordLine
 line-most w s = omega (arith, figures-most s, length-append w (figures s))
 
 pub refused-most : (number place offset : ℕ) → length (refusedLine number place offset) ≤ textMost
@@ -61,9 +61,9 @@ map-most h e =
     let scale = figures (natOf (h .scale) ∷ []) in
     omega (
       arith,
-      length-append (text "MAP") (figure (h .kind) ++ (blank ++ (h .name ++ scale))),
-      length-append (figure (h .kind)) (blank ++ (h .name ++ scale)),
-      length-append blank (h .name ++ scale),
+      length-append (text "MAP") (figure (h .kind) ++ (oneBlank ++ (h .name ++ scale))),
+      length-append (figure (h .kind)) (oneBlank ++ (h .name ++ scale)),
+      length-append oneBlank (h .name ++ scale),
       length-append (h .name) scale,
       figure-most (h .kind),
       figures-most (natOf (h .scale) ∷ []),
@@ -73,18 +73,18 @@ four-long : (f : List ℤ) (k : ℕ) → length (fourOf f k) ≡ 4
 unfolding fourOf
 four-long f k = refl
 
-class-most : (w : List ℕ) (f : List ℤ) (k : ℕ) → length (lineOf w (fourOf f k)) ≤ length w + 85
+class-most : (w : List ℕ) (f : List ℤ) (k : ℕ) → length (wordLine w (fourOf f k)) ≤ length w + 85
 class-most w f k = omega (arith, line-most w (fourOf f k), four-long f k)
 
 classes-most : (f : List ℤ) → length (classLines 0 classWords f) ≤ 545
 unfolding classLines classWords
 classes-most f =
-    let l₀ = lineOf (text "CONFINE") (fourOf f 0) in
-    let l₁ = lineOf (text "OTHER") (fourOf f 1) in
-    let l₂ = lineOf (text "ROAD") (fourOf f 2) in
-    let l₃ = lineOf (text "WATER") (fourOf f 3) in
-    let l₄ = lineOf (text "BUILDING") (fourOf f 4) in
-    let l₅ = lineOf (text "PARCEL") (fourOf f 5) in
+    let l₀ = wordLine (text "CONFINE") (fourOf f 0) in
+    let l₁ = wordLine (text "OTHER") (fourOf f 1) in
+    let l₂ = wordLine (text "ROAD") (fourOf f 2) in
+    let l₃ = wordLine (text "WATER") (fourOf f 3) in
+    let l₄ = wordLine (text "BUILDING") (fourOf f 4) in
+    let l₅ = wordLine (text "PARCEL") (fourOf f 5) in
     omega (
       arith,
       length-append l₀ (l₁ ++ (l₂ ++ (l₃ ++ (l₄ ++ (l₅ ++ []))))),
@@ -115,8 +115,8 @@ lines-most h count f e =
       rows-most count,
     )
 
-pub sheet-most : (h : Header) (count : ℕ) (o : Tables) → length (h .name) ≡ 11 → length (sheetText h count o) ≤ textMost
-unfolding sheetText talliedText
+pub sheet-most : (h : Header) (count : ℕ) (o : Tables) → length (h .name) ≡ 11 → length (sheetListing h count o) ≤ textMost
+unfolding sheetListing talliedText
 sheet-most h count o e =
     let t = tallyOf h count o in
     cond-elim (λ (s : List ℕ). length s ≤ textMost) (eqb (numberOf (t .refusal)) 0) (sheetLines h count (t .tally .figures)) (refusedLine (numberOf (t .refusal)) (rowOf (t .refusal)) 0)

@@ -18,7 +18,8 @@ use Rattle.reader.specs.declared.Answer.{Answer}
 use Rattle.reader.specs.declared.Answer.the-variants as Answer
 use Rattle.reader.specs.declared.Outcome.{Outcome}
 use Rattle.reader.specs.Read.{needsOf, Rooms, roomsOf, holdsAll, refusedWith, answered, readOf, tablesIn, written}
-use Rattle.reader.proofs.Bytes.{tables-whole, Enough, enough-holds}
+use Rattle.reader.proofs.Bytes.{tables-whole}
+use Rattle.reader.proofs.NeedLaws.{Enough, enough-holds}
 use Rattle.made.specs.Made.{tablesOf}
 use Rattle.writer.specs.Put.{Put}
 use Rattle.writer.proofs.Putting.{stored-put}
@@ -26,8 +27,9 @@ use Rattle.spelling.specs.Stored.{Stored}
 use Rattle.tally.specs.declared.Taken.{Taken}
 use Rattle.tally.specs.Take.{tallyOf, numberOf, rowOf}
 use Rattle.listing.proofs.ListLaws.{refused-most, read-most}
-use Rattle.listing.specs.Listing.{refusedLine, sheetLines, talliedText, sheetText, readText, inputMost, listingOf}
-use Rattle.listing.specs.Listed.{listedOf, outputOf, textMost, usedIn, UsedFits}
+use Rattle.listing.specs.Listing.{refusedLine, sheetLines, talliedText, sheetListing, readText, inputMost, listingOf}
+use Rattle.reader.specs.Exit.{usedPart}
+use Rattle.listing.specs.Listed.{listedOf, outputOf, textMost, UsedFits}
 use Rattle.listing.specs.declared.Listed.the-variants.{Wrote, NoRoom}
 
 -- the same text
@@ -47,20 +49,19 @@ refused-fits number place offset n h = omega (arith, refused-most number place o
 -- ---- after the tally: `m` is the number of its refusal, `k` the row that it names
 
 module _ (h : Header) (count : ℕ) (o : Tables) (t : Taken) (e : t ≡ tallyOf h count o) (m : ℕ) (q : m ≡ numberOf (t .refusal)) where
-  pub tallied-lines : m ≡ 0 → sheetLines h count (t .tally .figures) ≡ sheetText h count o
-  unfolding sheetText talliedText
+  pub tallied-lines : m ≡ 0 → sheetLines h count (t .tally .figures) ≡ sheetListing h count o
+  unfolding sheetListing talliedText
   tallied-lines z = rw (← e, ← q, eq-eqb m 0 z)
 
-  pub tallied-refused : (m ≡ 0 → ⊥) → (k : ℕ) → k ≡ rowOf (t .refusal) → refusedLine m k 0 ≡ sheetText h count o
-  unfolding sheetText talliedText
+  pub tallied-refused : (m ≡ 0 → ⊥) → (k : ℕ) → k ≡ rowOf (t .refusal) → refusedLine m k 0 ≡ sheetListing h count o
+  unfolding sheetListing talliedText
   tallied-refused n k r = rw (← e, ← q, ← r, ne-eqb m 0 n)
 
 -- ---- the used part of the tables
 
 pub used-is : (h : Header) (a : Needs) (rows : List ℤ) (letters islands : List ℕ) (points : List ℤ)
-    → sheetText h (a .rows) (tablesOf (take (12 * a .rows) rows) (take (a .letters) letters) (take (a .islands) islands) (take (2 * a .points) points))
-    ≡ sheetText h (a .rows) (usedIn a (tablesOf rows letters islands points))
-unfolding usedIn
+    → sheetListing h (a .rows) (tablesOf (take (12 * a .rows) rows) (take (a .letters) letters) (take (a .islands) islands) (take (2 * a .points) points))
+    ≡ sheetListing h (a .rows) (usedPart a (tablesOf rows letters islands points))
 used-is h a rows letters islands points = refl
 
 module _ {ℓ} {A : Type ℓ} (xs l t : List A) (e : t ≡ over xs l) (n : ℕ) (q : n ≡ length xs) where
@@ -164,8 +165,7 @@ module _ (bs : List ℕ) (r : Rooms) (short : length bs ≤ inputMost) (enough :
             points-in = part-in (o .points) points₀ points points-are (2 * a .points) whole-points;
           }
 
-      used-whole : usedIn a (tablesOf rows letters islands points) ≡ o
-      unfolding usedIn
+      used-whole : usedPart a (tablesOf rows letters islands points) ≡ o
       used-whole =
           rw (
             part-is (o .rows) rows₀ rows rows-are (12 * a .rows) whole-rows,
@@ -174,9 +174,9 @@ module _ (bs : List ℕ) (r : Rooms) (short : length bs ≤ inputMost) (enough :
             part-is (o .points) points₀ points points-are (2 * a .points) whole-points,
           )
 
-      pub read-sheet : sheetText (x .header) (a .rows) (usedIn a (tablesOf rows letters islands points)) ≡ readText (reading Loose bs)
+      pub read-sheet : sheetListing (x .header) (a .rows) (usedPart a (tablesOf rows letters islands points)) ≡ readText (reading Loose bs)
       read-sheet =
-          ap (sheetText (x .header) (a .rows)) used-whole ∙ ap (λ (y : Needs). sheetText (x .header) (y .rows) o) counts ∙ sym (ap readText sound)
+          ap (sheetListing (x .header) (a .rows)) used-whole ∙ ap (λ (y : Needs). sheetListing (x .header) (y .rows) o) counts ∙ sym (ap readText sound)
 
 -- ---- the whole text
 

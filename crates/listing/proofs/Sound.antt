@@ -22,11 +22,10 @@ use Rattle.area.specs.declared.Areas.the-variants as Areas
 use Rattle.area.proofs.AreaLaws.{areas-there}
 use Rattle.layout.proofs.ReadMade.{reading-made}
 use Rattle.tally.specs.declared.Tally.{Tally}
-use Rattle.tally.specs.declared.Added.{Added}
 use Rattle.tally.specs.declared.Refusal.{Refusal}
 use Rattle.tally.specs.declared.Refusal.the-variants as Refusal
 use Rattle.tally.specs.declared.Taken.{Taken}
-use Rattle.tally.specs.Tally.{isFigure, isTally, plus, withFigures, addOf, emptyTally, refusedAt}
+use Rattle.tally.specs.Tally.{Added, isFigure, isTally, plus, withFigures, addOf, emptyTally, refusedAt}
 use Rattle.tally.specs.Take.{takenWith, bordersAreas, afterAdded, afterAreas, borderTaken, rowTaken, isNone, tallyRows, tallyOf}
 
 -- ---- no figure is below 0
@@ -74,10 +73,10 @@ module _ (h : Header) (k : ℕ) (t : Tables) (a : Tally) (made : isMade t ≡ tr
   unfolding rowTaken
   row-fair = cond-elim Fair (isBorder t) (borderTaken h k t a) (takenWith a Refusal.None) (λ e. border-fair e) (λ _. (f, tt))
 
-no-faulty : (k : ℕ) → Faulty k ≡ Fine → ⊥
+pub no-faulty : (k : ℕ) → Faulty k ≡ Fine → ⊥
 no-faulty k e = let z : _≡_ {A = ℕ} 0 1 = cc in omega arith
 
-no-unlisted : (k : ℕ) → Unlisted k ≡ Fine → ⊥
+pub no-unlisted : (k : ℕ) → Unlisted k ≡ Fine → ⊥
 no-unlisted k e = let z : _≡_ {A = ℕ} 0 1 = cc in omega arith
 
 rows-fair : (h : Header) (n j k : ℕ) (t : Tables) (a : Tally) → judgeRows Loose n j t ≡ Fine → isTally (a .figures) ≡ true → Fair (tallyRows h n k t a)

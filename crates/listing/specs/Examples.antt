@@ -9,16 +9,16 @@ use Rattle.spelling.specs.Spelling.{digits, countText}
 use Rattle.sheet.specs.Examples.{computed as computedReading}
 use Rattle.tally.specs.Examples.{computed as computedTally}
 use Rattle.heading.specs.declared.Header.{Header}
-use Rattle.listing.specs.Listing.{lineEnd, figures, lineOf, mapLine, classWords, fourOf, classLines, rowsLine, refusedLine, sheetLines, talliedText, sheetText, listingOf}
+use Rattle.listing.specs.Listing.{lineFeed, figures, wordLine, mapLine, classWords, fourOf, classLines, rowsLine, refusedLine, sheetLines, talliedText, sheetListing, listingOf}
 
 -- the lines with every definition opened, so that they compute
 unfoldable pub computedLines : Header → ℕ → List ℤ → List ℕ
-unfolding sheetLines mapLine classLines classWords fourOf rowsLine lineOf figures countText digits refusedLine
+unfolding sheetLines mapLine classLines classWords fourOf rowsLine wordLine figures countText digits refusedLine
 computedLines h count f = sheetLines h count f
 
 -- `listingOf` with every definition opened, so that it computes
 unfoldable pub computed : List ℕ → List ℕ
-unfolding listingOf sheetText talliedText computedLines computedReading computedTally
+unfolding listingOf sheetListing talliedText computedLines computedReading computedTally
 computed bs = listingOf bs
 
 header : Header
@@ -29,19 +29,19 @@ tally : List ℤ
 tally = replicate 20 (pos 0) ++ pos 1 ∷ pos 400000000 ∷ pos 0 ∷ pos 0 ∷ []
 
 the-sheet : sheetLines header 2 tally
-    ≡ text "MAP 1 Z999_000100 1000000" ++ (lineEnd ++
-    ((text "CONFINE 0 0 0 0" ++ lineEnd) ++
-    ((text "OTHER 0 0 0 0" ++ lineEnd) ++
-    ((text "ROAD 0 0 0 0" ++ lineEnd) ++
-    ((text "WATER 0 0 0 0" ++ lineEnd) ++
-    ((text "BUILDING 0 0 0 0" ++ lineEnd) ++
-    ((text "PARCEL 1 400000000 0 0" ++ lineEnd) ++
-    (text "ROWS 2" ++ lineEnd))))))))
+    ≡ text "MAP 1 Z999_000100 1000000" ++ (lineFeed ++
+    ((text "CONFINE 0 0 0 0" ++ lineFeed) ++
+    ((text "OTHER 0 0 0 0" ++ lineFeed) ++
+    ((text "ROAD 0 0 0 0" ++ lineFeed) ++
+    ((text "WATER 0 0 0 0" ++ lineFeed) ++
+    ((text "BUILDING 0 0 0 0" ++ lineFeed) ++
+    ((text "PARCEL 1 400000000 0 0" ++ lineFeed) ++
+    (text "ROWS 2" ++ lineFeed))))))))
 unfolding computed header tally
 the-sheet = refl
 
 -- more than 8,192 bytes
-too-long : refusedLine 1 0 0 ≡ text "REFUSED 1 0 0" ++ lineEnd
+too-long : refusedLine 1 0 0 ≡ text "REFUSED 1 0 0" ++ lineFeed
 unfolding computed
 too-long = refl
 

@@ -2,13 +2,11 @@
 use Prim.Native.Nat.{ℕ, _*_, _≤_}
 use mathlib.Core.List.{List}
 use mathlib.Core.Bool.{cond}
-use lib.ListN.{length, take}
+use lib.ListN.{length}
 use lib.Dec.{leb}
 use Rattle.laws.specs.Lists.{over}
 use Rattle.record.specs.Refusals.{noRoom}
 use Rattle.kinds.specs.Kinds.{rowWidth}
-use Rattle.sheet.specs.Tables.{Tables}
-use Rattle.made.specs.Made.{tablesOf}
 use Rattle.reader.specs.declared.Needs.{Needs}
 use Rattle.listing.specs.declared.Listed.{Listed}
 use Rattle.listing.specs.declared.Listed.the-variants.{Wrote, NoRoom}
@@ -26,12 +24,7 @@ outputOf (NoRoom n) s l = l
 abbrev pub textMost : ℕ
 textMost = 640
 
--- the used part of tables that hold more
-unfoldable pub usedIn : Needs → Tables → Tables
-usedIn a t =
-    tablesOf (take (rowWidth * a .rows) (t .rows)) (take (a .letters) (t .letters)) (take (a .islands) (t .islands)) (take (2 * a .points) (t .points))
-
--- and it is within them
+-- what was used is within tables of these lengths
 pub record UsedFits (a : Needs) (rows letters islands points : ℕ) : Type 0 where
   pub rows-in : rowWidth * a .rows ≤ rows
   pub letters-in : a .letters ≤ letters

@@ -20,27 +20,27 @@ use Rattle.tally.specs.Take.{tallyOf, numberOf, rowOf}
 
 -- ---- lines
 
-abbrev pub blank : List ℕ
-blank = 32 ∷ []
+abbrev pub oneBlank : List ℕ
+oneBlank = 32 ∷ []
 
 -- "Lines end in LF"
-abbrev pub lineEnd : List ℕ
-lineEnd = 10 ∷ []
+abbrev pub lineFeed : List ℕ
+lineFeed = 10 ∷ []
 
 abbrev pub figure : ℕ → List ℕ
-figure n = blank ++ countText n
+figure n = oneBlank ++ countText n
 
 -- the figures of a line, and its end
 unfoldable pub figures : List ℕ → List ℕ
-figures [] = lineEnd
+figures [] = lineFeed
 figures (n ∷ s) = figure n ++ figures s
 
-unfoldable pub lineOf : List ℕ → List ℕ → List ℕ
-lineOf word s = word ++ figures s
+unfoldable pub wordLine : List ℕ → List ℕ → List ℕ
+wordLine word s = word ++ figures s
 
 -- "`MAP`, kind, name, scale in thousandths"
 unfoldable pub mapLine : Header → List ℕ
-mapLine h = text "MAP" ++ (figure (h .kind) ++ (blank ++ (h .name ++ figures (natOf (h .scale) ∷ []))))
+mapLine h = text "MAP" ++ (figure (h .kind) ++ (oneBlank ++ (h .name ++ figures (natOf (h .scale) ∷ []))))
 
 -- "six class lines in the order above"
 unfoldable pub classWords : List (List ℕ)
@@ -56,15 +56,15 @@ fourOf f k = figureAt f (4 * k) ∷ figureAt f (4 * k + 1) ∷ figureAt f (4 * k
 -- the lines of these classes, the first of which is class k
 unfoldable pub classLines : ℕ → List (List ℕ) → List ℤ → List ℕ
 classLines k [] f = []
-classLines k (w ∷ ws) f = lineOf w (fourOf f k) ++ classLines (k + 1) ws f
+classLines k (w ∷ ws) f = wordLine w (fourOf f k) ++ classLines (k + 1) ws f
 
 -- "`ROWS` and the count"
 unfoldable pub rowsLine : ℕ → List ℕ
-rowsLine n = lineOf (text "ROWS") (n ∷ [])
+rowsLine n = wordLine (text "ROWS") (n ∷ [])
 
 -- "A refusal prints only `REFUSED`, number, place, offset"
 unfoldable pub refusedLine : ℕ → ℕ → ℕ → List ℕ
-refusedLine number place offset = lineOf (text "REFUSED") (number ∷ place ∷ offset ∷ [])
+refusedLine number place offset = wordLine (text "REFUSED") (number ∷ place ∷ offset ∷ [])
 
 -- ---- the text
 
@@ -76,11 +76,11 @@ unfoldable pub talliedText : Header → ℕ → Taken → List ℕ
 talliedText h count t =
     cond (eqb (numberOf (t .refusal)) 0) (sheetLines h count (t .tally .figures)) (refusedLine (numberOf (t .refusal)) (rowOf (t .refusal)) 0)
 
-unfoldable pub sheetText : Header → ℕ → Tables → List ℕ
-sheetText h count o = talliedText h count (tallyOf h count o)
+unfoldable pub sheetListing : Header → ℕ → Tables → List ℕ
+sheetListing h count o = talliedText h count (tallyOf h count o)
 
 abbrev pub readText : Reading → List ℕ
-readText (sheet h o) = sheetText h (length (o .rows) / rowWidth) o
+readText (sheet h o) = sheetListing h (length (o .rows) / rowWidth) o
 readText (refused number place offset) = refusedLine number place offset
 
 -- "at most 8,192 bytes .. loose mode"; "more input gives `REFUSED 1 0 0`"

@@ -8,8 +8,9 @@ ghost use Rattle.record.specs.declared.Mode.the-variants.{Loose};
 ghost use Rattle.sheet.specs.Reading.{reading};
 ghost use Rattle.made.specs.Made.{tablesOf, natOf};
 ghost use Rattle.writer.specs.Put.{Put};
-ghost use Rattle.listing.specs.Listing.{inputMost, figure, figures, lineOf, mapLine, classWords, fourOf, classLines, refusedLine, sheetLines, sheetText, readText, listingOf};
-ghost use Rattle.listing.specs.Listed.{listedOf, outputOf, textMost, usedIn, UsedFits};
+ghost use Rattle.listing.specs.Listing.{inputMost, figure, figures, wordLine, mapLine, classWords, fourOf, classLines, refusedLine, sheetLines, sheetListing, readText, listingOf};
+ghost use Rattle.reader.specs.Exit.{usedPart};
+ghost use Rattle.listing.specs.Listed.{listedOf, outputOf, textMost, UsedFits};
 use heading::Header;
 use made::count_at;
 use reader::Answer;
@@ -71,8 +72,8 @@ fn put_figures(out: &mut [u8], at: usize, s: &[usize]) -> usize
 }
 
 fn put_line(out: &mut [u8], at: usize, word: &[u8], s: &[usize]) -> usize
-    requires { ⌜ at + length (lineOf (now word) (now s)) ≤ length (now out) ⌝ }
-    ensures { λ r. ⌜ Put (now (out .entry)) at (lineOf (now (word .entry)) (now (s .entry))) (now (out .exit)) r ⌝ }
+    requires { ⌜ at + length (wordLine (now word) (now s)) ≤ length (now out) ⌝ }
+    ensures { λ r. ⌜ Put (now (out .entry)) at (wordLine (now (word .entry)) (now (s .entry))) (now (out .exit)) r ⌝ }
 {
     let next = put_bytes(out, at, word);
     put_figures(out, next, s)
@@ -111,8 +112,8 @@ fn put_map(out: &mut [u8], header: Header) -> usize
 
 // The line of class k: borders, outer total, islands, island total.
 fn put_class(out: &mut [u8], at: usize, word: &[u8], tally: &[i64], k: usize) -> usize
-    requires { ⌜ (k < 6) × (at + length (lineOf (now word) (fourOf (now tally) k)) ≤ length (now out)) ⌝ }
-    ensures { λ r. ⌜ Put (now (out .entry)) at (lineOf (now (word .entry)) (fourOf (now (tally .entry)) k)) (now (out .exit)) r ⌝ }
+    requires { ⌜ (k < 6) × (at + length (wordLine (now word) (fourOf (now tally) k)) ≤ length (now out)) ⌝ }
+    ensures { λ r. ⌜ Put (now (out .entry)) at (wordLine (now (word .entry)) (fourOf (now (tally .entry)) k)) (now (out .exit)) r ⌝ }
 {
     let i = CLASS_FIGURES * k;
     let four = [
@@ -158,8 +159,8 @@ fn put_tallied(
     islands: &[u16],
     points: &[i64],
 ) -> usize
-    requires { ⌜ length (sheetText header count (tablesOf (now rows) (now letters) (now islands) (now points))) ≤ length (now out) ⌝ }
-    ensures { λ r. ⌜ Put (now (out .entry)) 0 (sheetText header count (tablesOf (now (rows .entry)) (now (letters .entry)) (now (islands .entry)) (now (points .entry)))) (now (out .exit)) r ⌝ }
+    requires { ⌜ length (sheetListing header count (tablesOf (now rows) (now letters) (now islands) (now points))) ≤ length (now out) ⌝ }
+    ensures { λ r. ⌜ Put (now (out .entry)) 0 (sheetListing header count (tablesOf (now (rows .entry)) (now (letters .entry)) (now (islands .entry)) (now (points .entry)))) (now (out .exit)) r ⌝ }
 {
     let taken = tally_sheet(header, count, rows, letters, islands, points);
     let tally = taken.tally;
@@ -184,8 +185,8 @@ fn put_used(
     points: &[i64],
 ) -> usize
     requires { ⌜ UsedFits needs (length (now rows)) (length (now letters)) (length (now islands)) (length (now points)) ⌝ }
-    requires { ⌜ length (sheetText header (needs .rows) (usedIn needs (tablesOf (now rows) (now letters) (now islands) (now points)))) ≤ length (now out) ⌝ }
-    ensures { λ r. ⌜ Put (now (out .entry)) 0 (sheetText header (needs .rows) (usedIn needs (tablesOf (now (rows .entry)) (now (letters .entry)) (now (islands .entry)) (now (points .entry))))) (now (out .exit)) r ⌝ }
+    requires { ⌜ length (sheetListing header (needs .rows) (usedPart needs (tablesOf (now rows) (now letters) (now islands) (now points)))) ≤ length (now out) ⌝ }
+    ensures { λ r. ⌜ Put (now (out .entry)) 0 (sheetListing header (needs .rows) (usedPart needs (tablesOf (now (rows .entry)) (now (letters .entry)) (now (islands .entry)) (now (points .entry))))) (now (out .exit)) r ⌝ }
 {
     let n = needs.rows;
     let l = needs.letters;

@@ -25,7 +25,7 @@ use Rattle.machine.specs.declared.Step.{Step}
 use Rattle.machine.specs.declared.Step.the-variants.{Go, No, End}
 use Rattle.machine.specs.declared.One.{One}
 use Rattle.kinds.specs.Kinds.{codePlace, islandsPlace, verticesPlace, nextOf, isListed, wantAt}
-use Rattle.machine.specs.Machine.{wantOf, isDue, ringOf, verticesOf, fieldOf, islandOf, isShut, ringStep, vertexOf, keyStep, stepOf, ofStep, ofToken, ofLine, oneOf}
+use Rattle.machine.specs.Machine.{wantOf, isDue, freshRing, verticesOf, fieldOf, islandOf, isShut, ringStep, vertexOf, keyStep, stepOf, ofStep, ofToken, ofLine, oneOf}
 
 -- ---- what a record must be
 
@@ -60,7 +60,7 @@ module _ (kind islands n : ℕ) where
     unfolding verticesOf
     line-few h = rw (ne-eqb kind 1 e, lt-leb 2 n h)
 
-    pub line-go : (r : Ring) → 2 ≤ n → r ≡ ringOf false 0 n → Go (X r) ≡ verticesOf kind islands n
+    pub line-go : (r : Ring) → 2 ≤ n → r ≡ freshRing false 0 n → Go (X r) ≡ verticesOf kind islands n
     unfolding verticesOf
     line-go r h q = rw (ne-eqb kind 1 e, le-leb 2 n h, q)
 
@@ -79,7 +79,7 @@ module _ (kind islands n : ℕ) where
       enough : leb (4 + 4 * islands) n ≡ true
       enough = le-leb (4 + 4 * islands) n (omega arith)
 
-      pub border-go : (r : Ring) → islands ≡ 0 → r ≡ ringOf true 0 n → Go (X r) ≡ verticesOf kind islands n
+      pub border-go : (r : Ring) → islands ≡ 0 → r ≡ freshRing true 0 n → Go (X r) ≡ verticesOf kind islands n
       unfolding verticesOf
       border-go r z q = rw (eq-eqb kind 1 e, enough, eq-eqb islands 0 z, q)
 
@@ -111,7 +111,7 @@ module _ (left spare rings n : ℕ) where
       spared : leb (n + 4) spare ≡ true
       spared = le-leb (n + 4) spare (omega arith)
 
-      pub island-last : (r : Ring) → left ≤ 1 → r ≡ ringOf true rings (spare - n) → Go (X r) ≡ islandOf left spare rings n
+      pub island-last : (r : Ring) → left ≤ 1 → r ≡ freshRing true rings (spare - n) → Go (X r) ≡ islandOf left spare rings n
       unfolding islandOf
       island-last r e q = rw (le-leb 4 n h, spared, le-leb left 1 e, q)
 
@@ -199,7 +199,7 @@ module _ (r : Ring) (fx fy x y next : ℕ) where
       unfolding ringStep
       ring-last e = rw (le-leb (r .left) 1 h, ← q, not-false b t, eq-eqb (r .rings) 0 e)
 
-      pub ring-next : (s : Ring) → (r .rings ≡ 0 → ⊥) → s ≡ ringOf (r .closed) (r .rings - 1) next → Go (X s) ≡ ringStep r fx fy x y next
+      pub ring-next : (s : Ring) → (r .rings ≡ 0 → ⊥) → s ≡ freshRing (r .closed) (r .rings - 1) next → Go (X s) ≡ ringStep r fx fy x y next
       unfolding ringStep
       ring-next s e f = rw (le-leb (r .left) 1 h, ← q, not-false b t, ne-eqb (r .rings) 0 e, f)
 

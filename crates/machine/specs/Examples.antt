@@ -17,7 +17,7 @@ use Rattle.machine.specs.declared.State.the-variants.{Due, Field, Island
 use Rattle.machine.specs.declared.Step.the-variants.{Go, No, End}
 use Rattle.machine.specs.declared.One.{One}
 use Rattle.machine.specs.declared.One.the-variants as One
-use Rattle.machine.specs.Machine.{wantOf, ringOf, verticesOf, fieldOf, islandOf, isShut, ringStep, vertexOf, keyStep, stepOf, oneOf}
+use Rattle.machine.specs.Machine.{wantOf, freshRing, verticesOf, fieldOf, islandOf, isShut, ringStep, vertexOf, keyStep, stepOf, oneOf}
 
 -- `oneOf` with every definition opened, so that it computes
 unfoldable pub computed : Mode → State → ℕ → List ℕ → One
@@ -25,18 +25,18 @@ unfolding oneOf stepOf keyStep vertexOf ringStep isShut islandOf fieldOf vertice
 computed mode st next bs = oneOf mode st next bs
 
 -- a border has at least 4 vertices, 4 more for each island: 7 with one island are too few
-border-vertices : (verticesOf 1 0 3 ≡ No 11) × (verticesOf 1 0 4 ≡ Go (X (ringOf true 0 4))) × (verticesOf 1 1 7 ≡ No 11) × (verticesOf 1 1 8 ≡ Go (Island 1 8 1))
+border-vertices : (verticesOf 1 0 3 ≡ No 11) × (verticesOf 1 0 4 ≡ Go (X (freshRing true 0 4))) × (verticesOf 1 1 7 ≡ No 11) × (verticesOf 1 1 8 ≡ Go (Island 1 8 1))
     × (verticesOf 1 2 11 ≡ No 11) × (verticesOf 1 2 12 ≡ Go (Island 2 12 2))
 unfolding computed
 border-vertices = (refl, refl, refl, refl, refl, refl)
 
 -- a line has at least 2, and is no ring
-line-vertices : (verticesOf 5 0 1 ≡ No 11) × (verticesOf 5 0 2 ≡ Go (X (ringOf false 0 2)))
+line-vertices : (verticesOf 5 0 1 ≡ No 11) × (verticesOf 5 0 2 ≡ Go (X (freshRing false 0 2)))
 unfolding computed
 line-vertices = (refl, refl)
 
 -- an island has at least 4 and leaves 4 for the outer ring, which has the rest and comes first
-island-vertices : (islandOf 1 8 1 3 ≡ No 11) × (islandOf 1 8 1 4 ≡ Go (X (ringOf true 1 4))) × (islandOf 1 8 1 5 ≡ No 11) × (islandOf 1 11 1 5 ≡ Go (X (ringOf true 1 6)))
+island-vertices : (islandOf 1 8 1 3 ≡ No 11) × (islandOf 1 8 1 4 ≡ Go (X (freshRing true 1 4))) × (islandOf 1 8 1 5 ≡ No 11) × (islandOf 1 11 1 5 ≡ Go (X (freshRing true 1 6)))
     × (islandOf 2 12 2 8 ≡ Go (Island 1 4 2)) × (islandOf 1 4 2 4 ≡ No 11)
 unfolding computed
 island-vertices = (refl, refl, refl, refl, refl, refl)
@@ -57,8 +57,8 @@ abbrev begun : ℕ → ℕ → Ring
 begun rings left = record { closed = true; fresh = false; rings = rings; left = left; fx = 1; fy = 2 }
 
 -- a vertex inside; the last one, with a ring to come, with none, and open
-vertices : (vertexOf (begun 1 3) 5 6 9 ≡ Go (X (begun 1 2))) × (vertexOf (begun 1 1) 1 2 9 ≡ Go (X (ringOf true 0 9))) × (vertexOf (begun 0 1) 1 2 9 ≡ Go Due)
-    × (vertexOf (begun 1 1) 5 2 9 ≡ No 12) × (vertexOf (begun 1 1) 1 6 9 ≡ No 12) × (vertexOf (ringOf true 1 3) 1 2 9 ≡ Go (X (begun 1 2)))
+vertices : (vertexOf (begun 1 3) 5 6 9 ≡ Go (X (begun 1 2))) × (vertexOf (begun 1 1) 1 2 9 ≡ Go (X (freshRing true 0 9))) × (vertexOf (begun 0 1) 1 2 9 ≡ Go Due)
+    × (vertexOf (begun 1 1) 5 2 9 ≡ No 12) × (vertexOf (begun 1 1) 1 6 9 ≡ No 12) × (vertexOf (freshRing true 1 3) 1 2 9 ≡ Go (X (begun 1 2)))
 unfolding computed
 vertices = (refl, refl, refl, refl, refl, refl)
 
@@ -70,7 +70,7 @@ bare-EOF = (refl, refl, refl, refl, refl)
 
 -- a record's token, its content's length and its own: a keyword, letters, an island's count, an x, a y
 records : (oneOf Exact Due 0 (text "SIMBOLO\r\nx") ≡ One.Go (Field 3 codePlace 0) 6 7 9) × (oneOf Loose (Field 4 lettersPlace 0) 0 (text " EOF\n") ≡ One.Go (Field 4 codePlace 0) 3 4 5)
-    × (oneOf Loose (Island 1 8 1) 0 (text "4\n") ≡ One.Go (X (ringOf true 1 4)) 4 1 2) × (oneOf Loose (X (begun 0 3)) 0 (text "0.001\n") ≡ One.Go (Y (begun 0 3) 10000000001) 10000000001 5 6)
+    × (oneOf Loose (Island 1 8 1) 0 (text "4\n") ≡ One.Go (X (freshRing true 1 4)) 4 1 2) × (oneOf Loose (X (begun 0 3)) 0 (text "0.001\n") ≡ One.Go (Y (begun 0 3) 10000000001) 10000000001 5 6)
     × (oneOf Loose (Y (begun 0 3) 5) 0 (text "-0.001\r\n") ≡ One.Go (X (begun 0 2)) 9999999999 6 8) × (oneOf Loose (X (begun 0 3)) 0 (text "7\n") ≡ One.No 8)
 unfolding computed
 records = (refl, refl, refl, refl, refl, refl)

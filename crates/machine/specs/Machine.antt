@@ -20,6 +20,10 @@ use Rattle.machine.specs.declared.Step.{Step}
 use Rattle.machine.specs.declared.Step.the-variants.{Go, No, End}
 use Rattle.machine.specs.declared.One.{One}
 
+-- The words of a state. `Island left spare rings`: so many island records are still to come, so many vertices are not given to an island yet, and so many rings
+-- will follow the outer one. A `Ring` at work: `closed`, whether its last vertex must be its first (a line need not); `fresh`, whether its first vertex is
+-- yet to come; `rings`, how many rings follow it; `left`, how many of its vertices are still to come; (`fx`, `fy`), its first vertex.
+
 -- ---- what a record must be
 
 unfoldable pub wantOf : State → Want
@@ -38,15 +42,15 @@ isDue (Y r x) = false
 
 -- ---- where its token leads
 
-abbrev pub ringOf : Bool → ℕ → ℕ → Ring
-ringOf closed rings left = record { closed = closed; fresh = true; rings = rings; left = left; fx = 0; fy = 0 }
+abbrev pub freshRing : Bool → ℕ → ℕ → Ring
+freshRing closed rings left = record { closed = closed; fresh = true; rings = rings; left = left; fx = 0; fy = 0 }
 
 -- a border's vertices are at least 4 + 4 times its islands; a line has at least 2
 unfoldable pub verticesOf : ℕ → ℕ → ℕ → Step
 verticesOf kind islands n =
     cond (eqb kind 1)
-    (cond (leb (4 + 4 * islands) n) (cond (eqb islands 0) (Go (X (ringOf true 0 n))) (Go (Island islands n islands))) (No badCount))
-    (cond (leb 2 n) (Go (X (ringOf false 0 n))) (No badCount))
+    (cond (leb (4 + 4 * islands) n) (cond (eqb islands 0) (Go (X (freshRing true 0 n))) (Go (Island islands n islands))) (No badCount))
+    (cond (leb 2 n) (Go (X (freshRing false 0 n))) (No badCount))
 
 -- exact mode refuses codes that are not listed
 unfoldable pub fieldOf : Mode → ℕ → ℕ → ℕ → ℕ → Step
@@ -59,7 +63,7 @@ fieldOf mode kind p islands n =
 unfoldable pub islandOf : ℕ → ℕ → ℕ → ℕ → Step
 islandOf left spare rings n =
     cond (leb 4 n && leb (n + 4) spare)
-    (cond (leb left 1) (Go (X (ringOf true rings (spare - n)))) (Go (Island (left - 1) (spare - n) rings)))
+    (cond (leb left 1) (Go (X (freshRing true rings (spare - n)))) (Go (Island (left - 1) (spare - n) rings)))
     (No badCount)
 
 -- every ring's first and last vertex are equal
@@ -71,7 +75,7 @@ unfoldable pub ringStep : Ring → ℕ → ℕ → ℕ → ℕ → ℕ → Step
 ringStep r fx fy x y next =
     cond (leb (r .left) 1)
     (cond (isShut (r .closed) fx fy x y)
-    (cond (eqb (r .rings) 0) (Go Due) (Go (X (ringOf (r .closed) (r .rings - 1) next))))
+    (cond (eqb (r .rings) 0) (Go Due) (Go (X (freshRing (r .closed) (r .rings - 1) next))))
     (No openRing))
     (Go (X (record { closed = r .closed; fresh = false; rings = r .rings; left = r .left - 1; fx = fx; fy = fy })))
 

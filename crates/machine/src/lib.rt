@@ -7,7 +7,7 @@ ghost use lib.Dec.{eqb};
 ghost use Rattle.record.specs.Record.{isLoose};
 ghost use Rattle.token.specs.Lex.{lexOf};
 ghost use Rattle.kinds.specs.Kinds.{codePlace, isListed};
-ghost use Rattle.machine.specs.Machine.{wantOf, isDue, ringOf, verticesOf, fieldOf, islandOf, isShut, ringStep, vertexOf, keyStep, stepOf, ofToken, oneOf};
+ghost use Rattle.machine.specs.Machine.{wantOf, isDue, freshRing, verticesOf, fieldOf, islandOf, isShut, ringStep, vertexOf, keyStep, stepOf, ofToken, oneOf};
 use kinds::is_listed;
 use kinds::next_field;
 use kinds::want_at;
@@ -120,7 +120,7 @@ fn is_due(st: State) -> bool
 
 // A ring, or a line, whose vertices are to come.
 fn ring_of(closed: bool, rings: usize, left: usize) -> Ring
-    ensures { λ r. ⌜ r ≡ ringOf closed rings left ⌝ }
+    ensures { λ r. ⌜ r ≡ freshRing closed rings left ⌝ }
 {
     Ring {
         closed,

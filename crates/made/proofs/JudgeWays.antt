@@ -16,21 +16,21 @@ use Rattle.heading.specs.Heading.{isHeader}
 use Rattle.sheet.specs.Tables.{Tables}
 use Rattle.made.specs.declared.Verdict.{Verdict}
 use Rattle.made.specs.declared.Verdict.the-variants.{Fine, BadHeader, Faulty, Unlisted}
-use Rattle.made.specs.declared.Turn.{Turn}
-use Rattle.made.specs.declared.Turn.the-variants.{Wrong, Strange, On}
+use Rattle.made.specs.declared.RowJudged.{RowJudged}
+use Rattle.made.specs.declared.RowJudged.the-variants.{Wrong, Strange, On}
 use Rattle.made.specs.Made.{tablesOf, countAt, kindOf, restOf, isMade, isCoded, judgeRows, judgeOf}
 use Rattle.made.specs.Turn.{rowTurn}
 use Rattle.made.proofs.RowWays.{Held, made-held}
 
 -- ---- one row
 
-abbrev after : Mode → ℕ → ℕ → Tables → Turn → Verdict
+abbrev after : Mode → ℕ → ℕ → Tables → RowJudged → Verdict
 after mode n k t Wrong = Faulty k
 after mode n k t Strange = Unlisted k
 after mode n k t (On l i p) = judgeRows mode n (k + 1) (restOf t)
 
 module _ (mode : Mode) (t : Tables) where
-  abbrev past : Turn
+  abbrev past : RowJudged
   past = On (countAt t lettersPlace) (countAt t islandsPlace) (2 * countAt t verticesPlace)
 
   by-turn : (n k : ℕ) → judgeRows mode (suc n) k t ≡ after mode n k t (rowTurn mode t)
@@ -86,11 +86,11 @@ module _ (mode : Mode) (count : ℕ) (t : Tables) (k r l i p : ℕ) (j : Judged 
       let z : count - k ≡ 0 = omega arith in
       sym (j .rest ∙ rw z)
 
-  module _ (h : k < count) (x : Turn) (q : x ≡ rowTurn mode (tablesOf (tail (t .rows) r) (tail (t .letters) l) (tail (t .islands) i) (tail (t .points) p))) where
+  module _ (h : k < count) (x : RowJudged) (q : x ≡ rowTurn mode (tablesOf (tail (t .rows) r) (tail (t .letters) l) (tail (t .islands) i) (tail (t .points) p))) where
     turned : x ≡ rowTurn mode here
     turned = rw (rest-is (t .rows) r, rest-is (t .letters) l, rest-is (t .islands) i, rest-is (t .points) p) at q
 
-    judged : (y : Turn) → x ≡ y → judgeRows mode count 0 t ≡ after mode (count - (k + 1)) k here y
+    judged : (y : RowJudged) → x ≡ y → judgeRows mode count 0 t ≡ after mode (count - (k + 1)) k here y
     judged y e =
         let z : count - k ≡ suc (count - (k + 1)) = omega arith in
         j .rest

@@ -23,7 +23,7 @@ use Rattle.token.specs.declared.Want.{Want}
 use Rattle.token.specs.declared.Want.the-variants.{Key, Text, Int, Real}
 use Rattle.token.specs.Lex.{mayLieOutside}
 use Rattle.kinds.specs.Kinds.{rowWidth, wantAt}
-use Rattle.made.specs.Made.{natOf, isBetween, inRange, hasField, isOutside, isCell, cellOf, cellTest, areNumbers}
+use Rattle.made.specs.Made.{natOf, isBetween, inRange, hasField, isOutside, isCell, isCellAt, cellTest, areNumbers}
 
 -- a signed number in a local
 abbrev bits : ℤ → ℤ
@@ -159,22 +159,22 @@ pub ruleset cell-ways = (cell-kind, cell-outside, cell-field, cell-0, cell-other
 
 -- ---- the numbers of a row of a kind
 
-module _ (kind p : ℕ) (rows : List ℤ) (q : below rowWidth (cellOf kind rows) ≡ below p (cellOf kind rows)) where
-  pub cells-over : p ≤ 0 → true ≡ below rowWidth (cellOf kind rows)
+module _ (kind p : ℕ) (rows : List ℤ) (q : below rowWidth (isCellAt kind rows) ≡ below p (isCellAt kind rows)) where
+  pub cells-over : p ≤ 0 → true ≡ below rowWidth (isCellAt kind rows)
   unfolding below
   cells-over h =
       let z : p ≡ 0 = omega arith in
       sym (q ∙ rw z)
 
   module _ (h : 0 < p) (m : mag (getD rows (p - 1) (pos 0)) < 2 ^ 63) (r : Bool) (e : r ≡ isCell kind (p - 1) (bits (getD rows (p - 1) (pos 0)))) where
-    here : r ≡ cellOf kind rows (p - 1)
+    here : r ≡ isCellAt kind rows (p - 1)
     here = rw (back (getD rows (p - 1) (pos 0)) m) at e
 
-    pub cells-step : not r ≡ false → below rowWidth (cellOf kind rows) ≡ below (p - 1) (cellOf kind rows)
-    cells-step t = q ∙ below-on p (cellOf kind rows) h ∙ rw (← here, not-false r t)
+    pub cells-step : not r ≡ false → below rowWidth (isCellAt kind rows) ≡ below (p - 1) (isCellAt kind rows)
+    cells-step t = q ∙ below-on p (isCellAt kind rows) h ∙ rw (← here, not-false r t)
 
-    pub cells-stop : not r ≡ true → false ≡ below rowWidth (cellOf kind rows)
-    cells-stop t = sym (q ∙ below-on p (cellOf kind rows) h ∙ rw (← here, not-true r t))
+    pub cells-stop : not r ≡ true → false ≡ below rowWidth (isCellAt kind rows)
+    cells-stop t = sym (q ∙ below-on p (isCellAt kind rows) h ∙ rw (← here, not-true r t))
 
 pub ruleset cells-ways = (cells-over, cells-step, cells-stop)
 
@@ -194,7 +194,7 @@ module _ (rows : List ℤ) where
   numbers-short h = rw (lt-leb rowWidth (length rows) h)
 
   module _ (l : rowWidth ≤ length rows) (k : ℕ) (e : k ≡ natOf (getD rows 0 (pos 0))) where
-    pub numbers-kind : (kind : ℕ) → k ≡ kind → (r : Bool) → r ≡ below rowWidth (cellOf kind rows) → r ≡ areNumbers rows
+    pub numbers-kind : (kind : ℕ) → k ≡ kind → (r : Bool) → r ≡ below rowWidth (isCellAt kind rows) → r ≡ areNumbers rows
     unfolding areNumbers below
     numbers-kind kind f r q = rw (le-leb rowWidth (length rows) l, ← e, f) q
 

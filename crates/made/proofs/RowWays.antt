@@ -20,7 +20,7 @@ use Rattle.record.specs.declared.Mode.the-variants.{Loose, Exact}
 use Rattle.token.specs.declared.Want.the-variants.{Int}
 use Rattle.kinds.specs.Kinds.{rowWidth, codePlace, lettersPlace, islandsPlace, verticesPlace, schedule, isListed, wantAt}
 use Rattle.sheet.specs.Tables.{Tables}
-use Rattle.made.specs.declared.Turn.the-variants.{Wrong, Strange, On}
+use Rattle.made.specs.declared.RowJudged.the-variants.{Wrong, Strange, On}
 use Rattle.made.specs.Made.{tablesOf, natOf, countAt, kindOf, islandsOf, inRange, hasField, isCell, cellTest, areNumbers, areLetters, sum, fourAtLeast, areCounts, areReals, arePoints, isMade, isCoded}
 use Rattle.made.specs.Turn.{rowTurn}
 
@@ -86,7 +86,7 @@ module _ (i v : ℕ) (s : List ℕ) (e : areCounts 1 i v s ≡ true) where
   unfolding areCounts
   border-fours = and-right (enough && leb i (length s)) fours (and-left (enough && leb i (length s) && fours) outer e)
 
-  border-outer : sum (take i s) + 4 ≤ v
+  pub border-outer : sum (take i s) + 4 ≤ v
   unfolding areCounts
   border-outer = leb-true (sum (take i s) + 4) v (and-right (enough && leb i (length s) && fours) outer e)
 

@@ -18,7 +18,7 @@ use Rattle.heading.specs.Heading.{nameByte, isName, isHeader}
 use Rattle.sheet.specs.Tables.{Tables}
 use Rattle.made.specs.declared.Verdict.{Verdict}
 use Rattle.made.specs.declared.Verdict.the-variants.{Fine, BadHeader, Faulty, Unlisted}
-use Rattle.made.specs.Made.{tablesOf, inRange, hasField, isOutside, isCell, areNumbers, areLetters, sum, areCounts, areReals, isClosed, areClosed, ringSizes, arePoints, isMade, isCoded, judgeRows, judgeOf, faultOf}
+use Rattle.made.specs.Made.{tablesOf, inRange, hasField, isOutside, isCell, areNumbers, areLetters, sum, areCounts, areReals, isClosed, areClosed, ringSizes, arePoints, isMade, isCoded, judgeRows, judgeOf, faultOf, usedOf}
 
 abbrev pub header : ℕ → Header
 header kind = record { kind = kind; name = text "Z999_000100"; scale = pos 1000000 }
@@ -163,3 +163,16 @@ open-in-y = refl
 -- the paper's numbers: 6, 15 and 10, the row with the last two
 faults : (faultOf BadHeader ≡ record { number = 6; row = 0 }) × (faultOf (Faulty 3) ≡ record { number = 15; row = 3 }) × (faultOf (Unlisted 3) ≡ record { number = 10; row = 3 })
 faults = (refl, refl, refl)
+
+-- two rows of tables that hold one: they use what one row uses, yet the sheet is not well made
+used-twice : usedOf 2 (tablesOf label (text "7") [] []) ≡ usedOf 1 (tablesOf label (text "7") [] [])
+unfolding usedOf
+used-twice = refl
+
+counted-once : judged Loose label (text "7") [] [] 1 ≡ Fine
+unfolding judged
+counted-once = refl
+
+counted-twice : judged Loose label (text "7") [] [] 2 ≡ Faulty 1
+unfolding judged
+counted-twice = refl

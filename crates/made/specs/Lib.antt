@@ -1,4 +1,5 @@
--- The definitions of `made`, in the order to read them.
+-- To read beside document 01, "Sheet tables":
 pub mod Made
-pub mod Turn
 pub mod Examples
+-- For private contracts alone:
+pub mod Turn

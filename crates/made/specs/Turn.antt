@@ -5,10 +5,10 @@ use Rattle.record.specs.declared.Mode.{Mode}
 use Rattle.kinds.specs.Kinds.{codePlace, lettersPlace, islandsPlace, verticesPlace}
 use Rattle.sheet.specs.Tables.{Tables}
 use Rattle.made.specs.Made.{kindOf, countAt, isMade, isCoded}
-use Rattle.made.specs.declared.Turn.{Turn}
-use Rattle.made.specs.declared.Turn.the-variants.{Wrong, Strange, On}
+use Rattle.made.specs.declared.RowJudged.{RowJudged}
+use Rattle.made.specs.declared.RowJudged.the-variants.{Wrong, Strange, On}
 
-unfoldable pub rowTurn : Mode → Tables → Turn
+unfoldable pub rowTurn : Mode → Tables → RowJudged
 rowTurn mode t =
     cond (isMade t)
     (cond (isCoded mode (kindOf t) (countAt t codePlace)) (On (countAt t lettersPlace) (countAt t islandsPlace) (2 * countAt t verticesPlace)) Strange)

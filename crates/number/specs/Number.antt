@@ -10,6 +10,7 @@ use lib.Signed.{leZ}
 use Rattle.laws.specs.Lists.{run}
 use Rattle.record.specs.declared.Mode.{Mode}
 use Rattle.record.specs.Record.{isLoose}
+use Rattle.record.specs.Refusals.{malformed}
 use Rattle.number.specs.Words.{blank, unled}
 use Rattle.number.specs.declared.Whole.{Whole}
 use Rattle.number.specs.declared.Whole.the-variants as Whole
@@ -99,3 +100,21 @@ realMost = pos 99999999999
 
 unfoldable pub isReal : ℤ → Bool
 isReal z = leZ realLeast z && leZ z realMost
+
+-- ---- the paper's number and value: 8, and no value, where it is malformed
+
+abbrev pub integerNumber : Whole → ℕ
+integerNumber (Whole.Is n) = 0
+integerNumber Whole.Malformed = malformed
+
+abbrev pub integerValue : Whole → ℤ
+integerValue (Whole.Is n) = pos n
+integerValue Whole.Malformed = pos 0
+
+abbrev pub realNumber : Decimal → ℕ
+realNumber (Decimal.Is z) = 0
+realNumber Decimal.Malformed = malformed
+
+abbrev pub realValue : Decimal → ℤ
+realValue (Decimal.Is z) = z
+realValue Decimal.Malformed = pos 0

@@ -22,7 +22,7 @@ use Rattle.record.specs.declared.Found.{Found}
 use Rattle.record.specs.declared.Found.the-variants.{Record, Refused}
 use Rattle.record.specs.Record.{recordAt}
 use Rattle.cursor.specs.declared.Cursor.{Cursor}
-use Rattle.cursor.specs.Cursor.{after, handed, nthFrom, nthRecord}
+use Rattle.cursor.specs.Cursor.{placeAfter, handed, nthFrom, nthRecord}
 use Rattle.cursor.proofs.new as new
 use Rattle.cursor.proofs.next as next
 use Rattle.cursor.proofs.next_at as next-at
@@ -49,7 +49,7 @@ module _ (κs : Lfts 1) (a : ArgsD next-at.signature κs) (r : ResD next-at.sign
   abbrev pub Only : List ℕ → ℕ → Mode → Bool → Found → ℕ → Type 0
   Only s at mode due x place = now (a .0) ≡ s → a .1 .0 ≡ at → a .1 .1 .0 ≡ mode → a .1 .1 .1 .0 ≡ due → r ≡ record { found = x; at = place }
 
-  only : {s : List ℕ} {at : ℕ} {mode : Mode} {due : Bool} {x : Found} → recordAt s at mode due ≡ x → Only s at mode due x (after x at)
+  only : {s : List ℕ} {at : ℕ} {mode : Mode} {due : Bool} {x : Found} → recordAt s at mode due ≡ x → Only s at mode due x (placeAfter x at)
   only q s at mode due = post ∙ rw (s, at, mode, due, q) refl
 
   pub next-at-answers : Only two 7 Exact false (Record 7 5 14) 14

@@ -12,3 +12,4 @@ pub mod Areas
 pub mod Rings
 pub mod Tallies
 pub mod RunningTallies
+pub mod Interfaces

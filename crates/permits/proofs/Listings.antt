@@ -13,7 +13,7 @@ use Rattle.tally.specs.Examples.{computed}
 use Rattle.sheet.specs.Examples.{listed, seven}
 use Rattle.tally.specs.declared.Refusal.the-variants.{None}
 use Rattle.tally.specs.Take.{tallyOf}
-use Rattle.listing.specs.Listing.{talliedText, sheetText, listingOf}
+use Rattle.listing.specs.Listing.{talliedText, sheetListing, listingOf}
 use Rattle.listing.specs.Examples.{computedLines}
 use Rattle.listing.specs.declared.Listed.the-variants.{Wrote, NoRoom}
 use Rattle.listing.specs.Listed.{listedOf}
@@ -34,7 +34,7 @@ unfolding computed rowsHeld pointsHeld
 one-parcel = refl
 
 its-listing : listingOf listed ≡ listing
-unfolding listingOf sheetText talliedText computedLines listed rowsHeld
+unfolding listingOf sheetListing talliedText computedLines listed rowsHeld
 its-listing = rw (is, one-parcel) refl
 
 -- a refused input

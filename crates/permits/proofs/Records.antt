@@ -19,7 +19,7 @@ use Rattle.record.proofs.record_at as record-at
 use Rattle.record.proofs.record_at.Reads as record-at-reads
 use Rattle.told.specs.declared.CxfRecord.{CxfRecord}
 use Rattle.told.specs.Told.{recordTold}
-use Rattle.told.specs.Asked.{modeOf, isDue}
+use Rattle.told.specs.Asked.{modeOf, isKeywordDue}
 use Rattle.cabi.proofs.cxf_record_at as cxf-record-at
 use Rattle.cabi.proofs.cxf_record_at.Reads as cxf-record-at-reads
 
@@ -85,7 +85,7 @@ module _ (κs : Lfts 1) (a : ArgsD cxf-record-at.signature κs) (r : ResD cxf-re
   abbrev pub CxfOnly : List ℕ → ℕ → ℕ → ℕ → CxfRecord → Type 0
   CxfOnly s at mode due x = now (a .0) ≡ s → a .1 .0 ≡ at → a .1 .1 .0 ≡ mode → a .1 .1 .1 .0 ≡ due → r ≡ x
 
-  cxf-only : {s : List ℕ} {at mode due : ℕ} {x : Found} → recordAt s at (modeOf mode) (isDue due) ≡ x → CxfOnly s at mode due (recordTold x)
+  cxf-only : {s : List ℕ} {at mode due : ℕ} {x : Found} → recordAt s at (modeOf mode) (isKeywordDue due) ≡ x → CxfOnly s at mode due (recordTold x)
   cxf-only q s at mode due = post ∙ rw (s, at, mode, due, q) refl
 
   pub cxf-record-answers : CxfOnly two 7 2 0 (record { number = 0; start = 7; length = 5; next = 14 })

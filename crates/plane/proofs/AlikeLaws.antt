@@ -1,13 +1,14 @@
 -- Two rings whose vertices lie alike, each taken from its ring's first, have the same area: `area-alike`. Assumes nothing.
-use mathlib.Core.Path.{_≡_, refl}
+use mathlib.Core.Path.{_≡_, refl, ap₂}
 use mathlib.Core.List.{List}
 use mathlib.Core.Bool.{Bool, true, false, _&&_}
 use Prim.Native.Nat.{ℕ, zero, suc, _+_, _-_, _≤_, _<_}
+use native.Mathlib.Nat.{add-zero}
 use native.Mathlib.Omega.{arith}
 use lib.Dec.{leb}
 use lib.ListN.{length}
-use lib.IntN.{ℤ, natAbs}
-use Rattle.plane.specs.Rings.{reach, held, near, near-first, all-near, narrow}
+use lib.IntN.{ℤ, natAbs, _-ℤ_}
+use Rattle.plane.specs.Rings.{reach, x-at, y-at, held, near, near-first, all-near, narrow}
 use Rattle.plane.specs.Areas.{east, north, edge-term, signed-sum, areaOf}
 use Rattle.plane.proofs.RingLaws.{held-has}
 
@@ -24,7 +25,7 @@ module _ (ps qs : List ℤ) (p q : ℕ) where
   near-alike : (k : ℕ) → Alike k → near-first ps p k ≡ near-first qs q k
   near-alike k a = rw (near-by ps p k, near-by qs q k, a .0, a .1)
 
-  all-near-alike : (n : ℕ) → ((k : ℕ) → k < n → Alike k) → all-near ps p n ≡ all-near qs q n
+  pub all-near-alike : (n : ℕ) → ((k : ℕ) → k < n → Alike k) → all-near ps p n ≡ all-near qs q n
   unfolding all-near
   all-near-alike zero a = refl
   all-near-alike (suc n) a = rw (all-near-alike n (λ k h. a k (omega arith)), near-alike n (a n (omega arith)))
@@ -47,3 +48,11 @@ module _ (ps qs : List ℤ) (p q : ℕ) where
           let f = held-has (length qs) q n e in
           rw (h, e, all-near-alike n (a e), sum-alike n (a e) (n - 1) (omega arith))
       go false e = rw (h, e)
+
+  -- rings with the same vertices lie alike
+  pub same-alike : (n : ℕ) → ((k : ℕ) → k < n → (x-at ps (p + k) ≡ x-at qs (q + k)) × (y-at ps (p + k) ≡ y-at qs (q + k))) → (k : ℕ) → k < n → Alike k
+  unfolding east north
+  same-alike n v k h =
+      let a = v k h in
+      let b : (x-at ps p ≡ x-at qs q) × (y-at ps p ≡ y-at qs q) = rw (add-zero p, add-zero q) at (v 0 (omega arith)) in
+      (ap₂ (λ (x y : ℤ). x -ℤ y) (a .0) (b .0), ap₂ (λ (x y : ℤ). x -ℤ y) (a .1) (b .1))

@@ -3,6 +3,6 @@ mod Apart
 pub mod RingLaws
 pub mod AreaLaws
 mod AreaWays
-mod AlikeLaws
+pub mod AlikeLaws
 pub mod MovedLaws
 pub mod OwnLaws

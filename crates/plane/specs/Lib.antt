@@ -1,4 +1,4 @@
--- The definitions that the contracts of crate `plane` cite.
+-- To read beside document 01, "Areas": rings in a table of points, their areas; a ring that is moved, for a law.
 pub mod Rings
 pub mod Areas
 pub mod Moved

@@ -22,7 +22,7 @@ use Rattle.number.proofs.NumberLaws.{real-widens}
 use Rattle.token.specs.Lex.{lexOf}
 use Rattle.token.specs.declared.Want.the-variants.{Real}
 use Rattle.token.proofs.TokenLaws.{says-most}
-use Rattle.quick.specs.declared.Taken.{Taken}
+use Rattle.quick.specs.declared.RealTaken.{RealTaken}
 use Rattle.quick.specs.Neat.{Neat, Sound}
 use Rattle.quick.specs.Seen.{RealAt, SomeReal, Padded, Ends, Vertices, more}
 
@@ -99,13 +99,13 @@ module _ (mode : Mode) (s : List ℕ) (at w : ℕ) (f : 0 < w → Ends mode s at
       let p : Sound (take 12 (drop at s)) = rw (add-sub-cancel-left at 12) at (g t) in
       record { v = p .v; real = padded-real (real-of mode s at w (p .v) (f (omega arith)) (p .neat)) }
 
-pub quick-real : (mode : Mode) (s : List ℕ) (at : ℕ) (r : Taken) → (0 < r .width → Padded mode s at (r .width) (r .value)) → 0 < r .width → RealAt mode s at (r .width) (r .value)
+pub quick-real : (mode : Mode) (s : List ℕ) (at : ℕ) (r : RealTaken) → (0 < r .width → Padded mode s at (r .width) (r .value)) → 0 < r .width → RealAt mode s at (r .width) (r .value)
 quick-real mode s at r f o = padded-real (f o)
 
-pub loose-real : (mode : Mode) (s : List ℕ) (at : ℕ) (r : Taken) → mode ≡ Loose → (0 < r .width → RealAt Loose s at (r .width) (r .value)) → 0 < r .width → RealAt mode s at (r .width) (r .value)
+pub loose-real : (mode : Mode) (s : List ℕ) (at : ℕ) (r : RealTaken) → mode ≡ Loose → (0 < r .width → RealAt Loose s at (r .width) (r .value)) → 0 < r .width → RealAt mode s at (r .width) (r .value)
 loose-real mode s at r e f o = rw e (f o)
 
-pub loose-width : (mode : Mode) (s : List ℕ) (at : ℕ) (r : Taken) → mode ≡ Loose → (0 < r .width → RealAt Loose s at (r .width) (r .value)) → 0 < r .width → SomeReal mode s at (r .width)
+pub loose-width : (mode : Mode) (s : List ℕ) (at : ℕ) (r : RealTaken) → mode ≡ Loose → (0 < r .width → RealAt Loose s at (r .width) (r .value)) → 0 < r .width → SomeReal mode s at (r .width)
 loose-width mode s at r e f o = record { v = r .value; real = loose-real mode s at r e f o }
 
 -- the ways of `vertices`

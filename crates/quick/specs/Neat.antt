@@ -14,8 +14,8 @@ use Rattle.number.specs.Number.{digit, value, lean, realOf}
 use Rattle.token.specs.Lex.{lift}
 
 -- what stands from place i up to place 8
-abbrev pub span : List ℕ → ℕ → List ℕ
-span c i = take (8 - i) (drop i c)
+abbrev pub toPoint : List ℕ → ℕ → List ℕ
+toPoint c i = take (8 - i) (drop i c)
 
 -- digits from place i up to place 8, and their number
 pub record Front (c : List ℕ) (i v : ℕ) : Type 0 where

@@ -24,7 +24,7 @@ use Rattle.sheet.specs.Tables.{Tables, empty}
 use Rattle.sheet.specs.Reading.{Sections, read, stop, walk, walkFrom, Reading, sheet, refused, under, beyond, sectionsOf, meaning, reading}
 use Rattle.sheet.proofs.Pass.{Goes, Pass, done, more, Accepts, walk-accepts}
 use Rattle.reader.specs.Turn.{noNeeds, added}
-use Rattle.reader.specs.Store.{tablesOf, Room}
+use Rattle.reader.specs.Store.{sectionTables, Room}
 use Rattle.reader.specs.Read.{needsOf, judgedOf, Rooms, roomsOf, holdsAll, refusedWith, answered, readOf, tablesIn, written}
 use Rattle.reader.specs.declared.Needs.{Needs}
 use Rattle.reader.specs.declared.Judged.{Judged}
@@ -37,7 +37,7 @@ use Rattle.reader.proofs.Filling.{Holding}
 
 -- ---- tables that are read hold whole rows and whole points
 
-pass-sized : {mode : Mode} {st st′ : State} {o o′ : Tables} {bs : List ℕ} → Pass mode st o bs st′ o′ → (a : Needs) → Sized st o a → (b : Needs) × Sized st′ o′ b
+pub pass-sized : {mode : Mode} {st st′ : State} {o o′ : Tables} {bs : List ℕ} → Pass mode st o bs st′ o′ → (a : Needs) → Sized st o a → (b : Needs) × Sized st′ o′ b
 pass-sized done a h = (a, h)
 pass-sized {mode} {st} {o = o} (more {st₁ = st₁} {t = t} {c = c} g p) a h = pass-sized p (added a st t) (sized-put mode st st₁ t _ c o a h (g .says) (g .steps))
 
@@ -125,10 +125,10 @@ module _ (mode : Mode) (s : List ℕ) (r : Rooms) where
               rw (reading-is, c .sections, c .counts, ← w, t)
 
       -- the tables of the file are those of its sections
-      pub tables-are : tablesIn (reading mode s) ≡ tablesOf (walkFrom mode s at)
+      pub tables-are : tablesIn (reading mode s) ≡ sectionTables (walkFrom mode s at)
       tables-are = rw reading-is (by (walkFrom mode s at))
         where
-          by : (t : Sections) → tablesIn (under (x .header) t) ≡ tablesOf t
+          by : (t : Sections) → tablesIn (under (x .header) t) ≡ sectionTables t
           by (read o eof) = refl
           by (stop m k a) = refl
 

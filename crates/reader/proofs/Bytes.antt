@@ -1,16 +1,16 @@
 -- What a file's tables hold is bounded by its bytes, so that tables large enough for every file of a length can be lent. Assumes nothing.
--- A row takes 6 bytes of the file at least, a letter one, an island count two, each number of a point six.
-use mathlib.Core.Path.{_≡_, refl, sym, ap, subst}
-use mathlib.Core.Bool.{Bool, true, false, cond, _&&_, _||_}
+-- A row takes 28 bytes of the file at least, a letter one, an island count two, a point twelve.
+use mathlib.Core.Path.{_≡_, refl, sym, _∙_, ap, subst}
+use mathlib.Core.Bool.{Bool, true, false, cond, not, _&&_, _||_}
 use mathlib.Core.List.{List, [], _∷_, _++_}
-use Prim.Native.Nat.{ℕ, _+_, _-_, _*_, _/_, _≤_}
+use Prim.Native.Nat.{ℕ, zero, suc, _+_, _-_, _*_, _/_, _≤_}
 use native.Mathlib.Omega.{arith}
 use lib.ListN.{length, getD, take, drop, length-append, length-set, length-drop}
 use lib.Dec.{leb, eqb}
 use lib.IntN.{ℤ}
-use borrow.Author.Tests.{leb-true, le-leb, eqb-true}
+use borrow.Author.Tests.{leb-true, leb-false, le-leb, eqb-true, eqb-false}
 use Rattle.laws.specs.Lists.{run, below}
-use Rattle.laws.proofs.Choice.{and-left, and-right}
+use Rattle.laws.proofs.Choice.{and-left, and-right, cond-elim, false≢true}
 use Rattle.laws.proofs.ListLaws.{run-le, below-at}
 use Rattle.record.specs.declared.Mode.{Mode}
 use Rattle.record.specs.Record.{isLoose}
@@ -21,15 +21,20 @@ use Rattle.number.specs.declared.Decimal.the-variants as Decimal
 use Rattle.number.specs.Words.{blank, unled, trimmed, wordOf}
 use Rattle.number.specs.Number.{digit, ended, integerIs, integerAt, integerOf, signOf, signs, signed, thousandths, isToken, isNeat, realIs, realAt, realSigned, realOf}
 use Rattle.number.proofs.WordLaws.{trimmed-le, word-is}
-use Rattle.token.specs.declared.Token.the-variants.{Say}
-use Rattle.token.specs.declared.Want.the-variants.{Key, Int, Real}
-use Rattle.token.specs.Lex.{unlift, keywords, keyText, ofKey, ofDecimal, lexOf}
+use Rattle.token.specs.declared.Token.the-variants.{Say, Bad}
+use Rattle.token.specs.declared.Token.{Token}
+use Rattle.token.specs.declared.Want.{Want}
+use Rattle.token.specs.declared.Want.the-variants.{Key, Text, Int, Real}
+use Rattle.token.specs.Lex.{unlift, keywords, keyText, ofKey, ofText, ofDecimal, lexOf}
 use Rattle.token.proofs.TokenLaws.{key-read, key-most}
-use Rattle.kinds.specs.Kinds.{wantAt}
-use Rattle.machine.specs.Machine.{wantOf, keyStep, stepOf}
+use Rattle.record.specs.Refusals.{badLetters, badCount}
+use Rattle.kinds.specs.Kinds.{wantAt, schedule, nextIn, nextOf, isListed}
+use Rattle.machine.specs.Machine.{wantOf, freshRing, verticesOf, fieldOf, isShut, ringStep, vertexOf, keyStep, stepOf}
+use Rattle.machine.specs.declared.Ring.{Ring}
 use Rattle.machine.specs.declared.State.{State}
 use Rattle.machine.specs.declared.State.the-variants.{Due, Field, Island, X, Y}
-use Rattle.machine.specs.declared.Step.the-variants.{Go}
+use Rattle.machine.specs.declared.Step.{Step}
+use Rattle.machine.specs.declared.Step.the-variants.{Go, No, End}
 use Rattle.heading.specs.declared.Header.{Header}
 use Rattle.sheet.specs.Tables.{Tables, newRow, cellOf, setLast, put}
 use Rattle.sheet.specs.Reading.{sheet, reading}
@@ -37,34 +42,25 @@ use Rattle.sheet.proofs.Pass.{Pass, done, more, end-some}
 use Rattle.sheet.proofs.Meaning.{Parts, meaning-file, reading-meaning, file-parts}
 use Rattle.reader.specs.declared.Needs.{Needs}
 use Rattle.reader.specs.Turn.{added}
-use Rattle.reader.specs.Read.{needsOf, Rooms, holdsAll}
-use Rattle.reader.proofs.Standing.{Sized, sized-put}
+use Rattle.reader.specs.Read.{needsOf}
+use Rattle.reader.proofs.Standing.{Sized}
+use Rattle.reader.proofs.Answering.{pass-sized}
 
--- ---- the least content of a record, by what it says
+-- ---- the least content of a record, by what it is read as
 
--- a keyword's word has 5 characters at least, EOF apart
-abbrev isLong : ℕ → Bool
-isLong t = eqb t 0 || leb 5 (length (keyText t))
-
-all-long : below 12 isLong ≡ true
-unfolding below keyText keywords
-all-long = refl
-
-key-long : (mode : Mode) (c : List ℕ) (t : ℕ) → lexOf mode Key c ≡ Say t → (t ≡ 0 → ⊥) → 5 ≤ length c
+-- letters are never empty
+text-some : (mode : Mode) (c : List ℕ) (t : ℕ) → lexOf mode Text c ≡ Say t → 1 ≤ length c
 unfolding lexOf
-key-long mode c t q n = go (wordOf mode c) refl q
+text-some mode c t q = go (wordOf mode c) refl q
   where
-    long : (w : List ℕ) → keyText t ≡ w → (x : Bool) → eqb t 0 ≡ x → (x || leb 5 (length (keyText t))) ≡ true → 5 ≤ length w
-    long w e true f h = absurd (n (eqb-true t 0 f))
-    long w e false f h = subst (λ (x : List ℕ). 5 ≤ length x) e (leb-true 5 (length (keyText t)) h)
-
-    go : (w : Word) → wordOf mode c ≡ w → ofKey c w ≡ Say t → 5 ≤ length c
+    go : (w : Word) → wordOf mode c ≡ w → ofText w ≡ Say t → 1 ≤ length c
     go (Word.Is start len) e q =
-        let v = word-is mode c start len e in
-        let k : 5 ≤ length (take len (drop start c)) =
-        long (take len (drop start c)) (sym (key-read (take len (drop start c)) t q .1)) (eqb t 0) refl
-        (below-at 12 isLong t all-long (omega (arith, key-most (take len (drop start c)) t q))) in
-        omega (arith, k, ap length (v .1), trimmed-le c)
+        cond-elim (λ (x : Token). x ≡ Say t → 1 ≤ length c) (eqb len 0) (Bad badLetters) (Say len)
+        (λ _ d. absurd (let z : _≡_ {A = ℕ} 0 1 = cc in omega arith))
+        (λ f _. some (eqb-false len 0 f) (word-is mode c start len e .0)) q
+      where
+        some : (len ≡ 0 → ⊥) → start + len ≤ length c → 1 ≤ length c
+        some n h = omega arith
     go Word.Padded e q = absurd (let z : _≡_ {A = ℕ} 0 1 = cc in omega arith)
 
 -- an integer has a digit
@@ -99,47 +95,184 @@ real-long mode c t q =
     is-token true b z q = refl
     is-token false b y q = absurd (let z : _≡_ {A = ℕ} 0 1 = cc in omega arith)
 
--- ---- what a record adds
+-- the bytes that a record of a row takes at least, with its line end
+abbrev leastOf : Want → ℕ
+leastOf Key = 0
+leastOf Text = 2
+leastOf Int = 2
+leastOf Real = 6
 
--- twice the bytes that the tables' content takes at least: 12 numbers a row
-abbrev weight : Tables → ℕ
-weight o = length (o .rows) + 2 * length (o .letters) + 4 * length (o .islands) + 12 * length (o .points)
+least-long : (mode : Mode) (w : Want) (c : List ℕ) (t : ℕ) → lexOf mode w c ≡ Say t → leastOf w ≤ length c + 1
+least-long mode Key c t q = omega arith
+least-long mode Text c t q = omega (arith, text-some mode c t q)
+least-long mode Int c t q = omega (arith, int-some mode c t q)
+least-long mode Real c t q = omega (arith, real-long mode c t q)
 
-no-row-zero : (st : State) → keyStep 0 ≡ Go st → ⊥
-unfolding keyStep
-no-row-zero st e = let z : _≡_ {A = ℕ} 0 1 = cc in omega arith
+-- ---- the least bytes of a row: 28, as a TESTO of one letter or a SIMBOLO has
 
-put-weight : (mode : Mode) (st st′ : State) (next t : ℕ) (c : List ℕ) (o : Tables) (n : ℕ) → lexOf mode (wantOf st) c ≡ Say t → stepOf mode st t next ≡ Go st′
-    → length c + 1 ≤ n → weight (put st t c o) ≤ weight o + 2 * n
-unfolding put wantOf stepOf setLast
-put-weight mode Due st′ next t c o n q g h =
-    omega (arith, key-long mode c t q (λ z. no-row-zero st′ (subst (λ (k : ℕ). keyStep k ≡ Go st′) z g)), length-append (o .rows) (newRow t))
-put-weight mode (Field kind p i) st′ next t c o n q g h =
-    omega (arith, few (eqb p 9), length-append (o .letters) (cond (eqb p 9) (trimmed c) []), length-set (o .rows) (length (o .rows) - 12 + p) (cellOf (wantAt p) t))
+-- what a row takes at least from its field at p on (k fields at most), the two vertices of a line with it
+unfoldable owed : ℕ → ℕ → ℕ → ℕ
+owed zero kind p = 0
+owed (suc k) kind p =
+    leastOf (wantAt p) + cond (eqb p 11) (cond (eqb kind 1) 0 24) (cond (eqb (nextOf kind p) 0) 0 (owed k kind (nextOf kind p)))
+
+cond-le : (b : Bool) (x y z : ℕ) → y ≤ z → cond b x y ≤ cond b x z
+cond-le true x y z h = omega arith
+cond-le false x y z h = h
+
+owed-more : (k kind p : ℕ) → owed k kind p ≤ owed (suc k) kind p
+unfolding owed
+owed-more zero kind p = omega arith
+owed-more (suc k) kind p =
+    let n = nextOf kind p in
+    let h = cond-le (eqb p 11) (cond (eqb kind 1) 0 24) _ _ (cond-le (eqb n 0) 0 _ _ (owed-more k kind n)) in
+    omega (arith, h)
+
+-- what a row takes at least from a state on
+abbrev owing : State → ℕ
+owing Due = 0
+owing (Field kind p i) = owed 9 kind p
+owing (Island l s r) = 0
+owing (X r) = 12 * r .left
+owing (Y r x) = 12 * r .left - 6
+
+-- a step that goes on still owes w
+abbrev Pays : ℕ → Step → Type 0
+Pays w (Go st) = w ≤ owing st
+Pays w (No m) = Unit {0}
+Pays w End = Unit {0}
+
+vertices-pays : (kind i n : ℕ) → Pays (cond (eqb kind 1) 0 24) (verticesOf kind i n)
+unfolding verticesOf
+vertices-pays kind i n = go (eqb kind 1)
   where
-    few : (b : Bool) → length (cond b (trimmed c) []) ≤ length c
-    few true = trimmed-le c
-    few false = omega arith
-put-weight mode (Island l s r) st′ next t c o n q g h = omega (arith, int-some mode c t q, length-append (o .islands) (t ∷ []))
-put-weight mode (X r) st′ next t c o n q g h = omega (arith, real-long mode c t q, length-append (o .points) (unlift t ∷ []))
-put-weight mode (Y r x) st′ next t c o n q g h = omega (arith, real-long mode c t q, length-append (o .points) (unlift t ∷ []))
+    go : (b : Bool) → Pays (cond b 0 24) (cond b
+        (cond (leb (4 + 4 * i) n) (cond (eqb i 0) (Go (X (freshRing true 0 n))) (Go (Island i n i))) (No badCount))
+        (cond (leb 2 n) (Go (X (freshRing false 0 n))) (No badCount)))
+    go true = cond-elim (Pays 0) (leb (4 + 4 * i) n) _ _ (λ _. cond-elim (Pays 0) (eqb i 0) _ _ (λ _. omega arith) (λ _. omega arith)) (λ _. tt)
+    go false = cond-elim (Pays 24) (leb 2 n) _ _ (λ e. omega (arith, leb-true 2 n e)) (λ _. tt)
 
-pass-weight : {mode : Mode} {st st₁ : State} {o o₁ : Tables} {body : List ℕ} → Pass mode st o body st₁ o₁ → weight o₁ ≤ weight o + 2 * length body
-pass-weight done = omega arith
-pass-weight {mode} {st} {o = o} (more {st₁ = stm} {t = t} {c = c} {e = e} {bs = bs} g p) =
+field-pays : (mode : Mode) (kind p i n : ℕ)
+    → Pays (cond (eqb p 11) (cond (eqb kind 1) 0 24) (cond (eqb (nextOf kind p) 0) 0 (owed 8 kind (nextOf kind p)))) (fieldOf mode kind p i n)
+unfolding fieldOf
+field-pays mode kind p i n = cond-elim (Pays _) (eqb p 2 && not (isLoose mode) && not (isListed kind n)) _ _ (λ _. tt) (λ _. at (eqb p 11))
+  where
+    on : (b : Bool) → Pays (cond b 0 (owed 8 kind (nextOf kind p))) (cond b (Go Due) (Go (Field kind (nextOf kind p) (cond (eqb p 10) n i))))
+    on true = omega arith
+    on false = owed-more 8 kind (nextOf kind p)
+
+    at : (b : Bool) → Pays (cond b (cond (eqb kind 1) 0 24) (cond (eqb (nextOf kind p) 0) 0 (owed 8 kind (nextOf kind p))))
+        (cond b (verticesOf kind i n) (cond (eqb (nextOf kind p) 0) (Go Due) (Go (Field kind (nextOf kind p) (cond (eqb p 10) n i)))))
+    at true = vertices-pays kind i n
+    at false = on (eqb (nextOf kind p) 0)
+
+ring-pays : (r : Ring) (fx fy x y next : ℕ) → Pays (12 * r .left - 12) (ringStep r fx fy x y next)
+unfolding ringStep
+ring-pays r fx fy x y next =
+    let Q = Pays (12 * r .left - 12) in
+    cond-elim Q (leb (r .left) 1) _ _
+    (λ e. cond-elim Q (isShut (r .closed) fx fy x y) _ _
+    (λ _. cond-elim Q (eqb (r .rings) 0) _ _ (λ _. omega (arith, leb-true (r .left) 1 e)) (λ _. omega (arith, leb-true (r .left) 1 e)))
+    (λ _. tt))
+    (λ e. omega (arith, leb-false (r .left) 1 e))
+
+-- a keyword that opens a row, and the row's fields
+abbrev isLong : ℕ → Bool
+isLong t = eqb (nextOf (t / 2) 0) 0 || leb 27 (length (keyText t) + owed 9 (t / 2) (nextOf (t / 2) 0))
+
+all-long : below 12 isLong ≡ true
+unfolding below keyText keywords owed nextOf nextIn schedule wantAt
+all-long = refl
+
+-- a step that goes on opens a row by the keyword t
+abbrev Opens : ℕ → Step → Type 0
+Opens t (Go st) = (eqb (nextOf (t / 2) 0) 0 ≡ false) × (owed 9 (t / 2) (nextOf (t / 2) 0) ≤ owing st)
+Opens t (No m) = Unit {0}
+Opens t End = Unit {0}
+
+key-opens : (t : ℕ) → Opens t (keyStep t)
+unfolding keyStep
+key-opens t =
+    cond-elim (Opens t) (eqb t 0) _ _ (λ _. tt)
+    (λ _. cond-elim (Opens t) (eqb (nextOf (t / 2) 0) 0) _ _ (λ _. tt) (λ e. (e, omega arith)))
+
+key-long : (mode : Mode) (c : List ℕ) (t : ℕ) → lexOf mode Key c ≡ Say t → eqb (nextOf (t / 2) 0) 0 ≡ false → 27 ≤ length c + owed 9 (t / 2) (nextOf (t / 2) 0)
+unfolding lexOf
+key-long mode c t q n = go (wordOf mode c) refl q
+  where
+    long : (w : List ℕ) → keyText t ≡ w → (x : Bool) → x ≡ false → (x || leb 27 (length (keyText t) + owed 9 (t / 2) (nextOf (t / 2) 0))) ≡ true
+        → 27 ≤ length w + owed 9 (t / 2) (nextOf (t / 2) 0)
+    long w e true f h = absurd (let z : _≡_ {A = ℕ} 0 1 = cc in omega arith)
+    long w e false f h = subst (λ (x : List ℕ). 27 ≤ length x + owed 9 (t / 2) (nextOf (t / 2) 0)) e (leb-true 27 _ h)
+
+    go : (w : Word) → wordOf mode c ≡ w → ofKey c w ≡ Say t → 27 ≤ length c + owed 9 (t / 2) (nextOf (t / 2) 0)
+    go (Word.Is start len) e q =
+        let v = word-is mode c start len e in
+        let w = take len (drop start c) in
+        let k : 27 ≤ length w + owed 9 (t / 2) (nextOf (t / 2) 0) =
+        long w (sym (key-read w t q .1)) (eqb (nextOf (t / 2) 0) 0) n (below-at 12 isLong t all-long (omega (arith, key-most w t q))) in
+        omega (arith, k, ap length (v .1), trimmed-le c)
+    go Word.Padded e q = absurd (let z : _≡_ {A = ℕ} 0 1 = cc in omega arith)
+
+-- a row is 12 numbers, so three times its bytes are seven for each
+put-rows : (mode : Mode) (st st′ : State) (next t : ℕ) (c : List ℕ) (o : Tables) (n : ℕ) → lexOf mode (wantOf st) c ≡ Say t → stepOf mode st t next ≡ Go st′
+    → length c + 1 ≤ n → 7 * length (put st t c o .rows) + 3 * owing st ≤ 7 * length (o .rows) + 3 * n + 3 * owing st′
+unfolding put wantOf stepOf setLast vertexOf owed
+put-rows mode Due st′ next t c o n q g h =
+    let k = subst (Opens t) g (key-opens t) in
+    omega (arith, k .1, key-long mode c t q (k .0), length-append (o .rows) (newRow t))
+put-rows mode (Field kind p i) st′ next t c o n q g h =
+    let k = subst (Pays _) g (field-pays mode kind p i t) in
+    omega (arith, k, least-long mode (wantAt p) c t q, length-set (o .rows) (length (o .rows) - 12 + p) (cellOf (wantAt p) t))
+put-rows mode (Island l s r) st′ next t c o n q g h = omega arith
+put-rows mode (X r) st′ next t c o n q g h =
+    let k : 12 * r .left - 6 ≤ owing st′ = subst (Pays (12 * r .left - 6)) g (omega arith) in
+    omega (arith, k, real-long mode c t q)
+put-rows mode (Y r x) st′ next t c o n q g h =
+    let k = subst (Pays _) g (ring-pays r _ _ x t next) in
+    omega (arith, k, real-long mode c t q)
+
+pass-rows : {mode : Mode} {st st₁ : State} {o o₁ : Tables} {body : List ℕ} → Pass mode st o body st₁ o₁
+    → 7 * length (o₁ .rows) + 3 * owing st ≤ 7 * length (o .rows) + 3 * length body + 3 * owing st₁
+pass-rows done = omega arith
+pass-rows {mode} {st} {o = o} (more {st₁ = stm} {t = t} {c = c} {e = e} {bs = bs} g p) =
     omega (
       arith,
-      put-weight mode st stm _ t c o (length c + length e) (g .says) (g .steps) (omega (arith, end-some mode e (g .end))),
-      pass-weight p,
+      put-rows mode st stm _ t c o (length c + length e) (g .says) (g .steps) (omega (arith, end-some mode e (g .end))),
+      pass-rows p,
       length-append c (e ++ bs),
       length-append e bs,
     )
 
--- the needs count the tables after a pass too
-pass-sized : {mode : Mode} {st st₁ : State} {o o₁ : Tables} {body : List ℕ} → Pass mode st o body st₁ o₁ → (a : Needs) → Sized st o a → (b : Needs) × Sized st₁ o₁ b
-pass-sized done a h = (a, h)
-pass-sized {mode} {st} {o = o} (more {st₁ = stm} {t = t} {c = c} g p) a h =
-    pass-sized p (added a st t) (sized-put mode st stm t _ c o a h (g .says) (g .steps))
+-- ---- letters, island counts and points
+
+-- the bytes that they take at least
+abbrev weight : Tables → ℕ
+weight o = length (o .letters) + 2 * length (o .islands) + 6 * length (o .points)
+
+put-weight : (mode : Mode) (st : State) (t : ℕ) (c : List ℕ) (o : Tables) (n : ℕ) → lexOf mode (wantOf st) c ≡ Say t
+    → length c + 1 ≤ n → weight (put st t c o) ≤ weight o + n
+unfolding put wantOf
+put-weight mode Due t c o n q h = omega arith
+put-weight mode (Field kind p i) t c o n q h = omega (arith, few (eqb p 9), length-append (o .letters) (cond (eqb p 9) (trimmed c) []))
+  where
+    few : (b : Bool) → length (cond b (trimmed c) []) ≤ length c
+    few true = trimmed-le c
+    few false = omega arith
+put-weight mode (Island l s r) t c o n q h = omega (arith, int-some mode c t q, length-append (o .islands) (t ∷ []))
+put-weight mode (X r) t c o n q h = omega (arith, real-long mode c t q, length-append (o .points) (unlift t ∷ []))
+put-weight mode (Y r x) t c o n q h = omega (arith, real-long mode c t q, length-append (o .points) (unlift t ∷ []))
+
+pass-weight : {mode : Mode} {st st₁ : State} {o o₁ : Tables} {body : List ℕ} → Pass mode st o body st₁ o₁ → weight o₁ ≤ weight o + length body
+pass-weight done = omega arith
+pass-weight {mode} {st} {o = o} (more {t = t} {c = c} {e = e} {bs = bs} g p) =
+    omega (
+      arith,
+      put-weight mode st t c o (length c + length e) (g .says) (omega (arith, end-some mode e (g .end))),
+      pass-weight p,
+      length-append c (e ++ bs),
+      length-append e bs,
+    )
 
 -- ---- the tables of a file
 
@@ -148,15 +281,12 @@ module _ (mode : Mode) (bs : List ℕ) (h : Header) (o : Tables) (q : reading mo
   parts = file-parts mode bs h o (meaning-file mode bs h o (reading-meaning mode bs h o q .1)) .0
 
   -- **the tables of a file are bounded by its bytes**
-  pub tables-most : length (o .rows) + 2 * length (o .letters) + 4 * length (o .islands) + 12 * length (o .points) ≤ 2 * length bs
+  pub tables-most : (7 * length (o .rows) ≤ 3 * length bs) × (length (o .letters) + 2 * length (o .islands) + 6 * length (o .points) ≤ length bs)
   tables-most =
-      omega (
-        arith,
-        pass-weight (parts .pass),
-        ap length (parts .split),
-        length-append (parts .head) (parts .body ++ parts .rest),
-        length-append (parts .body) (parts .rest),
-      )
+      let a = ap length (parts .split) in
+      let b = length-append (parts .head) (parts .body ++ parts .rest) in
+      let c = length-append (parts .body) (parts .rest) in
+      (omega (arith, pass-rows (parts .pass), a, b, c), omega (arith, pass-weight (parts .pass), a, b, c))
 
   -- rows have 12 numbers and points two: nothing is left over
   pub tables-whole : (length (o .rows) ≡ 12 * needsOf o .rows) × (length (o .points) ≡ 2 * needsOf o .points)
@@ -164,23 +294,3 @@ module _ (mode : Mode) (bs : List ℕ) (h : Header) (o : Tables) (q : reading mo
       let none : Needs = record { rows = 0; letters = 0; islands = 0; points = 0 } in
       let (b, s) = pass-sized (parts .pass) none (record { rows = refl; letters = refl; islands = refl; points = refl }) in
       (omega (arith, s .rows), omega (arith, s .points))
-
--- tables that hold any file of n bytes
-pub record Enough (n : ℕ) (r : Rooms) : Type 0 where
-  pub rows : n / 6 ≤ r .rows / 12
-  pub letters : n ≤ r .letters
-  pub islands : n / 2 ≤ r .islands
-  pub points : n / 6 ≤ r .points
-
--- **no room is never the answer there**
-pub enough-holds : (mode : Mode) (bs : List ℕ) (h : Header) (o : Tables) (r : Rooms) (n : ℕ) → reading mode bs ≡ sheet h o → length bs ≤ n → Enough n r
-    → holdsAll (needsOf o) r ≡ true
-unfolding holdsAll
-enough-holds mode bs h o r n q l e =
-    let w = tables-most mode bs h o q in
-    rw (
-      le-leb (length (o .rows) / 12) (r .rows / 12) (omega (arith, e .rows)),
-      le-leb (length (o .letters)) (r .letters) (omega (arith, e .letters)),
-      le-leb (length (o .islands)) (r .islands) (omega (arith, e .islands)),
-      le-leb (length (o .points) / 2) (r .points / 2) (omega (arith, e .points)),
-    )

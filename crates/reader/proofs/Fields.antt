@@ -19,7 +19,7 @@ use Rattle.token.specs.Lex.{lexOf}
 use Rattle.token.proofs.TokenLaws.{says-most}
 use Rattle.token.specs.declared.Want.{Want}
 use Rattle.token.specs.declared.Want.the-variants.{Text, Int, Real}
-use Rattle.quick.specs.declared.Taken.{Taken}
+use Rattle.quick.specs.declared.RealTaken.{RealTaken}
 use Rattle.quick.specs.Seen.{RealAt}
 use Rattle.kinds.specs.Kinds.{wantAt}
 use Rattle.machine.specs.Machine.{wantOf, fieldOf, stepOf, oneOf}
@@ -27,11 +27,11 @@ use Rattle.machine.specs.declared.State.{State}
 use Rattle.machine.specs.declared.State.the-variants.{Field}
 use Rattle.machine.specs.declared.Step.{Step}
 use Rattle.sheet.specs.Tables.{cellOf}
-use Rattle.reader.specs.Turn.{sized, sizeLine, sizeOf, sizeNext, added, turnOf, Within, FieldSays, Turns, still, on, onward}
+use Rattle.reader.specs.Turn.{sized, sizeLine, sizeOf, sizeNext, added, turnOf, InFile, FieldSays, Turns, still, on, standOn}
 use Rattle.reader.specs.Store.{tokenMost, Enters, at-rest, entered}
 use Rattle.reader.specs.declared.Said.{Said}
 use Rattle.reader.specs.declared.Size.{Size}
-use Rattle.reader.specs.declared.Stand.{Stand}
+use Rattle.reader.specs.declared.ReadStand.{ReadStand}
 use Rattle.reader.specs.declared.Turn.{Turn}
 
 -- ---- what a number says
@@ -78,7 +78,7 @@ size-read mode bs z e h = by (lineOf mode false bs) refl e
         absurd (omega arith)
 
 module _ (mode : Mode) (s : List ℕ) (at place : ℕ) (n : place < 12) (w : Want) (e : w ≡ wantAt place) where
-  pub said-real : (q : Taken) → w ≡ Real → (0 < q .width → RealAt mode s at (q .width) (q .value)) → 0 < q .width → FieldSays mode s at place (q .width) (q .value)
+  pub said-real : (q : RealTaken) → w ≡ Real → (0 < q .width → RealAt mode s at (q .width) (q .value)) → 0 < q .width → FieldSays mode s at place (q .width) (q .value)
   said-real q f g h =
       let k : wantAt place ≡ Real = sym e ∙ f in
       let r = g h in
@@ -93,35 +93,35 @@ module _ (mode : Mode) (s : List ℕ) (at place : ℕ) (n : place < 12) (w : Wan
 
 -- ---- many
 
-pub record Walked (mode : Mode) (s : List ℕ) (d : Stand) (st : State) (here ring k : ℕ) : Type 0 where
-  pub turns : Turns mode s d (onward d st here ring k)
+pub record Walked (mode : Mode) (s : List ℕ) (d : ReadStand) (st : State) (here ring k : ℕ) : Type 0 where
+  pub turns : Turns mode s d (standOn d st here ring k)
   pub far : d .at + k ≤ here
   pub inside : here ≤ length s
 
-onward-none : (d : Stand) → d ≡ onward d (d .state) (d .at) (d .ring) 0
+onward-none : (d : ReadStand) → d ≡ standOn d (d .state) (d .at) (d .ring) 0
 onward-none d =
     let b : d .nth ≡ d .nth + 0 = omega arith in
     λ i. record { state = d .state; at = d .at; nth = b i; ring = d .ring; needs = d .needs }
 
-pub walked-start : (mode : Mode) (s : List ℕ) (d : Stand) → Within s d → Walked mode s d (d .state) (d .at) (d .ring) 0
+pub walked-start : (mode : Mode) (s : List ℕ) (d : ReadStand) → InFile s d → Walked mode s d (d .state) (d .at) (d .ring) 0
 walked-start mode s d w = record { turns = subst (Turns mode s d) (onward-none d) still; far = omega arith; inside = w .here }
 
-field-turn : (mode : Mode) (s : List ℕ) (d : Stand) (kind p i here ring k width t : ℕ) (f : FieldSays mode s here p width t) (st : State) → fieldOf mode kind p i t ≡ Step.Go st
-    → turnOf mode s (onward d (Field kind p i) here ring k) ≡ Turn.On (onward d st (here + width) (here + width) (k + 1)) t (f .len)
+field-turn : (mode : Mode) (s : List ℕ) (d : ReadStand) (kind p i here ring k width t : ℕ) (f : FieldSays mode s here p width t) (st : State) → fieldOf mode kind p i t ≡ Step.Go st
+    → turnOf mode s (standOn d (Field kind p i) here ring k) ≡ Turn.On (standOn d st (here + width) (here + width) (k + 1)) t (f .len)
 unfolding turnOf oneOf wantOf stepOf added sizeNext
 field-turn mode s d kind p i here ring k width t f st g =
     let a : d .nth + k + 1 ≡ d .nth + (k + 1) = omega arith in
     let b : d .needs .letters + 0 ≡ d .needs .letters = omega arith in
     rw (f .line, f .says, g, f .apart, a, b)
 
-module _ (mode : Mode) (s : List ℕ) (d : Stand) (w : Within s d) (st : State) (here ring k : ℕ) (v : Walked mode s d st here ring k) where
+module _ (mode : Mode) (s : List ℕ) (d : ReadStand) (w : InFile s d) (st : State) (here ring k : ℕ) (v : Walked mode s d st here ring k) where
   pub walked-few : d .nth + k < 18446744073709551616
   walked-few = omega (arith, w .small, w .counted, v .far, v .inside)
 
-  pub walked-is : (e : Stand) → e ≡ onward d st here ring k → Turns mode s d e
+  pub walked-is : (e : ReadStand) → e ≡ standOn d st here ring k → Turns mode s d e
   walked-is e q = rw q (v .turns)
 
-  pub walked-at : (kind p i : ℕ) → st ≡ Field kind p i → (b : Stand) → b ≡ onward d (Field kind p i) here ring k → Turns mode s d b
+  pub walked-at : (kind p i : ℕ) → st ≡ Field kind p i → (b : ReadStand) → b ≡ standOn d (Field kind p i) here ring k → Turns mode s d b
   walked-at kind p i e b q = rw q (rw e at (v .turns))
 
   module _ (kind p i : ℕ) (e : st ≡ Field kind p i) (r : Said) (f : 0 < r .width → FieldSays mode s here p (r .width) (r .token)) (n : r .width ≡ 0 → ⊥) where
@@ -134,7 +134,7 @@ module _ (mode : Mode) (s : List ℕ) (d : Stand) (w : Within s d) (st : State) 
     pub walked-on : (x : Step) → x ≡ fieldOf mode kind p i (r .token) → (st′ : State) → x ≡ Step.Go st′ → Walked mode s d st′ (here + r .width) (here + r .width) (k + 1)
     walked-on x g st′ h =
         let b = said-inside in
-        let t : Turns mode s d (onward d (Field kind p i) here ring k) = rw e at (v .turns) in
+        let t : Turns mode s d (standOn d (Field kind p i) here ring k) = rw e at (v .turns) in
         record {
           turns = on t (field-turn mode s d kind p i here ring k (r .width) (r .token) (f (omega arith)) st′ (sym g ∙ h));
           far = omega (arith, v .far, b);
@@ -143,24 +143,24 @@ module _ (mode : Mode) (s : List ℕ) (d : Stand) (w : Within s d) (st : State) 
 
 -- ---- the same with the numbers stored
 
-pub record Entered (mode : Mode) (s : List ℕ) (d : Stand) (l : List ℤ) (st : State) (here ring k : ℕ) (m : List ℤ) : Type 0 where
-  pub enters : Enters mode s d l (onward d st here ring k) m
+pub record Entered (mode : Mode) (s : List ℕ) (d : ReadStand) (l : List ℤ) (st : State) (here ring k : ℕ) (m : List ℤ) : Type 0 where
+  pub enters : Enters mode s d l (standOn d st here ring k) m
   pub far : d .at + k ≤ here
   pub inside : here ≤ length s
   pub kept : length m ≡ length l
 
-pub entered-start : (mode : Mode) (s : List ℕ) (d : Stand) (l : List ℤ) → Within s d → Entered mode s d l (d .state) (d .at) (d .ring) 0 l
+pub entered-start : (mode : Mode) (s : List ℕ) (d : ReadStand) (l : List ℤ) → InFile s d → Entered mode s d l (d .state) (d .at) (d .ring) 0 l
 entered-start mode s d l w =
-    record { enters = subst (λ (z : Stand). Enters mode s d l z l) (onward-none d) at-rest; far = omega arith; inside = w .here; kept = refl }
+    record { enters = subst (λ (z : ReadStand). Enters mode s d l z l) (onward-none d) at-rest; far = omega arith; inside = w .here; kept = refl }
 
-module _ (mode : Mode) (s : List ℕ) (d : Stand) (w : Within s d) (l : List ℤ) (st : State) (here ring k : ℕ) (m : List ℤ) (v : Entered mode s d l st here ring k m) where
+module _ (mode : Mode) (s : List ℕ) (d : ReadStand) (w : InFile s d) (l : List ℤ) (st : State) (here ring k : ℕ) (m : List ℤ) (v : Entered mode s d l st here ring k m) where
   pub entered-few : d .nth + k < 18446744073709551616
   entered-few = omega (arith, w .small, w .counted, v .far, v .inside)
 
-  pub entered-is : (e : Stand) → e ≡ onward d st here ring k → Enters mode s d l e m
+  pub entered-is : (e : ReadStand) → e ≡ standOn d st here ring k → Enters mode s d l e m
   entered-is e q = rw q (v .enters)
 
-  pub entered-at : (kind p i : ℕ) → st ≡ Field kind p i → (b : Stand) → b ≡ onward d (Field kind p i) here ring k → Enters mode s d l b m
+  pub entered-at : (kind p i : ℕ) → st ≡ Field kind p i → (b : ReadStand) → b ≡ standOn d (Field kind p i) here ring k → Enters mode s d l b m
   entered-at kind p i e b q = rw q (rw e at (v .enters))
 
   module _ (r : Said) (p : ℕ) (f : 0 < r .width → FieldSays mode s here p (r .width) (r .token)) (n : r .width ≡ 0 → ⊥) where
@@ -176,7 +176,7 @@ module _ (mode : Mode) (s : List ℕ) (d : Stand) (w : Within s d) (l : List ℤ
     entered-on kind i e x g st′ h m′ q =
         let b = entered-inside in
         let a = f (omega arith) in
-        let t : Enters mode s d l (onward d (Field kind p i) here ring k) m = rw e at (v .enters) in
+        let t : Enters mode s d l (standOn d (Field kind p i) here ring k) m = rw e at (v .enters) in
         record {
           enters = rw q (entered t (a .apart) (field-turn mode s d kind p i here ring k (r .width) (r .token) a st′ (sym g ∙ h)));
           far = omega (arith, v .far, b .0);

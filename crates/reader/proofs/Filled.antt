@@ -23,9 +23,9 @@ use Rattle.machine.specs.declared.State.the-variants.{Due, Field, Island, X, Y}
 use Rattle.sheet.specs.Tables.{Tables, empty, put}
 use Rattle.sheet.specs.Reading.{Sections, read, stop, walkFrom}
 use Rattle.reader.specs.Turn.{standAt, turnOf}
-use Rattle.reader.specs.Store.{tokenMost, IslandToken, rowsPut, lettersPut, islandsPut, pointsPut, PutRoom, tablesOf, Room, AtNumber, Enters, at-rest, entered, AtVertex, Stores, still, on}
+use Rattle.reader.specs.Store.{tokenMost, IslandToken, rowsPut, lettersPut, islandsPut, pointsPut, PutRoom, sectionTables, Room, AtNumber, Enters, at-rest, entered, AtVertex, Stores, still, on}
 use Rattle.reader.specs.declared.Needs.{Needs}
-use Rattle.reader.specs.declared.Stand.{Stand}
+use Rattle.reader.specs.declared.ReadStand.{ReadStand}
 use Rattle.reader.specs.declared.Turn.{Turn}
 use Rattle.reader.proofs.Standing.{At, Moved, TurnOk, turn-ok}
 use Rattle.reader.proofs.Judging.{at-start, at-on}
@@ -51,7 +51,7 @@ island-token mode (Y r x) c t q = tt
 
 -- ---- the loop
 
-pub record Filled (mode : Mode) (s : List ℕ) (target : Sections) (rows₀ : List ℤ) (letters₀ islands₀ : List ℕ) (points₀ : List ℤ) (rows : List ℤ) (letters islands : List ℕ) (points : List ℤ) (d : Stand) : Type 0 where
+pub record Filled (mode : Mode) (s : List ℕ) (target : Sections) (rows₀ : List ℤ) (letters₀ islands₀ : List ℕ) (points₀ : List ℤ) (rows : List ℤ) (letters islands : List ℕ) (points : List ℤ) (d : ReadStand) : Type 0 where
   pub tables : Tables
   pub stands : At mode s target tables d
   pub holds : Holding tables rows₀ rows letters₀ letters islands₀ islands points₀ points
@@ -68,7 +68,7 @@ pub filled-start : (mode : Mode) (s : List ℕ) (start : ℕ) (rows : List ℤ) 
 filled-start mode s start rows letters islands points h k =
     record { tables = empty; stands = at-start mode s start h k; holds = record { rows-are = refl; letters-are = refl; islands-are = refl; points-are = refl } }
 
-module _ {mode : Mode} {s : List ℕ} {target : Sections} {rows₀ : List ℤ} {letters₀ islands₀ : List ℕ} {points₀ : List ℤ} {rows : List ℤ} {letters islands : List ℕ} {points : List ℤ} {d : Stand}
+module _ {mode : Mode} {s : List ℕ} {target : Sections} {rows₀ : List ℤ} {letters₀ islands₀ : List ℕ} {points₀ : List ℤ} {rows : List ℤ} {letters islands : List ℕ} {points : List ℤ} {d : ReadStand}
     (room : Room target (length rows₀) (length letters₀) (length islands₀) (length points₀))
     (h : Filled mode s target rows₀ letters₀ islands₀ points₀ rows letters islands points d) where
   pub filled-kept : Kept rows₀ letters₀ islands₀ points₀ rows letters islands points
@@ -84,7 +84,7 @@ module _ {mode : Mode} {s : List ℕ} {target : Sections} {rows₀ : List ℤ} {
       }
 
   module _ (r : Turn) (q : r ≡ turnOf mode s d) where
-    module _ (d′ : Stand) (t len : ℕ) (e : r ≡ Turn.On d′ t len) where
+    module _ (d′ : ReadStand) (t len : ℕ) (e : r ≡ Turn.On d′ t len) where
       went : Moved mode s target (h .tables) d d′ t len
       went = at-on mode s target (h .tables) d (h .stands) r q d′ t len e
 
@@ -131,10 +131,10 @@ module _ {mode : Mode} {s : List ℕ} {target : Sections} {rows₀ : List ℤ} {
         absurd (subst (λ (x : Sections). Room x (length rows₀) (length letters₀) (length islands₀) (length points₀)) z room)
 
     -- at the end the tables hold all
-    pub fill-done : r ≡ Turn.Done → Holding (tablesOf target) rows₀ rows letters₀ letters islands₀ islands points₀ points
+    pub fill-done : r ≡ Turn.Done → Holding (sectionTables target) rows₀ rows letters₀ letters islands₀ islands points₀ points
     fill-done e =
         let z : target ≡ read (h .tables) (d .at) = subst (TurnOk mode s target (h .tables) d) (sym q ∙ e) (turn-ok mode s target (h .tables) d (h .stands)) .0 in
-        subst (λ (x : Sections). Holding (tablesOf x) rows₀ rows letters₀ letters islands₀ islands points₀ points) (sym z) (h .holds)
+        subst (λ (x : Sections). Holding (sectionTables x) rows₀ rows letters₀ letters islands₀ islands points₀ points) (sym z) (h .holds)
 
 -- ---- a run of vertices
 
@@ -150,7 +150,7 @@ kept-islands : (st : State) (t : ℕ) (a : Needs) (l : List ℕ) → AtVertex st
 kept-islands (X r) t a l h = refl
 kept-islands (Y r x) t a l h = refl
 
-pub record Onward (mode : Mode) (s : List ℕ) (target : Sections) (rows₀ : List ℤ) (letters₀ islands₀ : List ℕ) (points₀ : List ℤ) (rows : List ℤ) (letters islands : List ℕ) (points : List ℤ) (from : ℕ) (d : Stand) : Type 0 where
+pub record Onward (mode : Mode) (s : List ℕ) (target : Sections) (rows₀ : List ℤ) (letters₀ islands₀ : List ℕ) (points₀ : List ℤ) (rows : List ℤ) (letters islands : List ℕ) (points : List ℤ) (from : ℕ) (d : ReadStand) : Type 0 where
   pub filled : Filled mode s target rows₀ letters₀ islands₀ points₀ rows letters islands points d
   pub past-it : from ≤ d .at
 
@@ -163,7 +163,7 @@ kept-islands′ (Field k p i) t a l h = refl
 kept-points : (st : State) (t : ℕ) (a : Needs) (l : List ℤ) → AtNumber st → l ≡ pointsPut st t a l
 kept-points (Field k p i) t a l h = refl
 
-pub enters-filled : {mode : Mode} {s : List ℕ} {target : Sections} {rows₀ : List ℤ} {letters₀ islands₀ : List ℕ} {points₀ : List ℤ} {rows rows′ : List ℤ} {letters islands : List ℕ} {points : List ℤ} {d e : Stand}
+pub enters-filled : {mode : Mode} {s : List ℕ} {target : Sections} {rows₀ : List ℤ} {letters₀ islands₀ : List ℕ} {points₀ : List ℤ} {rows rows′ : List ℤ} {letters islands : List ℕ} {points : List ℤ} {d e : ReadStand}
     → Room target (length rows₀) (length letters₀) (length islands₀) (length points₀)
     → Filled mode s target rows₀ letters₀ islands₀ points₀ rows letters islands points d → Enters mode s d rows e rows′
     → Onward mode s target rows₀ letters₀ islands₀ points₀ rows′ letters islands points (d .at) e
@@ -177,7 +177,7 @@ enters-filled {mode} {s} {target} {letters = letters} {islands} {points} room h 
       past-it = omega (arith, b .past-it, w .on);
     }
 
-pub stores-filled : {mode : Mode} {s : List ℕ} {target : Sections} {rows₀ : List ℤ} {letters₀ islands₀ : List ℕ} {points₀ : List ℤ} {rows : List ℤ} {letters islands : List ℕ} {points points′ : List ℤ} {d e : Stand}
+pub stores-filled : {mode : Mode} {s : List ℕ} {target : Sections} {rows₀ : List ℤ} {letters₀ islands₀ : List ℕ} {points₀ : List ℤ} {rows : List ℤ} {letters islands : List ℕ} {points points′ : List ℤ} {d e : ReadStand}
     → Room target (length rows₀) (length letters₀) (length islands₀) (length points₀)
     → Filled mode s target rows₀ letters₀ islands₀ points₀ rows letters islands points d → Stores mode s d points e points′
     → Onward mode s target rows₀ letters₀ islands₀ points₀ rows letters islands points′ (d .at) e
@@ -192,19 +192,19 @@ stores-filled {mode} {s} {target} {rows = rows} {letters} {islands} room h (on {
     }
 
 -- a turn, what it stores, and the runs behind it
-module _ {mode : Mode} {s : List ℕ} {target : Sections} {rows₀ : List ℤ} {letters₀ islands₀ : List ℕ} {points₀ : List ℤ} {rows : List ℤ} {letters islands : List ℕ} {points : List ℤ} {d : Stand}
+module _ {mode : Mode} {s : List ℕ} {target : Sections} {rows₀ : List ℤ} {letters₀ islands₀ : List ℕ} {points₀ : List ℤ} {rows : List ℤ} {letters islands : List ℕ} {points : List ℤ} {d : ReadStand}
     (room : Room target (length rows₀) (length letters₀) (length islands₀) (length points₀))
-    (h : Filled mode s target rows₀ letters₀ islands₀ points₀ rows letters islands points d) (r : Turn) (q : r ≡ turnOf mode s d) (d′ : Stand) (t len : ℕ) (e : r ≡ Turn.On d′ t len)
+    (h : Filled mode s target rows₀ letters₀ islands₀ points₀ rows letters islands points d) (r : Turn) (q : r ≡ turnOf mode s d) (d′ : ReadStand) (t len : ℕ) (e : r ≡ Turn.On d′ t len)
     (rows′ rows″ : List ℤ) (letters′ islands′ : List ℕ) (points′ : List ℤ) (a₁ : rows′ ≡ rowsPut (d .state) t (d .needs) rows)
     (a₂ : letters′ ≡ lettersPut (d .state) (take (d .at + len - d .at) (drop (d .at) s)) (d .needs) letters)
-    (a₃ : islands′ ≡ islandsPut (d .state) t (d .needs) islands) (a₄ : points′ ≡ pointsPut (d .state) t (d .needs) points) (b : Stand) (p : Enters mode s d′ rows′ b rows″) where
+    (a₃ : islands′ ≡ islandsPut (d .state) t (d .needs) islands) (a₄ : points′ ≡ pointsPut (d .state) t (d .needs) points) (b : ReadStand) (p : Enters mode s d′ rows′ b rows″) where
   pub fill-fields : Onward mode s target rows₀ letters₀ islands₀ points₀ rows″ letters′ islands′ points′ (d .at + 1) b
   fill-fields =
       let o = enters-filled room (fill-on room h r q d′ t len e rows′ letters′ islands′ points′ a₁ a₂ a₃ a₄) p in
       let w = at-on mode s target (h .tables) d (h .stands) r q d′ t len e in
       record { filled = o .filled; past-it = omega (arith, o .past-it, w .on) }
 
-  module _ (points″ : List ℤ) (b′ : Stand) (p′ : Stores mode s b points′ b′ points″) where
+  module _ (points″ : List ℤ) (b′ : ReadStand) (p′ : Stores mode s b points′ b′ points″) where
     pub fill-past : Onward mode s target rows₀ letters₀ islands₀ points₀ rows″ letters′ islands′ points″ (d .at + 1) b′
     fill-past =
         let o = fill-fields in

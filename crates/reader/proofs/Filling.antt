@@ -21,10 +21,10 @@ use Rattle.sheet.specs.Tables.{Tables, empty, newRow, cellOf, setLast, put}
 use Rattle.sheet.specs.Reading.{Sections, read, stop, walk}
 use Rattle.sheet.proofs.Okay.{Okay}
 use Rattle.sheet.proofs.Pass.{Goes, Pass, done, more, Accepts, walk-accepts}
-use Rattle.reader.specs.Store.{rowsPut, lettersPut, islandsPut, pointsPut, PutRoom, Room, tablesOf}
-use Rattle.reader.specs.Turn.{Within}
+use Rattle.reader.specs.Store.{rowsPut, lettersPut, islandsPut, pointsPut, PutRoom, Room, sectionTables}
+use Rattle.reader.specs.Turn.{InFile}
 use Rattle.reader.specs.declared.Needs.{Needs}
-use Rattle.reader.specs.declared.Stand.{Stand}
+use Rattle.reader.specs.declared.ReadStand.{ReadStand}
 use Rattle.reader.proofs.Standing.{Sized, At, Moved}
 
 -- ---- one record, table by table
@@ -124,7 +124,7 @@ pass-longer {st = st} {o = o} (more {t = t} {c = c} g p) =
     omega arith
 
 -- what was read so far is no longer than all that is read
-at-longer : (mode : Mode) (s : List ℕ) (target : Sections) (o : Tables) (d : Stand) → At mode s target o d → (o′ : Tables) (eof : ℕ) → target ≡ read o′ eof → Longer o o′
+at-longer : (mode : Mode) (s : List ℕ) (target : Sections) (o : Tables) (d : ReadStand) → At mode s target o d → (o′ : Tables) (eof : ℕ) → target ≡ read o′ eof → Longer o o′
 at-longer mode s target o d h o′ eof q =
     pass-longer (walk-accepts (h .fuel) mode (d .state) o o′ (d .nth) (d .at) eof (drop (d .at) s) (sym (h .same) ∙ q) .pass)
 
@@ -144,14 +144,14 @@ pub record Fits (o : Tables) (rows letters islands points : ℕ) : Type 0 where
   pub islands-fit : length (o .islands) ≤ islands
   pub points-fit : length (o .points) ≤ points
 
-pub at-fits : (mode : Mode) (s : List ℕ) (target : Sections) (o : Tables) (d : Stand) (rows letters islands points : ℕ) → At mode s target o d → Room target rows letters islands points
+pub at-fits : (mode : Mode) (s : List ℕ) (target : Sections) (o : Tables) (d : ReadStand) (rows letters islands points : ℕ) → At mode s target o d → Room target rows letters islands points
     → Fits o rows letters islands points
 at-fits mode s (read o′ eof) o d rows letters islands points h r =
     let g = at-longer mode s (read o′ eof) o d h o′ eof refl in
     record { rows-fit = omega (arith, g .rows, r .0); letters-fit = omega (arith, g .letters, r .1); islands-fit = omega (arith, g .islands, r .2); points-fit = omega (arith, g .points, r .3) }
 at-fits mode s (stop m k a) o d rows letters islands points h r = absurd r
 
-module _ (mode : Mode) (s : List ℕ) (target : Sections) (o : Tables) (d d′ : Stand) (t len : ℕ) (h : At mode s target o d) (m : Moved mode s target o d d′ t len)
+module _ (mode : Mode) (s : List ℕ) (target : Sections) (o : Tables) (d d′ : ReadStand) (t len : ℕ) (h : At mode s target o d) (m : Moved mode s target o d d′ t len)
     (rows₀ : List ℤ) (letters₀ islands₀ : List ℕ) (points₀ : List ℤ) (r : Room target (length rows₀) (length letters₀) (length islands₀) (length points₀)) where
   abbrev c : List ℕ
   c = take len (drop (d .at) s)

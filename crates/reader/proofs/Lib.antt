@@ -9,5 +9,6 @@ mod Fields
 mod Judging
 mod Filled
 mod Answering
-pub mod ReadLaws
 pub mod Bytes
+pub mod ReadLaws
+pub mod NeedLaws

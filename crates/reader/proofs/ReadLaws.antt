@@ -1,29 +1,31 @@
--- Demand 3, as theorems on readings into lent tables. Assumes nothing.
-use mathlib.Core.Path.{_≡_, refl, sym, _∙_, ap, subst}
+-- Demand 3, as theorems on readings into lent tables: by the answer, then by what the tables hold at exit. Assumes nothing.
+use mathlib.Core.Path.{_≡_, refl, sym, _∙_, ap, ap₂, subst}
 use mathlib.Core.Bool.{Bool, true, false, cond, _&&_}
 use mathlib.Core.List.{List}
-use Prim.Native.Nat.{ℕ, _+_, _/_, _≤_, _<_}
+use Prim.Native.Nat.{ℕ, _*_, _/_, _≤_}
 use native.Mathlib.Omega.{arith}
-use lib.ListN.{length}
+use lib.ListN.{length, take, drop}
+use lib.Seq.{take-at}
 use lib.Dec.{leb}
 use borrow.Author.Tests.{leb-true, le-leb}
 use Rattle.laws.specs.Lists.{over}
-use Rattle.laws.proofs.Choice.{and-left, and-right, and-both}
+use Rattle.laws.proofs.Choice.{and-left, and-right}
 use Rattle.record.specs.declared.Mode.{Mode}
 use Rattle.record.specs.declared.Mode.the-variants.{Loose, Exact}
-use Rattle.record.specs.Refusals.{noRoom, fileMost}
+use Rattle.record.specs.Refusals.{lineEnd, unlistedCode, afterEOF, noRoom, fileMost}
 use Rattle.heading.specs.declared.Header.{Header}
-use Rattle.heading.specs.Heading.{noHeader}
-use Rattle.sheet.specs.Tables.{Tables, empty, _then_}
+use Rattle.sheet.specs.Tables.{Tables, _then_}
 use Rattle.sheet.specs.Reading.{Reading, sheet, refused, reading, joined}
 use Rattle.sheet.proofs.Exact.{exact-loose}
 use Rattle.sheet.proofs.Join.{joining}
-use Rattle.sheet.proofs.Numbered.{reading-numbers}
-use Rattle.reader.specs.Read.{needsOf, Rooms, holdsAll, refusedWith, answered, readOf, tablesIn, written, numberOf, countsOf}
+use Rattle.sheet.proofs.Numbered.{reading-numbers, loose-never}
+use Rattle.reader.specs.Read.{needsOf, Rooms, holdsAll, refusedWith, answered, readOf, tablesIn, numberOf, recordOf, offsetOf, countsOf}
+use Rattle.reader.specs.Exit.{roomsIn, answerTo, atExit, exitOf, usedPart}
 use Rattle.reader.specs.declared.Needs.{Needs}
 use Rattle.reader.specs.declared.Answer.{Answer}
 use Rattle.reader.specs.declared.Answer.the-variants as Answer
 use Rattle.reader.specs.declared.Outcome.{Outcome}
+use Rattle.reader.proofs.Bytes.{tables-whole}
 
 -- ---- what an answer says of the file
 
@@ -176,3 +178,94 @@ pub joined-read : (mode : Mode) (a b : List ℕ) (h h′ : Header) (o o′ : Tab
 joined-read mode a b h h′ o o′ r e e′ l f =
     let j = joining mode a b h h′ o o′ e e′ l in
     (is-read mode (joined mode a b) r h (o then o′) j f, rw j)
+
+-- ---- by the paper's numbers, and by what the lent tables hold at exit
+
+-- **3, 10 and 13 cannot come in loose mode**
+pub loose-numbers : (bs : List ℕ) (r : Rooms) → let m = numberOf (readOf Loose bs r .answer) in (m ≡ lineEnd → ⊥) × (m ≡ unlistedCode → ⊥) × (m ≡ afterEOF → ⊥)
+loose-numbers bs r = go (readOf Loose bs r) (readOf Loose bs r .answer) (view Loose bs r)
+  where
+    go : (x : Outcome) (a : Answer) → View Loose bs r x a → (numberOf a ≡ lineEnd → ⊥) × (numberOf a ≡ unlistedCode → ⊥) × (numberOf a ≡ afterEOF → ⊥)
+    go x (Answer.Read a) v = (λ e. omega (arith, e), λ e. omega (arith, e), λ e. omega (arith, e))
+    go x (Answer.NoRoom a) v = (λ e. omega (arith, e), λ e. omega (arith, e), λ e. omega (arith, e))
+    go x (Answer.Refused m k at) v = loose-never bs m k at v
+
+part-is {ℓ} : {A : Type ℓ} (n : ℕ) (xs l : List A) → length xs ≡ n → take n (over xs l) ≡ xs
+part-is n xs l e = take-at xs (drop (length xs) l) n e
+
+-- **the used part at exit is the meaning's tables**, where the answer is not 14. (With a refusal it is empty)
+pub exit-used : (mode : Mode) (bs : List ℕ) (t : Tables) → (numberOf (answerTo mode bs t .answer) ≡ noRoom → ⊥)
+    → usedPart (countsOf (answerTo mode bs t .answer)) (exitOf mode bs t) ≡ tablesIn (reading mode bs)
+exit-used mode bs t = go (answerTo mode bs t) (answerTo mode bs t .answer) (view mode bs (roomsIn t))
+  where
+    whole : (h : Header) (o : Tables) (a : Needs) → reading mode bs ≡ sheet h o → usedPart (needsOf o) (atExit (Answer.Read a) o t) ≡ o
+    whole h o a e =
+        let w = tables-whole mode bs h o e in
+        let rows = part-is (12 * needsOf o .rows) (o .rows) (t .rows) (w .0) in
+        let letters = part-is (length (o .letters)) (o .letters) (t .letters) refl in
+        let islands = part-is (length (o .islands)) (o .islands) (t .islands) refl in
+        let points = part-is (2 * needsOf o .points) (o .points) (t .points) (w .1) in
+        λ i. record { rows = rows i; letters = letters i; islands = islands i; points = points i }
+
+    go : (x : Outcome) (a : Answer) → View mode bs (roomsIn t) x a → (numberOf a ≡ noRoom → ⊥) → usedPart (countsOf a) (atExit a (tablesIn (reading mode bs)) t) ≡ tablesIn (reading mode bs)
+    go x (Answer.Read a) v n = rw (v .sound, v .counts) (whole (x .header) (v .tables) a (v .sound))
+    go x (Answer.NoRoom a) v n = absurd (n refl)
+    go x (Answer.Refused m k at) v n = rw v refl
+
+-- **exact within loose**: where exact mode accepts (0) with given tables, loose mode accepts with the same tables, the same header, and
+-- each of the four tables holds the same at exit
+pub exact-exit : (bs : List ℕ) (t : Tables) → numberOf (answerTo Exact bs t .answer) ≡ 0
+    → (numberOf (answerTo Loose bs t .answer) ≡ 0) × (answerTo Loose bs t .header ≡ answerTo Exact bs t .header) × (exitOf Loose bs t ≡ exitOf Exact bs t)
+exact-exit bs t e =
+    let v = zero-is Exact bs (roomsIn t) e in
+    let h = answerTo Exact bs t .header in
+    let x = is-read Exact bs (roomsIn t) h (v .tables) (v .sound) (v .room) in
+    let w = exact-within-loose bs (roomsIn t) (needsOf (v .tables)) h x in
+    (ap (λ (y : Outcome). numberOf (y .answer)) (w .0), ap (λ (y : Outcome). y .header) (w .0), ap₂ (λ (y : Outcome) (o : Tables). atExit (y .answer) o t) (w .0 ∙ sym x) (w .1))
+
+-- **room**: larger tables change no number, record, offset or header, and no used part at exit, but where the number was 14
+pub larger-exit : (mode : Mode) (bs : List ℕ) (t u : Tables) → Larger (roomsIn t) (roomsIn u) → (numberOf (answerTo mode bs t .answer) ≡ noRoom → ⊥)
+    → (numberOf (answerTo mode bs u .answer) ≡ numberOf (answerTo mode bs t .answer)) × (recordOf (answerTo mode bs u .answer) ≡ recordOf (answerTo mode bs t .answer))
+    × (offsetOf (answerTo mode bs u .answer) ≡ offsetOf (answerTo mode bs t .answer)) × (answerTo mode bs u .header ≡ answerTo mode bs t .header)
+    × (usedPart (countsOf (answerTo mode bs u .answer)) (exitOf mode bs u) ≡ usedPart (countsOf (answerTo mode bs t .answer)) (exitOf mode bs t))
+larger-exit mode bs t u l n =
+    let x : answerTo mode bs u ≡ answerTo mode bs t = larger-tables mode bs (roomsIn t) (roomsIn u) l (not-short (answerTo mode bs t .answer) n) in
+    let m : numberOf (answerTo mode bs u .answer) ≡ numberOf (answerTo mode bs t .answer) = ap (λ (y : Outcome). numberOf (y .answer)) x in (
+      m,
+      ap (λ (y : Outcome). recordOf (y .answer)) x,
+      ap (λ (y : Outcome). offsetOf (y .answer)) x,
+      ap (λ (y : Outcome). y .header) x,
+      exit-used mode bs u (λ e. n (sym m ∙ e)) ∙ sym (exit-used mode bs t n),
+    )
+  where
+    not-short : (a : Answer) → (numberOf a ≡ noRoom → ⊥) → NotShort a
+    not-short (Answer.Read a) n = tt
+    not-short (Answer.NoRoom a) n = n refl
+    not-short (Answer.Refused m k at) n = tt
+
+-- **joining**: where two files are accepted (0), and the joined one keeps the length limit and has room, it is accepted with the first's
+-- header, and the used part at exit is the first's followed by the second's
+pub joined-exit : (mode : Mode) (a b : List ℕ) (t u v : Tables) → numberOf (answerTo mode a t .answer) ≡ 0 → numberOf (answerTo mode b u .answer) ≡ 0
+    → length (joined mode a b) ≤ fileMost → (numberOf (answerTo mode (joined mode a b) v .answer) ≡ noRoom → ⊥)
+    → (numberOf (answerTo mode (joined mode a b) v .answer) ≡ 0) × (answerTo mode (joined mode a b) v .header ≡ answerTo mode a t .header)
+    × (usedPart (countsOf (answerTo mode (joined mode a b) v .answer)) (exitOf mode (joined mode a b) v)
+    ≡ usedPart (countsOf (answerTo mode a t .answer)) (exitOf mode a t) then usedPart (countsOf (answerTo mode b u .answer)) (exitOf mode b u))
+joined-exit mode a b t u v e e′ l n =
+    let p = zero-is mode a (roomsIn t) e in
+    let q = zero-is mode b (roomsIn u) e′ in
+    let o = p .tables then q .tables in
+    let h = answerTo mode a t .header in
+    let h′ = answerTo mode b u .header in
+    let room = enough h o (joining mode a b h h′ (p .tables) (q .tables) (p .sound) (q .sound) l) (holdsAll (needsOf o) (roomsIn v)) refl in
+    let w = joined-read mode a b h h′ (p .tables) (q .tables) (roomsIn v) (p .sound) (q .sound) l room in (
+      ap (λ (y : Outcome). numberOf (y .answer)) (w .0),
+      ap (λ (y : Outcome). y .header) (w .0),
+      exit-used mode (joined mode a b) v n ∙ w .1 ∙ sym (ap₂ (λ (y z : Tables). y then z) (used mode a t e ∙ ap tablesIn (p .sound)) (used mode b u e′ ∙ ap tablesIn (q .sound))),
+    )
+  where
+    enough : (h : Header) (o : Tables) → reading mode (joined mode a b) ≡ sheet h o → (x : Bool) → holdsAll (needsOf o) (roomsIn v) ≡ x → holdsAll (needsOf o) (roomsIn v) ≡ true
+    enough h o j true f = f
+    enough h o j false f = absurd (n (ap (λ (y : Outcome). numberOf (y .answer)) (is-no-room mode (joined mode a b) (roomsIn v) h o j f)))
+
+    used : (mode : Mode) (bs : List ℕ) (t : Tables) → numberOf (answerTo mode bs t .answer) ≡ 0 → usedPart (countsOf (answerTo mode bs t .answer)) (exitOf mode bs t) ≡ tablesIn (reading mode bs)
+    used mode bs t e = exit-used mode bs t (λ f. omega (arith, e, f))

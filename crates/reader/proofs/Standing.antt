@@ -37,10 +37,10 @@ use Rattle.sheet.specs.Reading.{Sections, read, stop, after, walk}
 use Rattle.sheet.specs.Reading as Reading
 use Rattle.sheet.proofs.Okay.{Okay, go-okay}
 use Rattle.sheet.proofs.Pass.{Went, Ended, OneView, one-view}
-use Rattle.reader.specs.Turn.{noSize, sized, sizeLine, sizeOf, isTurning, sizeNext, islNext, noNeeds, added, closing, turned, turnOf, Within}
+use Rattle.reader.specs.Turn.{noSize, sized, sizeLine, sizeOf, isTurning, sizeNext, islNext, noNeeds, added, closing, turned, turnOf, InFile}
 use Rattle.reader.specs.Read.{needsOf, judgedOf}
 use Rattle.reader.specs.declared.Needs.{Needs}
-use Rattle.reader.specs.declared.Stand.{Stand}
+use Rattle.reader.specs.declared.ReadStand.{ReadStand}
 use Rattle.reader.specs.declared.Turn.{Turn}
 use Rattle.reader.specs.declared.Size.{Size}
 use Rattle.reader.specs.declared.Judged.{Judged}
@@ -154,17 +154,17 @@ needs-are o a h =
 -- ---- where a walk stands
 
 -- `target` is what the walk over the file gives; `o` is what was read so far
-pub record At (mode : Mode) (s : List ℕ) (target : Sections) (o : Tables) (d : Stand) : Type 0 where
+pub record At (mode : Mode) (s : List ℕ) (target : Sections) (o : Tables) (d : ReadStand) : Type 0 where
   pub fuel : ℕ
   pub same : target ≡ walk fuel mode (d .state) o (d .nth) (d .at) (drop (d .at) s)
   pub enough : length (drop (d .at) s) ≤ fuel
   pub okay : Okay (d .state) o
   pub pend : Pend mode s (d .state) (o .islands) (d .at) (d .ring)
   pub sized : Sized (d .state) o (d .needs)
-  pub within : Within s d
+  pub within : InFile s d
 
 -- one record, whether the next ring's size comes from the tables or from the file
-one-same : (mode : Mode) (s : List ℕ) (target : Sections) (o : Tables) (d : Stand) → At mode s target o d
+one-same : (mode : Mode) (s : List ℕ) (target : Sections) (o : Tables) (d : ReadStand) → At mode s target o d
     → oneOf mode (d .state) (sizeNext mode (d .state) (drop (d .ring) s) .n) (drop (d .at) s) ≡ oneOf mode (d .state) (ringAfter (d .state) o) (drop (d .at) s)
 unfolding oneOf
 one-same mode s target o d h = go (isTurning (d .state)) refl
@@ -198,7 +198,7 @@ walk-step (suc f) mode st o k a bs h =
     rw z
 
 -- the target, by what the next record is
-target-is : (mode : Mode) (s : List ℕ) (target : Sections) (o : Tables) (d : Stand) (h : At mode s target o d)
+target-is : (mode : Mode) (s : List ℕ) (target : Sections) (o : Tables) (d : ReadStand) (h : At mode s target o d)
     → target ≡ after mode (d .state) o (d .nth) (d .at) (drop (d .at) s) (λ st′ o′ at′ bs′. walk (h .fuel - 1) mode st′ o′ (d .nth + 1) at′ bs′)
     (oneOf mode (d .state) (sizeNext mode (d .state) (drop (d .ring) s) .n) (drop (d .at) s))
 target-is mode s target o d h =
@@ -251,19 +251,19 @@ added-most mode (Y r x) a t width c q h k = omega arith
 -- ---- a turn
 
 -- the record at work, where it is one that the machine goes on by
-pub record Moved (mode : Mode) (s : List ℕ) (target : Sections) (o : Tables) (d d′ : Stand) (t len : ℕ) : Type 0 where
+pub record Moved (mode : Mode) (s : List ℕ) (target : Sections) (o : Tables) (d d′ : ReadStand) (t len : ℕ) : Type 0 where
   pub then : At mode s target (put (d .state) t (take len (drop (d .at) s)) o) d′
   pub on : d .at < d′ .at
   pub inside : d .at + len ≤ length s
   pub short : length (take len (drop (d .at) s)) ≤ 255
   pub says : lexOf mode (wantOf (d .state)) (take len (drop (d .at) s)) ≡ Token.Say t
 
-abbrev pub TurnOk : Mode → List ℕ → Sections → Tables → Stand → Turn → Type 0
+abbrev pub TurnOk : Mode → List ℕ → Sections → Tables → ReadStand → Turn → Type 0
 TurnOk mode s target o d (Turn.On d′ t len) = Moved mode s target o d d′ t len
 TurnOk mode s target o d (Turn.Refused m k a) = target ≡ stop m k a
 TurnOk mode s target o d Turn.Done = (target ≡ read o (d .at)) × (needsOf o ≡ d .needs)
 
-module _ (mode : Mode) (s : List ℕ) (target : Sections) (o : Tables) (d : Stand) (h : At mode s target o d) where
+module _ (mode : Mode) (s : List ℕ) (target : Sections) (o : Tables) (d : ReadStand) (h : At mode s target o d) where
   abbrev size : Size
   size = sizeNext mode (d .state) (drop (d .ring) s)
 
@@ -307,18 +307,18 @@ module _ (mode : Mode) (s : List ℕ) (target : Sections) (o : Tables) (d : Stan
       → TurnOk mode s target o d (closing m (d .nth + 1) (d .at + w) (length s))
   closed m w q e v =
       let needs : needsOf o ≡ d .needs = needs-are o (d .needs) (subst (λ (x : State). Sized x o (d .needs)) (v .due) (h .sized)) in
-      let rest : target ≡ Reading.ended mode o (d .at) (d .nth + 1) (d .at + w) (drop (d .at + w) s) =
+      let rest : target ≡ Reading.behindEof mode o (d .at) (d .nth + 1) (d .at + w) (drop (d .at + w) s) =
       target-is mode s target o d h ∙ rw (e, drop-drop w (d .at) s) in
       go m q rest needs
     where
-      by : (z : List ℕ) → z ≡ drop (d .at + w) s → (x : Bool) → leb (length s) (d .at + w) ≡ x → target ≡ Reading.ended Exact o (d .at) (d .nth + 1) (d .at + w) z → needsOf o ≡ d .needs
+      by : (z : List ℕ) → z ≡ drop (d .at + w) s → (x : Bool) → leb (length s) (d .at + w) ≡ x → target ≡ Reading.behindEof Exact o (d .at) (d .nth + 1) (d .at + w) z → needsOf o ≡ d .needs
           → TurnOk mode s target o d (cond x Turn.Done (Turn.Refused 13 (d .nth + 1) (d .at + w)))
       by [] f true y r needs = (r, needs)
       by [] f false y r needs = absurd (omega (arith, leb-false (length s) (d .at + w) y, length-drop (d .at + w) s, ap length f))
       by (a ∷ z) f true y r needs = absurd (omega (arith, leb-true (length s) (d .at + w) y, length-drop (d .at + w) s, ap length f))
       by (a ∷ z) f false y r needs = r
 
-      go : (m : Mode) → m ≡ mode → target ≡ Reading.ended mode o (d .at) (d .nth + 1) (d .at + w) (drop (d .at + w) s) → needsOf o ≡ d .needs
+      go : (m : Mode) → m ≡ mode → target ≡ Reading.behindEof mode o (d .at) (d .nth + 1) (d .at + w) (drop (d .at + w) s) → needsOf o ≡ d .needs
           → TurnOk mode s target o d (closing m (d .nth + 1) (d .at + w) (length s))
       go Loose q r needs = (r ∙ rw (← q), needs)
       go Exact q r needs = by (drop (d .at + w) s) refl (leb (length s) (d .at + w)) refl (r ∙ rw (← q)) needs

@@ -14,7 +14,7 @@ use Rattle.number.specs.declared.Whole.{Whole}
 use Rattle.number.specs.Number.{integerOf}
 use Rattle.token.specs.declared.Want.{Want}
 use Rattle.token.specs.declared.Want.the-variants.{Real}
-use Rattle.quick.specs.declared.Taken.{Taken}
+use Rattle.quick.specs.declared.RealTaken.{RealTaken}
 use Rattle.quick.specs.Seen.{Padded}
 use Rattle.machine.specs.Machine.{wantOf, isDue, stepOf, ofStep, oneOf}
 use Rattle.machine.specs.declared.State.{State}
@@ -22,9 +22,9 @@ use Rattle.machine.specs.declared.State.the-variants.{Due, Field, Island, X, Y}
 use Rattle.machine.specs.declared.Step.{Step}
 use Rattle.machine.specs.declared.One.{One}
 use Rattle.sheet.proofs.Pass.{Went, Ended, OneView, one-view}
-use Rattle.reader.specs.Turn.{noSize, sizeOf, isTurning, sizeNext, islNext, Few, added, closing, turnOf, Within, RealDue}
+use Rattle.reader.specs.Turn.{noSize, sizeOf, isTurning, sizeNext, islNext, Few, added, closing, turnOf, InFile, RealDue}
 use Rattle.reader.specs.declared.Needs.{Needs}
-use Rattle.reader.specs.declared.Stand.{Stand}
+use Rattle.reader.specs.declared.ReadStand.{ReadStand}
 use Rattle.reader.specs.declared.Turn.{Turn}
 use Rattle.reader.specs.declared.Size.{Size}
 use Rattle.reader.proofs.Standing.{next-width, added-most}
@@ -57,7 +57,7 @@ module _ (mode : Mode) (st : State) (bs : List ℕ) (b : Bool) (q : b ≡ isTurn
 -- ---- a turn inside the file
 
 -- a record that is read lies inside the bytes, and what it adds to the needs is no more than its bytes
-pub one-inside : (mode : Mode) (s : List ℕ) (d : Stand) (n : ℕ) (st : State) (t len width : ℕ) → Within s d → oneOf mode (d .state) n (drop (d .at) s) ≡ One.Go st t len width
+pub one-inside : (mode : Mode) (s : List ℕ) (d : ReadStand) (n : ℕ) (st : State) (t len width : ℕ) → InFile s d → oneOf mode (d .state) n (drop (d .at) s) ≡ One.Go st t len width
     → (d .at + width ≤ length s) × (Few (added (d .needs) (d .state) t))
 one-inside mode s d n st t len width w e =
     let v : Went mode (d .state) n (drop (d .at) s) st t len width = subst (OneView mode (d .state) n (drop (d .at) s)) e (one-view mode (d .state) n (drop (d .at) s)) in
@@ -73,13 +73,13 @@ one-inside mode s d n st t len width w e =
       },
     )
 
-pub end-inside : (mode : Mode) (s : List ℕ) (d : Stand) (n width : ℕ) → Within s d → oneOf mode (d .state) n (drop (d .at) s) ≡ One.End width → d .at + width ≤ length s
+pub end-inside : (mode : Mode) (s : List ℕ) (d : ReadStand) (n width : ℕ) → InFile s d → oneOf mode (d .state) n (drop (d .at) s) ≡ One.End width → d .at + width ≤ length s
 end-inside mode s d n width w e =
     let v : Ended mode (d .state) n (drop (d .at) s) width = subst (OneView mode (d .state) n (drop (d .at) s)) e (one-view mode (d .state) n (drop (d .at) s)) in
     omega (arith, v .line .within, w .here, length-drop (d .at) s)
 
 -- what the code has in hand: the size that was read, and the record
-module _ (mode : Mode) (s : List ℕ) (d : Stand) (w : Within s d) (z : Size) (q : z ≡ sizeNext mode (d .state) (tail s (d .ring))) (o : One) (r : o ≡ oneOf mode (d .state) (z .n) (tail s (d .at))) where
+module _ (mode : Mode) (s : List ℕ) (d : ReadStand) (w : InFile s d) (z : Size) (q : z ≡ sizeNext mode (d .state) (tail s (d .ring))) (o : One) (r : o ≡ oneOf mode (d .state) (z .n) (tail s (d .at))) where
   the-size : z ≡ sizeNext mode (d .state) (drop (d .ring) s)
   the-size = q ∙ ap (sizeNext mode (d .state)) (rest-is s (d .ring))
 
@@ -121,7 +121,7 @@ module _ (mode : Mode) (s : List ℕ) (d : Stand) (w : Within s d) (z : Size) (q
 
 -- ---- a real in its usual form
 
-module _ (mode : Mode) (s : List ℕ) (at : ℕ) (st : State) (q : Taken) where
+module _ (mode : Mode) (s : List ℕ) (at : ℕ) (st : State) (q : RealTaken) where
   pub quick-due : (w : Want) → w ≡ wantOf st → w ≡ Real → (0 < q .width → Padded mode s at (q .width) (q .value)) → 0 < q .width → RealDue mode s at st (q .width) (q .value)
   quick-due w e r f o = record { due = sym e ∙ r; padded = f o }
 
@@ -143,7 +143,7 @@ module _ (mode : Mode) (st : State) (t next width : ℕ) (k : Step) (e : k ≡ s
   pub stepped-end : k ≡ Step.End → One.End width ≡ ofStep t 12 width (stepOf mode st t next)
   stepped-end f = rw (← e, f)
 
-pub one-quick : (mode : Mode) (s : List ℕ) (at : ℕ) (st : State) (next : ℕ) (q : Taken) (o : One) → (0 < q .width → RealDue mode s at st (q .width) (q .value)) → 0 < q .width
+pub one-quick : (mode : Mode) (s : List ℕ) (at : ℕ) (st : State) (next : ℕ) (q : RealTaken) (o : One) → (0 < q .width → RealDue mode s at st (q .width) (q .value)) → 0 < q .width
     → o ≡ ofStep (q .value) 12 (q .width) (stepOf mode st (q .value) next) → o ≡ oneOf mode st next (tail s at)
 unfolding oneOf
 one-quick mode s at st next q o f h e =

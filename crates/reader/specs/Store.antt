@@ -18,7 +18,7 @@ use Rattle.sheet.specs.Tables.{Tables, empty, newRow, cellOf}
 use Rattle.sheet.specs.Reading.{Sections, read, stop}
 use Rattle.reader.specs.Turn.{turnOf}
 use Rattle.reader.specs.declared.Needs.{Needs}
-use Rattle.reader.specs.declared.Stand.{Stand}
+use Rattle.reader.specs.declared.ReadStand.{ReadStand}
 use Rattle.reader.specs.declared.Turn.{Turn}
 
 -- no token is larger: the largest real, lifted
@@ -71,9 +71,9 @@ PutRoom (X r) c a rows letters islands points = 2 * a .points + 1 ≤ points
 PutRoom (Y r x) c a rows letters islands points = 2 * a .points + 2 ≤ points
 
 -- the tables of sections that were read
-abbrev pub tablesOf : Sections → Tables
-tablesOf (read o eof) = o
-tablesOf (stop m k at) = empty
+abbrev pub sectionTables : Sections → Tables
+sectionTables (read o eof) = o
+sectionTables (stop m k at) = empty
 
 -- the sections are read, and tables of these lengths hold them
 abbrev pub Room : Sections → ℕ → ℕ → ℕ → ℕ → Type 0
@@ -91,18 +91,18 @@ AtNumber (X r) = ⊥
 AtNumber (Y r x) = ⊥
 
 -- turns at numbers of a row, and what they leave in the table of rows
-pub data Enters (mode : Mode) (s : List ℕ) (d : Stand) (l : List ℤ) : Stand → List ℤ → Type 0 where
+pub data Enters (mode : Mode) (s : List ℕ) (d : ReadStand) (l : List ℤ) : ReadStand → List ℤ → Type 0 where
   at-rest : Enters mode s d l d l
-  entered : {e f : Stand} {m : List ℤ} {t len : ℕ} → Enters mode s d l e m → AtNumber (e .state) → turnOf mode s e ≡ Turn.On f t len
+  entered : {e f : ReadStand} {m : List ℤ} {t len : ℕ} → Enters mode s d l e m → AtNumber (e .state) → turnOf mode s e ≡ Turn.On f t len
       → Enters mode s d l f (rowsPut (e .state) t (e .needs) m)
 
 -- ---- a run of vertices
 
 -- k vertices from `at` up to a place, stored into a table that has `from` points before them
-pub data Stored (mode : Mode) (s : List ℕ) (at from : ℕ) (l : List ℤ) : ℕ → ℕ → List ℤ → Type 0 where
-  none : Stored mode s at from l 0 at l
-  more : {k a w x w′ y : ℕ} {m : List ℤ} → Stored mode s at from l k a m → RealAt mode s a w x → RealAt mode s (a + w) w′ y
-      → Stored mode s at from l (k + 1) (a + w + w′) (set (set m (2 * (from + k)) (unlift x)) (2 * (from + k) + 1) (unlift y))
+pub data VerticesStored (mode : Mode) (s : List ℕ) (at from : ℕ) (l : List ℤ) : ℕ → ℕ → List ℤ → Type 0 where
+  none : VerticesStored mode s at from l 0 at l
+  more : {k a w x w′ y : ℕ} {m : List ℤ} → VerticesStored mode s at from l k a m → RealAt mode s a w x → RealAt mode s (a + w) w′ y
+      → VerticesStored mode s at from l (k + 1) (a + w + w′) (set (set m (2 * (from + k)) (unlift x)) (2 * (from + k) + 1) (unlift y))
 
 abbrev pub AtVertex : State → Type 0
 AtVertex Due = ⊥
@@ -112,7 +112,7 @@ AtVertex (X r) = Unit {0}
 AtVertex (Y r x) = Unit {0}
 
 -- turns at vertices, and what they leave in the table of points
-pub data Stores (mode : Mode) (s : List ℕ) (d : Stand) (l : List ℤ) : Stand → List ℤ → Type 0 where
+pub data Stores (mode : Mode) (s : List ℕ) (d : ReadStand) (l : List ℤ) : ReadStand → List ℤ → Type 0 where
   still : Stores mode s d l d l
-  on : {e f : Stand} {m : List ℤ} {t len : ℕ} → Stores mode s d l e m → AtVertex (e .state) → turnOf mode s e ≡ Turn.On f t len
+  on : {e f : ReadStand} {m : List ℤ} {t len : ℕ} → Stores mode s d l e m → AtVertex (e .state) → turnOf mode s e ≡ Turn.On f t len
       → Stores mode s d l f (pointsPut (e .state) t (e .needs) m)

@@ -24,7 +24,7 @@ use Rattle.machine.specs.declared.State.{State}
 use Rattle.machine.specs.declared.State.the-variants.{Due, Field, Island, X, Y}
 use Rattle.machine.specs.declared.One.{One}
 use Rattle.reader.specs.declared.Needs.{Needs}
-use Rattle.reader.specs.declared.Stand.{Stand}
+use Rattle.reader.specs.declared.ReadStand.{ReadStand}
 use Rattle.reader.specs.declared.Turn.{Turn}
 use Rattle.reader.specs.declared.Size.{Size}
 
@@ -86,19 +86,19 @@ abbrev pub closing : Mode → ℕ → ℕ → ℕ → Turn
 closing Loose k next size = Turn.Done
 closing Exact k next size = cond (leb size next) Turn.Done (Turn.Refused afterEOF k next)
 
-abbrev pub turned : Mode → Stand → ℕ → ℕ → One → Turn
+abbrev pub turned : Mode → ReadStand → ℕ → ℕ → One → Turn
 turned mode s size width (One.Go st t len w) =
     Turn.On (record { state = st; at = s .at + w; nth = s .nth + 1; ring = islNext (s .state) (s .ring) width (s .at + w); needs = added (s .needs) (s .state) t }) t len
 turned mode s size width (One.No m) = Turn.Refused m (s .nth) (s .at)
 turned mode s size width (One.End w) = closing mode (s .nth + 1) (s .at + w) size
 
-unfoldable pub turnOf : Mode → List ℕ → Stand → Turn
+unfoldable pub turnOf : Mode → List ℕ → ReadStand → Turn
 turnOf mode bs s =
     turned mode s (length bs) (sizeNext mode (s .state) (drop (s .ring) bs) .width)
     (oneOf mode (s .state) (sizeNext mode (s .state) (drop (s .ring) bs) .n) (drop (s .at) bs))
 
 -- where the sections begin, at `start`, nothing is read
-abbrev pub standAt : ℕ → Stand
+abbrev pub standAt : ℕ → ReadStand
 standAt start = record { state = Due; at = start; nth = 4; ring = start; needs = noNeeds }
 
 -- needs that a machine word holds
@@ -109,7 +109,7 @@ pub record Few (a : Needs) : Type 0 where
   pub points : a .points < 18446744073709551616
 
 -- a stand inside the file, so that no sum in a turn passes its bounds
-pub record Within (bs : List ℕ) (s : Stand) : Type 0 where
+pub record InFile (bs : List ℕ) (s : ReadStand) : Type 0 where
   pub small : length bs ≤ fileMost
   pub here : s .at ≤ length bs
   pub rings : s .ring ≤ length bs
@@ -134,17 +134,17 @@ pub record FieldSays (mode : Mode) (s : List ℕ) (at place width t : ℕ) : Typ
 
 -- ---- many turns
 
-pub data Turns (mode : Mode) (s : List ℕ) (d : Stand) : Stand → Type 0 where
+pub data Turns (mode : Mode) (s : List ℕ) (d : ReadStand) : ReadStand → Type 0 where
   still : Turns mode s d d
-  on : {e f : Stand} {t len : ℕ} → Turns mode s d e → turnOf mode s e ≡ Turn.On f t len → Turns mode s d f
+  on : {e f : ReadStand} {t len : ℕ} → Turns mode s d e → turnOf mode s e ≡ Turn.On f t len → Turns mode s d f
 
 -- at another state, k records further, with no need added
-abbrev pub onward : Stand → State → ℕ → ℕ → ℕ → Stand
-onward d st at ring k = record { state = st; at = at; nth = d .nth + k; ring = ring; needs = d .needs }
+abbrev pub standOn : ReadStand → State → ℕ → ℕ → ℕ → ReadStand
+standOn d st at ring k = record { state = st; at = at; nth = d .nth + k; ring = ring; needs = d .needs }
 
 -- k vertices further in a ring, at a place
-abbrev pub past : Stand → Ring → ℕ → ℕ → Stand
-past d r k at =
+abbrev pub pastVertices : ReadStand → Ring → ℕ → ℕ → ReadStand
+pastVertices d r k at =
     record {
       state = X (record { closed = r .closed; fresh = false; rings = r .rings; left = r .left - k; fx = r .fx; fy = r .fy });
       at = at;
@@ -154,8 +154,8 @@ past d r k at =
     }
 
 -- behind the last ring of a row, k vertices further
-abbrev pub ended : Stand → ℕ → ℕ → Stand
-ended d k at =
+abbrev pub behindRings : ReadStand → ℕ → ℕ → ReadStand
+behindRings d k at =
     record {
       state = Due;
       at = at;
@@ -169,7 +169,7 @@ abbrev pub begun : Ring → ℕ → ℕ → Ring
 begun r x y = record { closed = r .closed; fresh = false; rings = r .rings; left = r .left; fx = x; fy = y }
 
 -- k vertices of a ring are read, and one more may be counted
-pub record Runs (s : List ℕ) (d : Stand) (r : Ring) (k at : ℕ) : Type 0 where
+pub record Runs (s : List ℕ) (d : ReadStand) (r : Ring) (k at : ℕ) : Type 0 where
   pub left : k < r .left
   pub here : at ≤ length s
   pub counted : d .nth + 2 * (k + 1) < 18446744073709551616

@@ -15,7 +15,8 @@ use Rattle.laws.proofs.ListLaws.{run-on, run-stop, run-le, run-fails, run-from,
 use Rattle.record.specs.Refusals.{cut, lineEnd, recordLength, badByte, recordMost}
 use Rattle.record.specs.declared.Mode.{Mode}
 use Rattle.record.specs.declared.Line.the-variants.{Got, Bad}
-use Rattle.record.specs.Record.{isLoose, plain, notLF, wordEOF, endsCR, content, contentIs, lineIs, lineOf, crlfAt}
+use Rattle.record.specs.Record.{isLoose, plain, notLF, wordEOF, endsCR, content, contentIs, lineIs, lineOf}
+use Rattle.record.specs.Scan.{crlfAt}
 
 -- ---- tests on a byte
 

@@ -17,7 +17,8 @@ use Rattle.record.specs.declared.Mode.the-variants.{Loose, Exact}
 use Rattle.record.specs.declared.Line.{Line}
 use Rattle.record.specs.declared.Line.the-variants.{Got, Bad}
 use Rattle.record.specs.declared.Found.the-variants.{Record, Refused}
-use Rattle.record.specs.Record.{isLoose, plain, notLF, wordEOF, endsCR, contentIs, lineOf, crlfAt, placed, recordAt}
+use Rattle.record.specs.Record.{isLoose, plain, notLF, wordEOF, endsCR, contentIs, lineOf, placed, recordAt}
+use Rattle.record.specs.Scan.{crlfAt}
 use Rattle.record.specs.RecordView.{LineEnd, crlf, lf, Ending, ended, bare, IsLine, IsRecord, Lies}
 use Rattle.record.proofs.RecordCases.{LF-at, no-LF, to-CR, to-bare, at-LF, at-CRLF, crlf-yes}
 

@@ -19,7 +19,8 @@ use Rattle.record.specs.declared.Mode.the-variants.{Loose, Exact}
 use Rattle.record.specs.declared.Line.{Line}
 use Rattle.record.specs.declared.Line.the-variants.{Got, Bad}
 use Rattle.record.specs.declared.Found.the-variants.{Record, Refused}
-use Rattle.record.specs.Record.{isLoose, plain, notLF, wordEOF, contentIs, lineOf, crlfAt, Spoilt, placed, recordAt}
+use Rattle.record.specs.Record.{isLoose, plain, notLF, wordEOF, contentIs, lineOf, placed, recordAt}
+use Rattle.record.specs.Scan.{crlfAt, Spoilt}
 use Rattle.record.proofs.RecordCases.{lf-not, plain-no-LF, LF-at, no-CR, no-LF, to-CR, to-bare, content-long, content-bad, crlf-yes, front-plain, front-LF, front-bad, front-all, at-LF, at-CRLF}
 use Rattle.record.proofs.RecordLaws.{line-view, due-matters-for-EOF-alone, record-line}
 

@@ -1,6 +1,5 @@
 -- The record at a place of a file: document 01, "Records", the checks in its order. Assumes nothing: these are definitions.
-use Prim.Native.Nat.{ℕ, _+_, _-_, _<_}
-use mathlib.Core.Path.{_≡_}
+use Prim.Native.Nat.{ℕ, _+_, _-_}
 use mathlib.Core.List.{List, [], _∷_}
 use mathlib.Core.Bool.{Bool, true, false, cond, not, _&&_, _||_}
 use lib.ListN.{length, getD, take, drop}
@@ -54,17 +53,6 @@ lineOf mode due bs =
     (lineIs mode (take (run notLF bs) bs))
     (cond (isLoose mode && due && same bs wordEOF) (Got 3 3) (Bad cut))
 
--- a CR and an LF stand at `n`
-unfoldable pub crlfAt : List ℕ → ℕ → Bool
-crlfAt bs n = eqb (getD bs n 0) 13 && eqb (getD bs (n + 1) 0) 10
-
--- the first byte that a content may not hold stands at `n`, and is no line end
-pub record Spoilt (bs : List ℕ) (n : ℕ) : Type 0 where
-  pub front : n ≡ run plain bs
-  pub inside : n < length bs
-  pub noLF : getD bs n 0 ≡ 10 → ⊥
-  pub noEnd : crlfAt bs n ≡ false
-
 abbrev pub placed : ℕ → Line → Found
 placed at (Got len width) = Record at len (at + width)
 placed at (Bad number) = Refused number
@@ -72,3 +60,9 @@ placed at (Bad number) = Refused number
 -- the record at a place of a file: 1 before all
 unfoldable pub recordAt : List ℕ → ℕ → Mode → Bool → Found
 recordAt s at mode due = cond (leb (length s) fileMost) (placed at (lineOf mode due (drop at s))) (Refused tooLong)
+
+-- ---- the paper's number: a record that is found has none
+
+abbrev pub numberOf : Found → ℕ
+numberOf (Record start len next) = 0
+numberOf (Refused number) = number

@@ -6,8 +6,8 @@ use lib.IntN.{ℤ}
 use Rattle.record.specs.Refusals.{tooWide, noSuch}
 use Rattle.heading.specs.declared.Header.{Header}
 use Rattle.sheet.specs.Tables.{Tables}
-use Rattle.crossing.specs.declared.Verdict.{Verdict}
-use Rattle.crossing.specs.declared.Verdict.the-variants as Verdict
+use Rattle.crossing.specs.declared.RingVerdict.{RingVerdict}
+use Rattle.crossing.specs.declared.RingVerdict.the-variants as RingVerdict
 use Rattle.crossing.specs.Search.{verdictOf}
 use Rattle.area.specs.declared.RingAnswer.{RingAnswer}
 use Rattle.area.specs.declared.RingAnswer.the-variants as Ring
@@ -15,11 +15,11 @@ use Rattle.area.specs.Questions.{ringAt}
 use Rattle.ring.specs.declared.Checked.{Checked}
 use Rattle.ring.specs.declared.Checked.the-variants.{Simple, Faulty, Wide, Missing, Refused}
 
-abbrev pub checkedOf : Verdict → Checked
-checkedOf Verdict.Simple = Simple
-checkedOf (Verdict.Faulty i j) = Faulty i j
-checkedOf Verdict.Wide = Wide
-checkedOf Verdict.Missing = Missing
+abbrev pub checkedOf : RingVerdict → Checked
+checkedOf RingVerdict.Simple = Simple
+checkedOf (RingVerdict.Faulty i j) = Faulty i j
+checkedOf RingVerdict.Wide = Wide
+checkedOf RingVerdict.Missing = Missing
 
 abbrev pub checkFound : List ℤ → RingAnswer → Checked
 checkFound ps (Ring.At from n) = checkedOf (verdictOf ps from n)

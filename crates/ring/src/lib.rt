@@ -5,10 +5,10 @@ ghost use Rattle.made.specs.Made.{tablesOf};
 ghost use Rattle.ring.specs.RingCheck.{checkedOf, ringCheckAt};
 use area::RingAnswer;
 use area::ring_at;
-use crossing::Verdict;
+use crossing::RingVerdict;
 use crossing::first_fault;
 use heading::Header;
-use made::Verdict as Fault;
+use made::Verdict;
 
 // The ring is simple; or the first faulty pair; 17; no such border or ring (19); or what is wrong with the sheet (6, 15).
 pub enum Checked {
@@ -16,17 +16,17 @@ pub enum Checked {
     Faulty(usize, usize),
     Wide,
     Missing,
-    Refused(Fault),
+    Refused(Verdict),
 }
 
-fn checked_of(verdict: Verdict) -> Checked
+fn checked_of(verdict: RingVerdict) -> Checked
     ensures { λ r. ⌜ r ≡ checkedOf verdict ⌝ }
 {
     match verdict {
-        Verdict::Simple => Checked::Simple,
-        Verdict::Faulty(i, j) => Checked::Faulty(i, j),
-        Verdict::Wide => Checked::Wide,
-        Verdict::Missing => Checked::Missing,
+        RingVerdict::Simple => Checked::Simple,
+        RingVerdict::Faulty(i, j) => Checked::Faulty(i, j),
+        RingVerdict::Wide => Checked::Wide,
+        RingVerdict::Missing => Checked::Missing,
     }
 }
 

@@ -1,5 +1,6 @@
 -- The laws of `row` and the ways through its code; `pub mod` lets other crates cite a file.
 pub mod Walk
 pub mod SeekLaws
+pub mod UsedLaws
 pub mod NextWays
 mod SeekWays

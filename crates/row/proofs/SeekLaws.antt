@@ -17,7 +17,7 @@ use Rattle.row.specs.declared.Stand.{Stand}
 use Rattle.row.specs.declared.Sought.{Sought}
 use Rattle.row.specs.declared.Sought.the-variants.{At, Missing}
 use Rattle.row.specs.Walk.{standOf, leftAt, Stands}
-use Rattle.row.specs.Seek.{afterVerdict, soughtOf}
+use Rattle.row.specs.Seek.{soughtAfter, soughtOf}
 use Rattle.row.proofs.Walk.{walk-to, walk-left}
 
 -- a sheet that is fine has rows that are
@@ -46,7 +46,7 @@ module _ (h : Header) (count : ℕ) (t : Tables) (k : ℕ) (d : Stand) where
   unfolding soughtOf
   stood r e f = go (judgeOf Loose h count t) (ltb k count) refl refl (sym e ∙ f)
     where
-      go : (v : Verdict) (b : Bool) → judgeOf Loose h count t ≡ v → ltb k count ≡ b → afterVerdict v count t k ≡ At d → Stood h count t k d
+      go : (v : Verdict) (b : Bool) → judgeOf Loose h count t ≡ v → ltb k count ≡ b → soughtAfter v count t k ≡ At d → Stood h count t k d
       go Fine b p q g = on b q (rw q at g)
         where
           on : (b : Bool) → ltb k count ≡ b → cond b (At (standOf k (t .rows))) Missing ≡ At d → Stood h count t k d

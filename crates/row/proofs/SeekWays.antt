@@ -15,7 +15,7 @@ use Rattle.made.specs.Made.{judgeOf}
 use Rattle.row.specs.declared.Stand.{Stand}
 use Rattle.row.specs.declared.Sought.the-variants.{At, Missing, Refused}
 use Rattle.row.specs.Walk.{wordMost, firstStand, nextStand, standOf, Stands}
-use Rattle.row.specs.Seek.{afterVerdict, soughtOf}
+use Rattle.row.specs.Seek.{soughtAfter, soughtOf}
 use Rattle.row.proofs.Walk.{stands-small, walk-to}
 use Rattle.row.proofs.SeekLaws.{fine-rows}
 
@@ -69,7 +69,7 @@ passed-all {k} {rows} {n = n} s h = let z : n ≡ k = omega (arith, s .few) in s
 -- ---- the answer
 
 module _ (h : Header) (count : ℕ) (t : Tables) (k : ℕ) (v : Verdict) (e : v ≡ judgeOf Loose h count t) where
-  sought : (w : Verdict) → v ≡ w → soughtOf h count t k ≡ afterVerdict w count t k
+  sought : (w : Verdict) → v ≡ w → soughtOf h count t k ≡ soughtAfter w count t k
   unfolding soughtOf
   sought w f = rw (← e, f)
 

@@ -1,31 +1,21 @@
 -- A walk over the rows of a sheet that was judged: where it stands, and that the row there is well made. Assumes nothing.
 use Prim.Native.Nat.{ℕ, zero, suc, _+_, _-_, _≤_, _<_, zero-le}
 use mathlib.Core.Path.{_≡_, refl}
-use mathlib.Core.Bool.{true, cond}
+use mathlib.Core.Bool.{true}
 use native.Mathlib.Nat.{sub-zero}
 use native.Mathlib.Omega.{arith}
 use lib.ListN.{length, drop, length-drop}
 use lib.Seq.{drop-drop}
 use Rattle.laws.specs.Lists.{tail}
-use Rattle.laws.proofs.Choice.{cond-first}
 use Rattle.laws.proofs.ListLaws.{rest-is}
 use Rattle.record.specs.declared.Mode.{Mode}
 use Rattle.sheet.specs.Tables.{Tables}
-use Rattle.made.specs.declared.Verdict.the-variants.{Fine, Faulty, Unlisted}
-use Rattle.made.specs.Made.{tablesOf, countAt, kindOf, restOf, isMade, isCoded, judgeRows}
+use Rattle.made.specs.declared.Verdict.the-variants.{Fine}
+use Rattle.made.specs.Made.{tablesOf, restOf, isMade, judgeRows}
 use Rattle.made.proofs.RowWays.{made-held}
+use Rattle.made.proofs.UsedLaws.{fine-on}
 use Rattle.row.specs.declared.Stand.{Stand}
 use Rattle.row.specs.Walk.{wordMost, firstStand, nextStand, standOf, leftAt, Stands}
-
--- a row that was judged is well made, and so are those behind it
-pub judged-on : (mode : Mode) (n k : ℕ) (t : Tables) → judgeRows mode (suc n) k t ≡ Fine → (isMade t ≡ true) × (judgeRows mode n (k + 1) (restOf t) ≡ Fine)
-unfolding judgeRows
-judged-on mode n k t e =
-    let code = isCoded mode (kindOf t) (countAt t 2) in
-    let rest = judgeRows mode n (k + 1) (restOf t) in
-    let a = cond-first (isMade t) (cond code rest (Unlisted k)) (Faulty k) Fine (λ z. let y : _≡_ {A = ℕ} 0 1 = cc in omega arith) e in
-    let b = cond-first code rest (Unlisted k) Fine (λ z. let y : _≡_ {A = ℕ} 0 1 = cc in omega arith) (a .1) in
-    (a .0, b .1)
 
 -- the tables behind a place, as the code hands them on
 abbrev pub tailsAt : Tables → Stand → Tables
@@ -61,7 +51,7 @@ module _ {mode : Mode} {t : Tables} {count : ℕ} {d : Stand} {k : ℕ} (w : Wal
   next = nextStand (t .rows) d
 
   here : (isMade (leftAt t d) ≡ true) × (judgeRows mode (count - (k + 1)) (k + 1) (restOf (leftAt t d)) ≡ Fine)
-  here = judged-on mode (count - (k + 1)) k (leftAt t d) (rw one-more at (w .fine))
+  here = fine-on mode (count - (k + 1)) k (leftAt t d) (rw one-more at (w .fine))
 
   pub walk-left : isMade (leftAt t d) ≡ true
   walk-left = here .0

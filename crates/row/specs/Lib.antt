@@ -1,4 +1,6 @@
--- The definitions of `row`, in the order to read them, and their examples.
+-- To read beside document 01, "Sheet tables" and "Refusal numbers": where a row stands, the row that is sought, a row handed in alone.
 pub mod Walk
 pub mod Seek
+pub mod Alone
 pub mod Examples
+pub mod AloneExamples

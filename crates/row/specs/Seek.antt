@@ -14,15 +14,15 @@ use Rattle.row.specs.declared.Sought.{Sought}
 use Rattle.row.specs.declared.Sought.the-variants.{At, Missing, Refused}
 use Rattle.row.specs.Walk.{standOf}
 
-abbrev pub afterVerdict : Verdict → ℕ → Tables → ℕ → Sought
-afterVerdict Fine count t k = cond (ltb k count) (At (standOf k (t .rows))) Missing
-afterVerdict BadHeader count t k = Refused BadHeader
-afterVerdict (Faulty row) count t k = Refused (Faulty row)
-afterVerdict (Unlisted row) count t k = Refused (Unlisted row)
+abbrev pub soughtAfter : Verdict → ℕ → Tables → ℕ → Sought
+soughtAfter Fine count t k = cond (ltb k count) (At (standOf k (t .rows))) Missing
+soughtAfter BadHeader count t k = Refused BadHeader
+soughtAfter (Faulty row) count t k = Refused (Faulty row)
+soughtAfter (Unlisted row) count t k = Refused (Unlisted row)
 
 -- where row k stands; any code is well made
 unfoldable pub soughtOf : Header → ℕ → Tables → ℕ → Sought
-soughtOf h count t k = afterVerdict (judgeOf Loose h count t) count t k
+soughtOf h count t k = soughtAfter (judgeOf Loose h count t) count t k
 
 -- ---- the paper's number and values
 

@@ -4,5 +4,8 @@ pub mod Pass
 pub mod Meaning
 pub mod Exact
 pub mod Join
+pub mod Alone
+pub mod First
 pub mod Located
 pub mod Numbered
+pub mod Stored

@@ -206,12 +206,12 @@ pub record Accepts (mode : Mode) (st : State) (o : Tables) (a : ℕ) (bs : List 
 stop≢read : {o : Tables} {m k a eof : ℕ} → stop m k a ≡ read o eof → ⊥
 stop≢read e = let z : _≡_ {A = ℕ} 0 1 = cc in omega arith
 
-ended-read : (mode : Mode) (o o′ : Tables) (at eof k a : ℕ) (rest : List ℕ) → Reading.ended mode o at k a rest ≡ read o′ eof → (o ≡ o′) × (at ≡ eof) × TailOk mode rest
+ended-read : (mode : Mode) (o o′ : Tables) (at eof k a : ℕ) (rest : List ℕ) → Reading.behindEof mode o at k a rest ≡ read o′ eof → (o ≡ o′) × (at ≡ eof) × TailOk mode rest
 ended-read Exact o o′ at eof k a [] e = (cc, cc, refl)
 ended-read Exact o o′ at eof k a (b ∷ bs) e = absurd (stop≢read e)
 ended-read Loose o o′ at eof k a rest e = (cc, cc, tt)
 
-read-ended : (mode : Mode) (o : Tables) (at k a : ℕ) (rest : List ℕ) → TailOk mode rest → Reading.ended mode o at k a rest ≡ read o at
+read-ended : (mode : Mode) (o : Tables) (at k a : ℕ) (rest : List ℕ) → TailOk mode rest → Reading.behindEof mode o at k a rest ≡ read o at
 read-ended Exact o at k a [] h = refl
 read-ended Exact o at k a (b ∷ bs) h = absurd (let z : _≡_ {A = ℕ} 0 1 = cc in omega arith)
 read-ended Loose o at k a rest h = refl

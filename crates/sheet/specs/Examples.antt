@@ -12,7 +12,7 @@ use Rattle.record.specs.Record.{endsCR, content, contentIs, lineIs, lineOf}
 use Rattle.number.specs.Words.{unled, trimmed, wordOf}
 use Rattle.number.specs.Number as Number
 use Rattle.heading.specs.declared.Header.{Header}
-use Rattle.header.specs.Header.{firstWords, kindOf, isNamed, headScale, headName, headed}
+use Rattle.header.specs.Header.{firstWords, kindSaid, isNamed, headScale, headName, headed}
 use Rattle.heading.specs.Heading.{nameByte, isName}
 use Rattle.token.specs.Lex.{keywords, mayLieOutside, lift, unlift, unmarked, isMarked, keyOf, lexOf}
 use Rattle.kinds.specs.Kinds.{schedule, nextIn, nextOf, codes, isListed, wantAt}
@@ -22,7 +22,7 @@ use Rattle.sheet.specs.Reading.{Reading, sheet, refused, walk, walkFrom,
 
 -- `reading` with every definition opened, so that it computes
 unfoldable pub computed : Mode → List ℕ → Reading
-unfolding run kept all same allAt holds place endsCR content contentIs lineIs lineOf unled trimmed wordOf Number.value Number.ended Number.lean Number.integerIs Number.integerAt Number.integerOf Number.signOf Number.signs Number.signed Number.thousandths Number.isToken Number.isNeat Number.realIs Number.realAt Number.realSigned Number.realOf firstWords nameByte isName kindOf isNamed headScale headName headed keywords mayLieOutside schedule nextIn nextOf codes isListed lift unlift unmarked isMarked keyOf lexOf wantAt wantOf verticesOf fieldOf islandOf isShut ringStep vertexOf keyStep stepOf oneOf setLast put ringAfter walk walkFrom sectionsOf meaning reading sectionsAt eofAt sectionBytes joined
+unfolding run kept all same allAt holds place endsCR content contentIs lineIs lineOf unled trimmed wordOf Number.value Number.ended Number.lean Number.integerIs Number.integerAt Number.integerOf Number.signOf Number.signs Number.signed Number.thousandths Number.isToken Number.isNeat Number.realIs Number.realAt Number.realSigned Number.realOf firstWords nameByte isName kindSaid isNamed headScale headName headed keywords mayLieOutside schedule nextIn nextOf codes isListed lift unlift unmarked isMarked keyOf lexOf wantAt wantOf verticesOf fieldOf islandOf isShut ringStep vertexOf keyStep stepOf oneOf setLast put ringAfter walk walkFrom sectionsOf meaning reading sectionsAt eofAt sectionBytes joined
 computed mode bs = reading mode bs
 
 -- ---- the specification's own examples (1.1.3, 1.1.6, 1.1.9 to 1.1.12)

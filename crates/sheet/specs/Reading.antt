@@ -27,16 +27,16 @@ pub data Sections : Type 0 where
   stop : ℕ → ℕ → ℕ → Sections
 
 -- what follows the EOF record, which stands at `eof`, is ignored in loose mode and refused (13) in exact mode, located at the next record
-abbrev pub ended : Mode → Tables → ℕ → ℕ → ℕ → List ℕ → Sections
-ended Exact o eof k at [] = read o eof
-ended Exact o eof k at (b ∷ bs) = stop afterEOF k at
-ended Loose o eof k at bs = read o eof
+abbrev pub behindEof : Mode → Tables → ℕ → ℕ → ℕ → List ℕ → Sections
+behindEof Exact o eof k at [] = read o eof
+behindEof Exact o eof k at (b ∷ bs) = stop afterEOF k at
+behindEof Loose o eof k at bs = read o eof
 
 -- after one record: `k` is its number, `at` its offset, `bs` the bytes from there on
 abbrev pub after : Mode → State → Tables → ℕ → ℕ → List ℕ → (State → Tables → ℕ → List ℕ → Sections) → One → Sections
 after mode st o k at bs more (One.Go st′ t len width) = more st′ (put st t (take len bs) o) (at + width) (drop width bs)
 after mode st o k at bs more (One.No m) = stop m k at
-after mode st o k at bs more (One.End width) = ended mode o at (k + 1) (at + width) (drop width bs)
+after mode st o k at bs more (One.End width) = behindEof mode o at (k + 1) (at + width) (drop width bs)
 
 -- the records one after the other. Each takes a byte at least, so that the bytes left count them:
 -- where the count is 0 there is no byte left, and the record that is wanted is cut

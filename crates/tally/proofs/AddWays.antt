@@ -19,9 +19,7 @@ use Rattle.border.specs.declared.Border.{Border}
 use Rattle.classes.specs.declared.Class.{Class}
 use Rattle.classes.specs.declared.Class.the-variants.{Confine, Other, Road, Water, Building, Parcel}
 use Rattle.classes.specs.Classes.{indexOf}
-use Rattle.tally.specs.declared.Tally.{Tally}
-use Rattle.tally.specs.declared.Added.{Added}
-use Rattle.tally.specs.Tally.{limit, isFigure, isTally, plus, figuresOf, refusedAt, withFigures, addOf, isFit, areFit, Good, tallyOn, grown}
+use Rattle.tally.specs.Tally.{Added, limit, isFigure, isTally, plus, figuresOf, refusedAt, withFigures, addOf, isFit, areFit, Good, tallyOn}
 use Rattle.tally.proofs.TallyLaws.{plus-none, plus-length}
 use Rattle.tally.proofs.TallyWays.{tally-at, figure-fits}
 
@@ -144,14 +142,14 @@ own-count c o n i =
     ) (omega arith)
 
 -- a tally stays one
-pub grown-good : (s : List ℤ) → Good s → (c : Class) (o : ℤ) (n : ℕ) (i : ℤ) → Good (grown s (indexOf c) o n i .tally .figures)
-unfolding withFigures
-grown-good s g c o n i =
-    let own = figuresOf (indexOf c) o (pos n) i in
+pub added-good : (s : List ℤ) → Good s → (b : Border) (o i : ℤ) → Good (addOf (tallyOn s) b o i .tally .figures)
+unfolding addOf withFigures
+added-good s g b o i =
+    let own = figuresOf (indexOf (b .class)) o (pos (b .islands)) i in
     cond-elim (λ (x : Added). Good (x .tally .figures)) (isTally s && (isTally own && isTally (plus s own))) (fitting (plus s own)) (refusedAt (tallyOn s))
     (λ t. record {
       each = and-right (isTally own) (isTally (plus s own)) (and-right (isTally s) (isTally own && isTally (plus s own)) t);
-      count = plus-length s own (g .count ∙ sym (own-count c o n i)) ∙ g .count;
+      count = plus-length s own (g .count ∙ sym (own-count (b .class) o (b .islands) i)) ∙ g .count;
     })
     (λ t. g)
 
@@ -216,7 +214,10 @@ module _ (a b c d outer : ℤ) (n : ℕ) (inner : ℤ) where
         unfolding areFit
         fit-fourth t fd fi e = rw (sym first ∙ not-false p tp, sym second ∙ not-false q tq, sym third ∙ not-false r t) (rw (toZ-ofZ fd, toZ-ofZ fi) at e)
 
-module _ (s : List ℤ) (k : ℕ) (c : Class) (e : k ≡ indexOf c) (g : Good s) (outer : ℤ) (n : ℕ) (inner : ℤ) where
+module _ (s : List ℤ) (k : ℕ) (border : Border) (e : k ≡ indexOf (border .class)) (g : Good s) (outer inner : ℤ) where
+  abbrev n : ℕ
+  n = border .islands
+
   abbrev figure : ℕ → ℤ
   figure i = getD s i (pos 0)
 
@@ -229,13 +230,13 @@ module _ (s : List ℤ) (k : ℕ) (c : Class) (e : k ≡ indexOf c) (g : Good s)
       (set (set (set s (4 * k) (figure (4 * k) +ℤ pos 1)) (4 * k + 1) (figure (4 * k + 1) +ℤ outer)) (4 * k + 2) (figure (4 * k + 2) +ℤ pos n))
       (4 * k + 3) (figure (4 * k + 3) +ℤ inner)
 
-  grown-is : grown s (indexOf c) outer n inner ≡ cond fit (fitting sums) (refusedAt (tallyOn s))
-  unfolding figuresOf areFit
-  grown-is =
+  added-is : addOf (tallyOn s) border outer inner ≡ cond fit (fitting sums) (refusedAt (tallyOn s))
+  unfolding addOf figuresOf areFit
+  added-is =
       let e1 : 4 * k + 1 ≡ suc (4 * k) = omega arith in
       let e2 : 4 * k + 2 ≡ suc (suc (4 * k)) = omega arith in
       let e3 : 4 * k + 3 ≡ suc (suc (suc (4 * k))) = omega arith in
-      rw (e1, e2, e3, ← e) (with-is (pos 1) outer (pos n) inner (4 * k) (4 * (5 - k)) s (omega (arith, index-most c e, g .count)) (g .each))
+      rw (e1, e2, e3, ← e) (with-is (pos 1) outer (pos n) inner (4 * k) (4 * (5 - k)) s (omega (arith, index-most (border .class) e, g .count)) (g .each))
 
   -- each is read into a local
   module _ (m0 : mag (figure (4 * k)) < 2 ^ 63) (m1 : mag (figure (4 * k + 1)) < 2 ^ 63) (m2 : mag (figure (4 * k + 2)) < 2 ^ 63) (m3 : mag (figure (4 * k + 3)) < 2 ^ 63) where
@@ -249,8 +250,8 @@ module _ (s : List ℤ) (k : ℕ) (c : Class) (e : k ≡ indexOf c) (g : Good s)
       judged : r ≡ fit
       judged = rw (back (figure (4 * k)) m0, back (figure (4 * k + 1)) m1, back (figure (4 * k + 2)) m2, back (figure (4 * k + 3)) m3, toZ-ofZ fo, toZ-ofZ fi) at q
 
-      pub grow-not : not r ≡ true → (false ≡ grown s (indexOf c) outer n inner .fits) × (s ≡ grown s (indexOf c) outer n inner .tally .figures)
-      grow-not t = rw (grown-is, sym judged ∙ not-true r t) (refl, refl)
+      pub grow-not : not r ≡ true → (false ≡ addOf (tallyOn s) border outer inner .fits) × (s ≡ addOf (tallyOn s) border outer inner .tally .figures)
+      grow-not t = rw (added-is, sym judged ∙ not-true r t) (refl, refl)
 
       module _ (t : not r ≡ false) where
         fits : fit ≡ true
@@ -278,13 +279,13 @@ module _ (s : List ℤ) (k : ℕ) (c : Class) (e : k ≡ indexOf c) (g : Good s)
         pub grow-fourth : SFits w64 (bits (figure (4 * k + 3)) +ℤ bits inner)
         grow-fourth = rw (back (figure (4 * k + 3)) m3, toZ-ofZ fi) (sum-fits (figure (4 * k + 3)) inner (each .3))
 
-        pub grow-is : (true ≡ grown s (indexOf c) outer n inner .fits)
+        pub grow-is : (true ≡ addOf (tallyOn s) border outer inner .fits)
             × (set
             (set
             (set (set s (4 * k) (bits (bits (figure (4 * k)) +ℤ pos 1))) (4 * k + 1) (bits (bits (figure (4 * k + 1)) +ℤ bits outer)))
             (4 * k + 2) (bits (bits (figure (4 * k + 2)) +ℤ toZ w64 n)))
             (4 * k + 3) (bits (bits (figure (4 * k + 3)) +ℤ bits inner))
-            ≡ grown s (indexOf c) outer n inner .tally .figures)
+            ≡ addOf (tallyOn s) border outer inner .tally .figures)
         grow-is =
             rw (
               toZ-ofZ grow-first,
@@ -298,21 +299,6 @@ module _ (s : List ℤ) (k : ℕ) (c : Class) (e : k ≡ indexOf c) (g : Good s)
               toZ-ofZ fo,
               toZ-ofZ fi,
               count,
-              grown-is,
+              added-is,
               fits,
             ) (refl, refl)
-
--- ---- the public function
-
-module _ (t : Tally) (b : Border) (outer inner : ℤ) where
-  pub add-none : {x : Bool} → x ≡ isTally (t .figures) → not x ≡ true → refusedAt t ≡ addOf t b outer inner
-  unfolding addOf withFigures
-  add-none {x} e f = rw (sym e ∙ not-true x f)
-
-  pub add-is : SFits w64 outer → SFits w64 inner → {r : Bool} {s : List ℤ} → (r ≡ grown (t .figures) (indexOf (b .class)) (bits outer) (b .islands) (bits inner) .fits)
-      × (s ≡ grown (t .figures) (indexOf (b .class)) (bits outer) (b .islands) (bits inner) .tally .figures) → record { fits = r; tally = tallyOn s } ≡ addOf t b outer inner
-  unfolding addOf
-  add-is f g {r} {s} e =
-      let p : r ≡ grown (t .figures) (indexOf (b .class)) outer (b .islands) inner .fits = rw (toZ-ofZ f, toZ-ofZ g) at (e .0) in
-      let q : s ≡ grown (t .figures) (indexOf (b .class)) outer (b .islands) inner .tally .figures = rw (toZ-ofZ f, toZ-ofZ g) at (e .1) in
-      rw (p, q)

@@ -1,63 +1,49 @@
 -- What a row adds to a tally depends on its own part of the tables alone. Assumes nothing.
-use mathlib.Core.Path.{_≡_, sym, ap, _∙_}
-use mathlib.Core.List.{List}
-use Prim.Native.Nat.{ℕ, _*_, _≤_, _<_}
+use mathlib.Core.Path.{_≡_, refl, _∙_, ap}
+use mathlib.Core.Bool.{true}
+use Prim.Native.Nat.{ℕ}
 use native.Mathlib.Omega.{arith}
-use lib.ListN.{length, take, drop, List·getD-append, take-append-drop}
-use lib.Seq.{take-at, drop-at, length-take-le, getD-take}
-use lib.IntN.{ℤ, pos}
 use Rattle.heading.specs.declared.Header.{Header}
 use Rattle.sheet.specs.Tables.{Tables, _then_}
-use Rattle.made.specs.Made.{natOf, cellAt, countAt, islandsOf, pointsOf, firstOf, restOf}
-use Rattle.made.proofs.RowWays.{Held}
-use Rattle.border.proofs.BorderLaws.{border-own}
-use Rattle.area.specs.BorderRings.{areasOf}
-use Rattle.area.proofs.AreaLaws.{areas-own}
-use Rattle.tally.specs.Take.{bordersAreas}
+use Rattle.made.specs.Made.{firstOf, isMade}
+use Rattle.made.proofs.RowWays.{made-held}
+use Rattle.made.proofs.OwnLaws.{cell-first, Own, own-alike, first-own}
+use Rattle.border.proofs.BorderLaws.{border-first}
+use Rattle.area.specs.declared.Areas.{Areas}
+use Rattle.area.specs.declared.Areas.the-variants.{Of, Wide, Missing}
+use Rattle.area.proofs.UsedLaws.{areas-first}
+use Rattle.tally.specs.declared.Tally.{Tally}
+use Rattle.tally.specs.Take.{bordersAreas, afterAreas, borderTaken, rowTaken}
 use Rattle.tally.specs.Sums.{rowFigures, rowFits}
 
-module _ (t u : Tables) (k : Held t) where
-  abbrev pub first : Tables
-  first = firstOf t then u
-
-  row-long : length (take 12 (t .rows)) ≡ 12
-  row-long = length-take-le 12 (t .rows) (k .row)
-
-  pub cell-own : (p : ℕ) → p < 12 → cellAt first p ≡ cellAt t p
-  cell-own p h = List·getD-append (take 12 (t .rows)) (u .rows) (pos 0) p (omega (arith, row-long)) ∙ getD-take 12 (t .rows) p (pos 0) h
-
-  pub count-own : (p : ℕ) → p < 12 → countAt first p ≡ countAt t p
-  count-own p h = ap natOf (cell-own p h)
-
-  pub rest-own : restOf first ≡ u
-  rest-own =
-      rw (
-        cell-own 9 (omega arith),
-        cell-own 10 (omega arith),
-        cell-own 11 (omega arith),
-        drop-at (take 12 (t .rows)) (u .rows) 12 row-long,
-        drop-at (take (countAt t 9) (t .letters)) (u .letters) (countAt t 9) (length-take-le (countAt t 9) (t .letters) (k .letters)),
-        drop-at (take (countAt t 10) (t .islands)) (u .islands) (countAt t 10) (length-take-le (countAt t 10) (t .islands) (k .islands)),
-        drop-at (take (2 * countAt t 11) (t .points)) (u .points) (2 * countAt t 11) (length-take-le (2 * countAt t 11) (t .points) (k .points)),
-      )
-
-  pub islands-own : islandsOf first ≡ islandsOf t
-  islands-own = rw (cell-own 10 (omega arith)) (take-at (take (countAt t 10) (t .islands)) (u .islands) (countAt t 10) (length-take-le (countAt t 10) (t .islands) (k .islands)))
-
-  points-long : 2 * countAt t 11 ≤ length (pointsOf t)
-  points-long = omega (arith, length-take-le (2 * countAt t 11) (t .points) (k .points))
-
-  pub areas-first : bordersAreas first ≡ bordersAreas t
-  areas-first =
-      rw (islands-own, cell-own 11 (omega arith))
-      (areas-own (countAt t 11) (islandsOf t) (pointsOf t) (u .points) points-long
-      ∙ sym (areas-own (countAt t 11) (islandsOf t) (pointsOf t) (drop (2 * countAt t 11) (t .points)) points-long)
-      ∙ ap (λ (s : List ℤ). areasOf (countAt t 11) (islandsOf t) s) (take-append-drop (2 * countAt t 11) (t .points)))
-
-  pub figures-own : (h : Header) → rowFigures h first ≡ rowFigures h t
+module _ (h : Header) where
+  figures-first : Own (rowFigures h)
   unfolding rowFigures
-  figures-own h = rw (cell-own 0 (omega arith), areas-first, border-own h t u k)
+  figures-first t m = rw (cell-first t 0 (omega arith), areas-first t m, border-first h t)
 
-  pub fits-own : (h : Header) → rowFits h first ≡ rowFits h t
+  fits-first : Own (rowFits h)
   unfolding rowFits
-  fits-own h = rw (cell-own 0 (omega arith), areas-first, border-own h t u k)
+  fits-first t m = rw (cell-first t 0 (omega arith), areas-first t m, border-first h t)
+
+  -- whatever stands behind it
+  module _ (t u : Tables) (m : isMade t ≡ true) where
+    pub figures-own : rowFigures h (firstOf t then u) ≡ rowFigures h t
+    figures-own = own-alike (rowFigures h) figures-first (firstOf t then u) t (first-own t u (made-held t m)) m
+
+    pub fits-own : rowFits h (firstOf t then u) ≡ rowFits h t
+    fits-own = own-alike (rowFits h) fits-first (firstOf t then u) t (first-own t u (made-held t m)) m
+
+  -- a running tally takes the border by its own part
+  module _ (k : ℕ) (a : Tally) where
+    after-first : (t : Tables) (x : Areas) → afterAreas h k (firstOf t) a x ≡ afterAreas h k t a x
+    after-first t (Of outer inner) = rw (border-first h t)
+    after-first t Wide = refl
+    after-first t Missing = refl
+
+    pub border-taken-first : Own (λ (t : Tables). borderTaken h k t a)
+    unfolding borderTaken
+    border-taken-first t m = ap (afterAreas h k (firstOf t) a) (areas-first t m) ∙ after-first t (bordersAreas t)
+
+    pub row-taken-first : Own (λ (t : Tables). rowTaken h k t a)
+    unfolding rowTaken
+    row-taken-first t m = rw (border-taken-first t m, cell-first t 0 (omega arith))

@@ -21,7 +21,7 @@ use Rattle.tally.specs.declared.Tally.{Tally}
 use Rattle.tally.specs.declared.Refusal.the-variants.{None}
 use Rattle.tally.specs.declared.Taken.{Taken}
 use Rattle.tally.specs.Tally.{isTally, noFigures, emptyTally, plus, figuresOf, refusedAt, withFigures, addOf}
-use Rattle.tally.specs.Take.{takenWith, bordersAreas, afterAdded, afterAreas, borderTaken, rowTaken, isNone, onward, tallyRows}
+use Rattle.tally.specs.Take.{takenWith, bordersAreas, afterAdded, afterAreas, borderTaken, rowTaken, isNone, thenTake, tallyRows}
 use Rattle.tally.specs.Sums.{ownOf, areaFigures, areaFits, rowFigures, rowFits, rowsFigures, rowsFit}
 use Rattle.tally.proofs.TallyLaws.{plus-assoc, plus-none, plus-length, noneBelow, tally-above, tally-before}
 use Rattle.tally.proofs.AddWays.{own-count}
@@ -162,6 +162,6 @@ rows-taken h (suc n) k t s l e f g =
     let w : isTally (plus u (rowsFigures h n (restOf t))) ≡ true = ap isTally (plus-assoc s (rowFigures h t) (rowsFigures h n (restOf t))) ∙ g in
     let v : isTally u ≡ true
     = tally-before u (rowsFigures h n (restOf t)) (m ∙ sym (rows-length h n (restOf t))) (plus-above s (rowFigures h t) (tally-above s e) (row-above h t p)) (rows-above h n (restOf t) q) w in
-    ap (λ (x : Taken). onward x (tallyRows h n (k + 1) (restOf t))) (row-taken h k t (tallyAt s) l e p v)
+    ap (λ (x : Taken). thenTake x (tallyRows h n (k + 1) (restOf t))) (row-taken h k t (tallyAt s) l e p v)
     ∙ rows-taken h n (k + 1) (restOf t) u m v q w
     ∙ ap (λ (y : List ℤ). takenWith (tallyAt y) None) (plus-assoc s (rowFigures h t) (rowsFigures h n (restOf t)))

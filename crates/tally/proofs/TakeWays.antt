@@ -27,19 +27,19 @@ use Rattle.row.specs.Seek.{soughtOf}
 use Rattle.row.proofs.Walk.{tails-are}
 use Rattle.row.proofs.SeekLaws.{fine-rows, stood}
 use Rattle.classes.specs.declared.Class.{Class}
-use Rattle.classes.specs.Classes.{classOf, indexOf}
-use Rattle.border.specs.Borders.{isBorder, borderOf}
+use Rattle.classes.specs.Classes.{classOf}
+use Rattle.border.specs.declared.Border.{Border}
+use Rattle.border.specs.Borders.{isBorder, borderWith, borderOf}
 use Rattle.area.specs.declared.Areas.{Areas}
 use Rattle.area.specs.declared.Areas.the-variants as Areas
 use Rattle.area.specs.BorderRings.{areasOf}
 use Rattle.tally.specs.declared.Tally.{Tally}
-use Rattle.tally.specs.declared.Added.{Added}
 use Rattle.tally.specs.declared.Refusal.{Refusal}
 use Rattle.tally.specs.declared.Refusal.the-variants.{None, Sheet, Missing, Full, Wide}
 use Rattle.tally.specs.declared.Taken.{Taken}
-use Rattle.tally.specs.Tally.{emptyTally, isTally, addOf, Good, tallyOn, grown}
-use Rattle.tally.specs.Take.{takenWith, afterAdded, afterAreas, Took, borderTaken, rowTaken, frontTaken, takenAt, takenOf, tallyRows, afterVerdict, tallyOf}
-use Rattle.tally.proofs.AddWays.{grown-good}
+use Rattle.tally.specs.Tally.{Added, emptyTally, isTally, addOf, Good, tallyOn}
+use Rattle.tally.specs.Take.{takenWith, afterAdded, afterAreas, Took, borderTaken, rowTaken, frontTaken, takenAt, takenOf, tallyRows, talliedAfter, tallyOf}
+use Rattle.tally.proofs.AddWays.{added-good}
 
 -- ---- the border, and the row, at the front of the tables
 
@@ -47,18 +47,23 @@ module _ (h : Header) (k : ℕ) (rows : List ℤ) (letters islands : List ℕ) (
   abbrev front : Tables
   front = tablesOf rows letters islands points
 
-  module _ (m : isMade front ≡ true) (n : ℕ) where
-    pub letters-part : n ≡ natOf (getD rows 9 (pos 0)) → n ≡ length (take n letters)
-    letters-part p = part-count n letters (omega (arith, made-held front m .letters, p))
+  module _ (l : ℕ) (j : l ≡ natOf (getD rows 9 (pos 0))) where
+    pub letters-part : isMade front ≡ true → l ≡ length (take l letters)
+    letters-part m = part-count l letters (omega (arith, made-held front m .letters, j))
 
-    pub islands-part : n ≡ natOf (getD rows 10 (pos 0)) → n ≡ length (take n islands)
-    islands-part p = part-count n islands (omega (arith, made-held front m .islands, p))
+  module _ (b : Border) (c : Class) (q : b ≡ borderWith c (tablesOf rows [] [] [])) where
+    pub islands-part : isMade front ≡ true → b .islands ≡ length (take (b .islands) islands)
+    islands-part m = part-count (b .islands) islands (rw q (made-held front m .islands))
 
-  module _ (s : List ℤ) (g : Good s) where
-    module _ (n : ℕ) (p : n ≡ natOf (getD rows 10 (pos 0))) (v : ℕ) (q : v ≡ natOf (getD rows 11 (pos 0))) (r : Areas) (e : r ≡ areasOf v (take n islands) points) where
+    module _ (l : ℕ) (j : l ≡ natOf (getD rows 9 (pos 0))) (d : c ≡ classOf (h .kind) (h .name) (take l letters)) (s : List ℤ) (g : Good s)
+        (r : Areas) (e : r ≡ areasOf (b .vertices) (take (b .islands) islands) points) where
+      border-is : b ≡ borderOf h front
+      unfolding borderOf
+      border-is = rw (q, d, j)
+
       found : (x : Areas) → r ≡ x → afterAreas h k front (tallyOn s) x ≡ borderTaken h k front (tallyOn s)
       unfolding borderTaken
-      found x f = rw (← f, e, p, q)
+      found x f = rw (← f, e, q)
 
       kept : (x : Areas) → r ≡ x → (z : Refusal) → afterAreas h k front (tallyOn s) x ≡ takenWith (tallyOn s) z → Took (borderTaken h k front (tallyOn s)) s z
       kept x f z w = subst (λ (y : Taken). Took y s z) (sym w ∙ found x f) (record { tally-is = refl; refusal-is = refl; good = g })
@@ -69,11 +74,10 @@ module _ (h : Header) (k : ℕ) (rows : List ℤ) (letters islands : List ℕ) (
       pub border-wide : r ≡ Areas.Wide → Took (borderTaken h k front (tallyOn s)) s (Wide k)
       border-wide f = kept Areas.Wide f (Wide k) refl
 
-      module _ (o i : ℤ) (f : r ≡ Areas.Of o i) (u : mag o < 2 ^ 63) (w : mag i < 2 ^ 63) (l : ℕ) (j : l ≡ natOf (getD rows 9 (pos 0)))
-          (c : Class) (d : c ≡ classOf (h .kind) (h .name) (take l letters)) {x : Bool} {z : List ℤ}
-          (a : (x ≡ grown s (indexOf c) (toZ w64 (ofZ w64 o)) n (toZ w64 (ofZ w64 i)) .fits) × (z ≡ grown s (indexOf c) (toZ w64 (ofZ w64 o)) n (toZ w64 (ofZ w64 i)) .tally .figures)) where
+      module _ (o i : ℤ) (f : r ≡ Areas.Of o i) (u : mag o < 2 ^ 63) (w : mag i < 2 ^ 63) {x : Bool} {z : List ℤ}
+          (a : (x ≡ addOf (tallyOn s) b (toZ w64 (ofZ w64 o)) (toZ w64 (ofZ w64 i)) .fits) × (z ≡ addOf (tallyOn s) b (toZ w64 (ofZ w64 o)) (toZ w64 (ofZ w64 i)) .tally .figures)) where
         abbrev added : Added
-        added = grown s (indexOf c) o n i
+        added = addOf (tallyOn s) b o i
 
         fits-is : x ≡ added .fits
         fits-is = rw (back o u, back i w) at (a .0)
@@ -82,13 +86,12 @@ module _ (h : Header) (k : ℕ) (rows : List ℤ) (letters islands : List ℕ) (
         figures-are = rw (back o u, back i w) at (a .1)
 
         all : afterAdded k added ≡ borderTaken h k front (tallyOn s)
-        unfolding addOf borderOf
-        all = (rw (d, j, p)) ∙ found (Areas.Of o i) f
+        all = (rw border-is) ∙ found (Areas.Of o i) f
 
         told : (y : Refusal) → cond x None (Full k) ≡ y → Took (borderTaken h k front (tallyOn s)) z y
         told y t =
             subst (λ (b : Taken). Took b z y) all
-            (record { tally-is = ap tallyOn figures-are; refusal-is = sym t ∙ ap (λ (b : Bool). cond b None (Full k)) fits-is; good = subst Good (sym figures-are) (grown-good s g c o n i) })
+            (record { tally-is = ap tallyOn figures-are; refusal-is = sym t ∙ ap (λ (b : Bool). cond b None (Full k)) fits-is; good = subst Good (sym figures-are) (added-good s g b o i) })
 
         pub border-taken : x ≡ true → Took (borderTaken h k front (tallyOn s)) z None
         border-taken t = told None (rw t)
@@ -96,14 +99,14 @@ module _ (h : Header) (k : ℕ) (rows : List ℤ) (letters islands : List ℕ) (
         pub border-full : x ≡ false → Took (borderTaken h k front (tallyOn s)) z (Full k)
         border-full t = told (Full k) (rw t)
 
-    module _ (b : Bool) (o : b ≡ isBorder (tablesOf rows [] [] [])) where
-      pub row-none : b ≡ false → Took (rowTaken h k front (tallyOn s)) s None
-      unfolding rowTaken
-      row-none e = rw (← o, e) (record { tally-is = refl; refusal-is = refl; good = g })
+  module _ (s : List ℤ) (g : Good s) (b : Bool) (o : b ≡ isBorder (tablesOf rows [] [] [])) where
+    pub row-none : b ≡ false → Took (rowTaken h k front (tallyOn s)) s None
+    unfolding rowTaken
+    row-none e = rw (← o, e) (record { tally-is = refl; refusal-is = refl; good = g })
 
-      pub row-taken : b ≡ true → {z : List ℤ} {r : Refusal} → Took (borderTaken h k front (tallyOn s)) z r → Took (rowTaken h k front (tallyOn s)) z r
-      unfolding rowTaken
-      row-taken e t = rw (← o, e) t
+    pub row-taken : b ≡ true → {z : List ℤ} {r : Refusal} → Took (borderTaken h k front (tallyOn s)) z r → Took (rowTaken h k front (tallyOn s)) z r
+    unfolding rowTaken
+    row-taken e t = rw (← o, e) t
 
   -- a tally that is handed in
   module _ (a : Tally) (b : Bool) (o : b ≡ isBorder (tablesOf rows [] [] [])) where
@@ -178,7 +181,7 @@ module _ (h : Header) (count : ℕ) (rows : List ℤ) (letters islands : List �
   abbrev whole : Tables
   whole = tablesOf rows letters islands points
 
-  judged : (u : Verdict) → v ≡ u → afterVerdict h count whole u ≡ tallyOf h count whole
+  judged : (u : Verdict) → v ≡ u → talliedAfter h count whole u ≡ tallyOf h count whole
   unfolding tallyOf
   judged u f = rw (← e, f)
 

@@ -14,26 +14,30 @@ use Rattle.sheet.specs.Tables.{Tables, _then_}
 use Rattle.made.specs.declared.Verdict.{Verdict}
 use Rattle.made.specs.declared.Verdict.the-variants.{Fine, BadHeader, Faulty, Unlisted}
 use Rattle.made.specs.Made.{firstOf, restOf, isMade, isCoded, judgeRows, judgeOf, usedOf}
-use Rattle.made.proofs.RowWays.{Held, made-held}
+use Rattle.made.proofs.RowWays.{made-held}
+use Rattle.made.proofs.OwnLaws.{made-alike, first-own, rest-own}
+use Rattle.made.proofs.UsedLaws.{fine-on}
 use Rattle.row.proofs.SeekLaws.{fine-rows}
 use Rattle.border.specs.Borders.{borderOf}
 use Rattle.tally.specs.declared.Tally.{Tally}
 use Rattle.tally.specs.declared.Refusal.the-variants.{None}
 use Rattle.tally.specs.declared.Taken.{Taken}
 use Rattle.tally.specs.Tally.{isFigure, isTally, noFigures, emptyTally, plus}
-use Rattle.tally.specs.Take.{takenWith, isNone, afterVerdict, tallyOf}
+use Rattle.tally.specs.Take.{takenWith, isNone, talliedAfter, tallyOf}
 use Rattle.tally.specs.Sums.{rowFigures, rowFits, rowsFigures, rowsFit}
-use Rattle.row.proofs.Walk.{judged-on}
 use Rattle.tally.proofs.TallyLaws.{plus-comm, plus-assoc, plus-none}
 use Rattle.tally.proofs.SumLaws.{rows-length, rows-grown, rows-taken}
-use Rattle.tally.proofs.MadeJoin.{made-own}
-use Rattle.tally.proofs.OwnLaws.{rest-own, figures-own, fits-own}
+use Rattle.tally.proofs.OwnLaws.{figures-own, fits-own}
 
 none-plus : (s : List ℤ) → length s ≡ 24 → plus noFigures s ≡ s
 none-plus s l = plus-comm noFigures s ∙ plus-none s 24 l
 
 then-assoc : (a b c : Tables) → a then b then c ≡ a then (b then c)
 then-assoc a b c = rw (append-assoc (a .rows) (b .rows) (c .rows), append-assoc (a .letters) (b .letters) (c .letters), append-assoc (a .islands) (b .islands) (c .islands), append-assoc (a .points) (b .points) (c .points))
+
+-- a well made row's own part, before other rows
+made-own : (t u : Tables) → isMade t ≡ true → isMade (firstOf t then u) ≡ true
+made-own t u e = made-alike (firstOf t then u) t (first-own t u (made-held t e)) ∙ e
 
 -- a well made row before rows that are
 fine-first : (n k : ℕ) (w : Tables) → isMade w ≡ true → judgeRows Loose n (k + 1) (restOf w) ≡ Fine → judgeRows Loose (suc n) k w ≡ Fine
@@ -44,13 +48,13 @@ fine-first n k w e f = rw e f
 fine-any : (n k j : ℕ) (t : Tables) → judgeRows Loose n k t ≡ Fine → judgeRows Loose n j t ≡ Fine
 unfolding judgeRows
 fine-any zero k j t e = refl
-fine-any (suc n) k j t e = let f = judged-on Loose n k t e in fine-first n j t (f .0) (fine-any n (k + 1) (j + 1) (restOf t) (f .1))
+fine-any (suc n) k j t e = let f = fine-on Loose n k t e in fine-first n j t (f .0) (fine-any n (k + 1) (j + 1) (restOf t) (f .1))
 
 pub fine-joined : (m : ℕ) (u : Tables) → judgeRows Loose m 0 u ≡ Fine → (n k : ℕ) (t : Tables) → judgeRows Loose n k t ≡ Fine → judgeRows Loose (n + m) k (usedOf n t then u) ≡ Fine
 unfolding usedOf
 fine-joined m u q zero k t e = let z : zero + m ≡ m = omega arith in ap (λ (j : ℕ). judgeRows Loose j k u) z ∙ fine-any m 0 k u q
 fine-joined m u q (suc n) k t e =
-    let f = judged-on Loose n k t e in
+    let f = fine-on Loose n k t e in
     let v : Tables = usedOf n (restOf t) then u in
     let z : suc n + m ≡ suc (n + m) = omega arith in
     ap₂ (λ (j : ℕ) (w : Tables). judgeRows Loose j k w) z (then-assoc (firstOf t) (usedOf n (restOf t)) u)
@@ -67,25 +71,25 @@ judge-joined h g n m t u e f = go (isHeader h) e
     go false d = absurd (let z : _≡_ {A = ℕ} 0 1 = cc in omega arith)
 
 -- one row before others
-module _ (h : Header) (j : ℕ) (t v : Tables) (r : Held t) where
+module _ (h : Header) (j : ℕ) (t v : Tables) (m : isMade t ≡ true) where
   figures-first : rowsFigures h (suc j) (firstOf t then v) ≡ plus (rowFigures h t) (rowsFigures h j v)
   unfolding rowsFigures
-  figures-first = ap₂ (λ (x y : List ℤ). plus x y) (figures-own t v r h) (ap (λ (w : Tables). rowsFigures h j w) (rest-own t v r))
+  figures-first = ap₂ (λ (x y : List ℤ). plus x y) (figures-own h t v m) (ap (λ (w : Tables). rowsFigures h j w) (rest-own t v (made-held t m)))
 
   fit-first : rowsFit h (suc j) (firstOf t then v) ≡ (rowFits h t && rowsFit h j v)
   unfolding rowsFit
-  fit-first = ap₂ (λ (x y : Bool). x && y) (fits-own t v r h) (ap (λ (w : Tables). rowsFit h j w) (rest-own t v r))
+  fit-first = ap₂ (λ (x y : Bool). x && y) (fits-own h t v m) (ap (λ (w : Tables). rowsFit h j w) (rest-own t v (made-held t m)))
 
 module _ (h : Header) (m : ℕ) (u : Tables) where
   pub figures-joined : (n k : ℕ) (t : Tables) → judgeRows Loose n k t ≡ Fine → rowsFigures h (n + m) (usedOf n t then u) ≡ plus (rowsFigures h n t) (rowsFigures h m u)
   unfolding usedOf rowsFigures
   figures-joined zero k t e = let z : zero + m ≡ m = omega arith in ap (λ (j : ℕ). rowsFigures h j u) z ∙ sym (none-plus (rowsFigures h m u) (rows-length h m u))
   figures-joined (suc n) k t e =
-      let f = judged-on Loose n k t e in
+      let f = fine-on Loose n k t e in
       let v : Tables = usedOf n (restOf t) then u in
       let z : suc n + m ≡ suc (n + m) = omega arith in
       ap₂ (λ (j : ℕ) (w : Tables). rowsFigures h j w) z (then-assoc (firstOf t) (usedOf n (restOf t)) u)
-      ∙ figures-first h (n + m) t v (made-held t (f .0))
+      ∙ figures-first h (n + m) t v (f .0)
       ∙ ap (λ (s : List ℤ). plus (rowFigures h t) s) (figures-joined n (k + 1) (restOf t) (f .1))
       ∙ sym (plus-assoc (rowFigures h t) (rowsFigures h n (restOf t)) (rowsFigures h m u))
 
@@ -93,11 +97,11 @@ module _ (h : Header) (m : ℕ) (u : Tables) where
   unfolding usedOf rowsFit
   fit-joined zero k t e p q = let z : zero + m ≡ m = omega arith in ap (λ (j : ℕ). rowsFit h j u) z ∙ q
   fit-joined (suc n) k t e p q =
-      let f = judged-on Loose n k t e in
+      let f = fine-on Loose n k t e in
       let v : Tables = usedOf n (restOf t) then u in
       let z : suc n + m ≡ suc (n + m) = omega arith in
       ap₂ (λ (j : ℕ) (w : Tables). rowsFit h j w) z (then-assoc (firstOf t) (usedOf n (restOf t)) u)
-      ∙ fit-first h (n + m) t v (made-held t (f .0))
+      ∙ fit-first h (n + m) t v (f .0)
       ∙ and-both (rowFits h t) (rowsFit h (n + m) v) (and-left (rowFits h t) (rowsFit h n (restOf t)) p)
       (fit-joined n (k + 1) (restOf t) (f .1) (and-right (rowFits h t) (rowsFit h n (restOf t)) p) q)
 
@@ -133,7 +137,7 @@ pub tallied : (h : Header) (n : ℕ) (t : Tables) (a : Tally) → tallyOf h n t 
 unfolding tallyOf
 tallied h n t a e = go (judgeOf Loose h n t) refl e
   where
-    go : (v : Verdict) → judgeOf Loose h n t ≡ v → afterVerdict h n t v ≡ takenWith a None → Tallied h n t (a .figures)
+    go : (v : Verdict) → judgeOf Loose h n t ≡ v → talliedAfter h n t v ≡ takenWith a None → Tallied h n t (a .figures)
     go Fine q e =
         let r = rows-grown h n 0 t emptyTally refl (ap (λ (x : Taken). isNone (x .refusal)) e) in
         record { fine = q; fit = r .0; is = sym (ap (λ (x : Taken). x .tally .figures) e) ∙ r .1 ∙ none-plus (rowsFigures h n t) (rows-length h n t) }
@@ -151,7 +155,7 @@ pub tally-is : (h : Header) (n : ℕ) (t : Tables) → judgeOf Loose h n t ≡ F
 unfolding tallyOf
 tally-is h n t e f g =
     let z = none-plus (rowsFigures h n t) (rows-length h n t) in
-    ap (λ (v : Verdict). afterVerdict h n t v) e ∙ rows-taken h n 0 t noFigures refl none-tally f (ap isTally z ∙ g) ∙ ap (λ (s : List ℤ). takenWith (record { figures = s }) None) z
+    ap (λ (v : Verdict). talliedAfter h n t v) e ∙ rows-taken h n 0 t noFigures refl none-tally f (ap isTally z ∙ g) ∙ ap (λ (s : List ℤ). takenWith (record { figures = s }) None) z
 
 -- ---- tallies add
 

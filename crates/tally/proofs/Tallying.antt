@@ -19,7 +19,7 @@ use Rattle.tally.specs.declared.Tally.{Tally}
 use Rattle.tally.specs.declared.Refusal.{Refusal}
 use Rattle.tally.specs.declared.Refusal.the-variants.{None}
 use Rattle.tally.specs.Tally.{noFigures, emptyTally, isFigure, isTally, Good, tallyOn}
-use Rattle.tally.specs.Take.{takenWith, Took, rowTaken, isNone, onward, tallyRows}
+use Rattle.tally.specs.Take.{takenWith, Took, rowTaken, isNone, thenTake, tallyRows}
 
 -- what is to come is the tally of the rows from k on
 pub record Tallying (h : Header) (t : Tables) (count : ℕ) (s : List ℤ) (d : Stand) (k : ℕ) : Type 0 where
@@ -27,7 +27,7 @@ pub record Tallying (h : Header) (t : Tables) (count : ℕ) (s : List ℤ) (d : 
   pub rest : tallyRows h count 0 t emptyTally ≡ tallyRows h (count - k) k (leftAt t d) (tallyOn s)
   pub good : Good s
 
-none-good : Good noFigures
+pub none-good : Good noFigures
 unfolding isTally isFigure
 none-good = record { each = refl; count = refl }
 
@@ -40,7 +40,7 @@ module _ {h : Header} {t : Tables} {count : ℕ} {s : List ℤ} {d : Stand} {k :
   tallying-end l = let z : count - k ≡ 0 = omega arith in sym (w .rest ∙ rw z)
 
   module _ (l : k < count) {z : List ℤ} {r : Refusal} (x : Took (rowTaken h k (leftAt t d) (tallyOn s)) z r) (b : Bool) (n : b ≡ isNone r) where
-    here : tallyRows h count 0 t emptyTally ≡ onward (takenWith (tallyOn z) r) (tallyRows h (count - (k + 1)) (k + 1) (restOf (leftAt t d)))
+    here : tallyRows h count 0 t emptyTally ≡ thenTake (takenWith (tallyOn z) r) (tallyRows h (count - (k + 1)) (k + 1) (restOf (leftAt t d)))
     unfolding tallyRows
     here = w .rest ∙ rw (one-more (w .walk) l, x .tally-is, x .refusal-is)
 

@@ -17,10 +17,9 @@ use Rattle.classes.specs.declared.Class.the-variants.{Parcel}
 use Rattle.border.specs.declared.Border.{Border}
 use Rattle.border.specs.Examples.{computed as computedBorder}
 use Rattle.tally.specs.declared.Tally.{Tally}
-use Rattle.tally.specs.declared.Added.{Added}
 use Rattle.tally.specs.declared.Refusal.the-variants.{None, Sheet, Missing, Full, Wide}
 use Rattle.tally.specs.declared.Taken.{Taken}
-use Rattle.tally.specs.Tally.{limit, isFigure, isTally, emptyTally, plus, figuresOf, refusedAt, withFigures, addOf, isFit, areFit, tallyOn}
+use Rattle.tally.specs.Tally.{Added, limit, isFigure, isTally, emptyTally, plus, figuresOf, refusedAt, withFigures, addOf, isFit, areFit, tallyOn}
 use Rattle.tally.specs.Take.{takenWith, borderTaken, rowTaken, takenOf, tallyRows, tallyOf, refusedOf}
 
 -- the definitions opened, so that they compute

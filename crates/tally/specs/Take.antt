@@ -23,11 +23,10 @@ use Rattle.area.specs.declared.Areas.{Areas}
 use Rattle.area.specs.declared.Areas.the-variants as Areas
 use Rattle.area.specs.BorderRings.{areasOf}
 use Rattle.tally.specs.declared.Tally.{Tally}
-use Rattle.tally.specs.declared.Added.{Added}
 use Rattle.tally.specs.declared.Refusal.{Refusal}
 use Rattle.tally.specs.declared.Refusal.the-variants.{None, Sheet, Missing, Full, Wide}
 use Rattle.tally.specs.declared.Taken.{Taken}
-use Rattle.tally.specs.Tally.{emptyTally, isTally, Good, tallyOn, addOf}
+use Rattle.tally.specs.Tally.{Added, emptyTally, isTally, Good, tallyOn, addOf}
 
 abbrev pub takenWith : Tally → Refusal → Taken
 takenWith a r = record { tally = a; refusal = r }
@@ -82,21 +81,21 @@ isNone Missing = false
 isNone (Full k) = false
 isNone (Wide k) = false
 
-abbrev pub onward : Taken → (Tally → Taken) → Taken
-onward x f = cond (isNone (x .refusal)) (f (x .tally)) (takenWith emptyTally (x .refusal))
+abbrev pub thenTake : Taken → (Tally → Taken) → Taken
+thenTake x f = cond (isNone (x .refusal)) (f (x .tally)) (takenWith emptyTally (x .refusal))
 
 unfoldable pub tallyRows : Header → ℕ → ℕ → Tables → Tally → Taken
 tallyRows h zero k t a = takenWith a None
-tallyRows h (suc n) k t a = onward (rowTaken h k t a) (tallyRows h n (k + 1) (restOf t))
+tallyRows h (suc n) k t a = thenTake (rowTaken h k t a) (tallyRows h n (k + 1) (restOf t))
 
-abbrev pub afterVerdict : Header → ℕ → Tables → Verdict → Taken
-afterVerdict h count t Fine = tallyRows h count 0 t emptyTally
-afterVerdict h count t BadHeader = takenWith emptyTally (Sheet BadHeader)
-afterVerdict h count t (Faulty k) = takenWith emptyTally (Sheet (Faulty k))
-afterVerdict h count t (Unlisted k) = takenWith emptyTally (Sheet (Unlisted k))
+abbrev pub talliedAfter : Header → ℕ → Tables → Verdict → Taken
+talliedAfter h count t Fine = tallyRows h count 0 t emptyTally
+talliedAfter h count t BadHeader = takenWith emptyTally (Sheet BadHeader)
+talliedAfter h count t (Faulty k) = takenWith emptyTally (Sheet (Faulty k))
+talliedAfter h count t (Unlisted k) = takenWith emptyTally (Sheet (Unlisted k))
 
 unfoldable pub tallyOf : Header → ℕ → Tables → Taken
-tallyOf h count t = afterVerdict h count t (judgeOf Loose h count t)
+tallyOf h count t = talliedAfter h count t (judgeOf Loose h count t)
 
 -- ---- the paper's number and values
 

@@ -9,7 +9,6 @@ use lib.Signed.{leZ}
 use Rattle.border.specs.declared.Border.{Border}
 use Rattle.classes.specs.Classes.{indexOf}
 use Rattle.tally.specs.declared.Tally.{Tally}
-use Rattle.tally.specs.declared.Added.{Added}
 
 -- six classes of four figures
 abbrev pub figureCount : ℕ
@@ -43,6 +42,11 @@ plus (a ∷ s) (b ∷ t) = (a +ℤ b) ∷ plus s t
 unfoldable pub figuresOf : ℕ → ℤ → ℤ → ℤ → List ℤ
 figuresOf k outer islands inner = replicate (4 * k) (pos 0) ++ pos 1 ∷ outer ∷ islands ∷ inner ∷ replicate (4 * (5 - k)) (pos 0)
 
+-- whether figures fit, and the tally then
+pub record Added : Type 0 where
+  pub fits : Bool
+  pub tally : Tally
+
 abbrev pub refusedAt : Tally → Added
 refusedAt t = record { fits = false; tally = t }
 
@@ -72,7 +76,3 @@ pub record Good (s : List ℤ) : Type 0 where
 
 abbrev pub tallyOn : List ℤ → Tally
 tallyOn s = record { figures = s }
-
--- figures with those of a border of class k that has n islands
-abbrev pub grown : List ℤ → ℕ → ℤ → ℕ → ℤ → Added
-grown s k outer n inner = withFigures (tallyOn s) (figuresOf k outer (pos n) inner)

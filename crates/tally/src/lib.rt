@@ -7,14 +7,13 @@ ghost use Rattle.record.specs.declared.Mode.the-variants.{Loose};
 ghost use Rattle.made.specs.declared.Verdict.the-variants.{Fine};
 ghost use Rattle.made.specs.Made.{tablesOf, isMade, judgeRows};
 ghost use Rattle.row.specs.Walk.{leftAt, Stands};
-ghost use Rattle.classes.specs.Classes.{indexOf};
-ghost use Rattle.tally.specs.Tally.{emptyTally, isFigure, isTally, isFit, areFit, Good, tallyOn, grown, addOf};
+ghost use Rattle.tally.specs.Tally.{emptyTally, isFigure, isTally, isFit, areFit, Good, tallyOn, addOf};
 ghost use Rattle.tally.specs.Take.{Took, borderTaken, rowTaken, frontTaken, takenOf, isNone, tallyRows, tallyOf, refusedOf};
 use area::Areas;
 use area::areas_of;
 use border::Border;
+use border::border_with;
 use border::is_border;
-use classes::Class;
 use classes::class_of;
 use classes::index_of;
 use heading::Header;
@@ -37,12 +36,6 @@ pub struct Tally {
     pub figures: [i64; 24],
 }
 
-// The tally with a border's figures added; or it does not fit (18), and the tally is as it was.
-pub struct Added {
-    pub fits: bool,
-    pub tally: Tally,
-}
-
 // Nothing is refused; what is wrong with the sheet (6, 15); no such border (19); a figure is past the limit (18) or a ring is too
 // wide (17), with the row.
 pub enum Refusal {
@@ -62,10 +55,6 @@ pub struct Taken {
 const FIGURES: usize = 24;
 
 const LETTERS_PLACE: usize = 9;
-
-const ISLANDS_PLACE: usize = 10;
-
-const VERTICES_PLACE: usize = 11;
 
 const CLASS_FIGURES: usize = 4;
 
@@ -137,10 +126,12 @@ fn are_fit(a: i64, b: i64, c: i64, d: i64, outer: i64, islands: usize, inner: i6
 }
 
 // The figures take those of a border in place. It is judged after the whole border, and refused alters nothing.
-fn grow(figures: &mut [i64; 24], class: Class, outer: i64, islands: usize, inner: i64) -> bool
+fn grow(figures: &mut [i64; 24], border: Border, outer: i64, inner: i64) -> bool
     requires { ⌜ Good (now figures) ⌝ }
-    ensures { λ r. ⌜ (r ≡ grown (now (figures .entry)) (indexOf class) outer islands inner .fits) × (now (figures .exit) ≡ grown (now (figures .entry)) (indexOf class) outer islands inner .tally .figures) ⌝ }
+    ensures { λ r. ⌜ (r ≡ addOf (tallyOn (now (figures .entry))) border outer inner .fits) × (now (figures .exit) ≡ addOf (tallyOn (now (figures .entry))) border outer inner .tally .figures) ⌝ }
 {
+    let class = border.class;
+    let islands = border.islands;
     let k = CLASS_FIGURES * index_of(class);
     let a = figures[k];
     let b = figures[k + 1];
@@ -156,23 +147,6 @@ fn grow(figures: &mut [i64; 24], class: Class, outer: i64, islands: usize, inner
     true
 }
 
-// The tally with a border of these areas.
-pub fn add(t: Tally, b: Border, outer: i64, inner: i64) -> Added
-    ensures { λ r. ⌜ r ≡ addOf t b outer inner ⌝ }
-{
-    if !is_tally(t) {
-        return Added {
-            fits: false,
-            tally: t,
-        };
-    }
-    let mut figures = t.figures;
-    let class = b.class;
-    let fits = grow(&mut figures, class, outer, b.islands, inner);
-    let tally = Tally { figures };
-    Added { fits, tally }
-}
-
 // The border at the front of the tables, which is row `row` of the sheet: 17 for any of its rings, then 18.
 fn take_border(
     figures: &mut [i64; 24],
@@ -186,13 +160,14 @@ fn take_border(
     requires { ⌜ Good (now figures) × (isMade (tablesOf (now rows) (now letters) (now islands) (now points)) ≡ true) ⌝ }
     ensures { λ r. ⌜ Took (borderTaken header row (tablesOf (now (rows .entry)) (now (letters .entry)) (now (islands .entry)) (now (points .entry))) (tallyOn (now (figures .entry)))) (now (figures .exit)) r ⌝ }
 {
-    let n = count_at(rows, ISLANDS_PLACE);
-    match areas_of(count_at(rows, VERTICES_PLACE), &islands[..n], points) {
+    let l = count_at(rows, LETTERS_PLACE);
+    let border = border_with(class_of(header, &letters[..l]), rows);
+    let n = border.islands;
+    match areas_of(border.vertices, &islands[..n], points) {
         Areas::Missing => Refusal::Missing,
         Areas::Wide => Refusal::Wide(row),
         Areas::Of { outer, inner } => {
-            let l = count_at(rows, LETTERS_PLACE);
-            if grow(figures, class_of(header, &letters[..l]), outer, n, inner) {
+            if grow(figures, border, outer, inner) {
                 return Refusal::None;
             }
             Refusal::Full(row)

@@ -1,14 +1,13 @@
 -- The document's own example and the corner itself, by computation.
 use mathlib.Core.Path.{_≡_, refl}
 use mathlib.Core.Bool.{false}
-use mathlib.Core.List.{[]}
 use lib.Count.{trailingZeros}
 use lib.IntN.{ℤ, pos, negsuc}
 use lib.Ieee.{fin, round, div, ofInt, size, span, climb, units, odd}
 use Rattle.tile.specs.declared.Tile.{Tile}
 use Rattle.tile.specs.declared.Tile.the-variants.{At, Outside}
 use Rattle.number.specs.Number.{isReal}
-use Rattle.tile.specs.Tiles.{in-frame, fits, scaled, tileOf, tile-told}
+use Rattle.tile.specs.Tiles.{in-frame, fits, scaled, tileOf, numberOf}
 
 -- `tileOf` with every definition opened, so that it computes
 unfoldable pub computed : ℤ → ℤ → ℤ → ℤ → Tile
@@ -26,7 +25,7 @@ unfolding computed
 the-corner = refl
 
 -- 16,777,215 is the last difference
-past-the-frame : tile-told (tileOf (pos 0) (pos 0) (pos 16777216) (pos 0)) ≡ (20, [])
+past-the-frame : numberOf (tileOf (pos 0) (pos 0) (pos 16777216) (pos 0)) ≡ 20
 unfolding computed
 past-the-frame = refl
 

@@ -1,10 +1,10 @@
 -- Tile points (document 01, "Tile points"): east difference and south difference, "each converted and then divided once by 256".
 use mathlib.Core.Bool.{Bool, false, cond, _&&_}
-use mathlib.Core.List.{List, [], _∷_}
 use Prim.Native.Nat.{ℕ}
 use lib.IntN.{ℤ, pos, _-ℤ_}
 use lib.Signed.{leZ}
 use lib.Ieee.{Float, fin, binary32, div, ofInt}
+use Rattle.record.specs.Refusals.{offTile}
 use Rattle.number.specs.Number.{isReal}
 use Rattle.tile.specs.declared.Along.{Along}
 use Rattle.tile.specs.declared.Along.the-variants.{By, Off}
@@ -40,7 +40,19 @@ tileOf west north x y =
     (At (record { east = scaled (x -ℤ west); south = scaled (north -ℤ y) }))
     Outside
 
--- an answer in the paper's terms: the refusal's number, or 0 and the pair
-abbrev pub tile-told : Tile → ℕ × List Float
-tile-told (At o) = (0, o .east ∷ o .south ∷ [])
-tile-told Outside = (20, [])
+-- ---- the paper's number and values: the pair, each +0.0 where it is refused
+
+abbrev pub numberOf : Tile → ℕ
+numberOf (At o) = 0
+numberOf Outside = offTile
+
+abbrev pub noOffset : Float
+noOffset = fin false 0 (pos 0)
+
+abbrev pub eastOf : Tile → Float
+eastOf (At o) = o .east
+eastOf Outside = noOffset
+
+abbrev pub southOf : Tile → Float
+southOf (At o) = o .south
+southOf Outside = noOffset

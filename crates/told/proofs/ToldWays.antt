@@ -21,7 +21,7 @@ use Rattle.reader.specs.Read.{written}
 use Rattle.writer.specs.declared.Written.{Written}
 use Rattle.writer.specs.Write.{outputOf}
 use Rattle.tile.specs.declared.Tile.{Tile}
-use Rattle.tile.specs.Tiles.{tileOf}
+use Rattle.tile.specs.Tiles.{tileOf, noOffset}
 use Rattle.classes.specs.declared.Class.{Class}
 use Rattle.classes.specs.declared.Class.the-variants as Class
 use Rattle.classes.specs.Classes.{indexOf}
@@ -29,7 +29,7 @@ use Rattle.listing.specs.declared.Listed.{Listed}
 use Rattle.listing.specs.Listed.{listedOf}
 use Rattle.listing.specs.Listed as Listed
 use Rattle.told.specs.Asked.{modeOf, headerOf}
-use Rattle.told.specs.Told.{listedTold, noFloat}
+use Rattle.told.specs.Told.{listedTold}
 
 -- the callee answered r, which is y, and r was found to be the case v
 pub told {ℓ κ} : {A : Type ℓ} {B : Type κ} (g : A → B) {r y v : A} → r ≡ y → r ≡ v → g v ≡ g y
@@ -66,7 +66,7 @@ small-fits n h = record { sfits = omega arith }
 pub small-reads : (n : ℕ) → n ≤ 9999 → toZ w64 n ≡ pos n
 small-reads n h = toZ-pos w64 {n = n} (omega arith)
 
-pub zero-float : ofBits binary32 0 ≡ noFloat
+pub zero-float : ofBits binary32 0 ≡ noOffset
 unfolding ofBits ofFields odd trailingZeros
 zero-float = refl
 

@@ -16,8 +16,8 @@ abbrev pub modeOf : ℕ → Mode
 modeOf m = cond (eqb m 0) Loose Exact
 
 -- 0 is no, anything else is yes
-abbrev pub isDue : ℕ → Bool
-isDue d = not (eqb d 0)
+abbrev pub isKeywordDue : ℕ → Bool
+isKeywordDue d = not (eqb d 0)
 
 -- a name of another length than 11 is a wrong name
 unfoldable pub headerOf : ℕ → List ℕ → ℤ → Header

@@ -1,4 +1,4 @@
--- What a caller in C asks, and the library's answers as the structs of the C interface.
+-- To read beside `include/cxf.h`: what a caller in C asks, and the library's answers as its structs.
 pub mod Asked
 pub mod Told
 pub mod Answers

@@ -1,16 +1,12 @@
 -- Each answer as the struct of the C interface: "In every answer `number` is 0 where the question was answered, else the refusal of
 -- document 01; a field that the answer, or the paper, does not name is 0". Assumes nothing: these are definitions.
 use Prim.Native.Nat.{ℕ}
-use mathlib.Core.Bool.{false}
-use lib.IntN.{pos}
-use lib.Ieee.{Float, fin}
 use Rattle.record.specs.declared.Found.{Found}
 use Rattle.record.specs.declared.Found.the-variants as Found
-use Rattle.record.specs.Refusals.{malformed, offTile}
+use Rattle.record.specs.Record as Record
 use Rattle.number.specs.declared.Whole.{Whole}
-use Rattle.number.specs.declared.Whole.the-variants as Whole
 use Rattle.number.specs.declared.Decimal.{Decimal}
-use Rattle.number.specs.declared.Decimal.the-variants as Decimal
+use Rattle.number.specs.Number.{integerNumber, integerValue, realNumber, realValue}
 use Rattle.heading.specs.declared.Header.{Header}
 use Rattle.reader.specs.declared.Needs.{Needs}
 use Rattle.reader.specs.declared.Answer.{Answer}
@@ -19,7 +15,8 @@ use Rattle.reader.specs.Read as Read
 use Rattle.writer.specs.declared.Written.{Written}
 use Rattle.writer.specs.Write as Write
 use Rattle.tile.specs.declared.Tile.{Tile}
-use Rattle.tile.specs.declared.Tile.the-variants as Tile
+use Rattle.tile.specs.Tiles.{eastOf, southOf}
+use Rattle.tile.specs.Tiles as Tiles
 use Rattle.listing.specs.declared.Listed.{Listed}
 use Rattle.listing.specs.Listed as Listed
 use Rattle.told.specs.declared.CxfReading.{CxfReading}
@@ -29,17 +26,24 @@ use Rattle.told.specs.declared.CxfNumber.{CxfNumber}
 use Rattle.told.specs.declared.CxfTile.{CxfTile}
 use Rattle.told.specs.declared.CxfListed.{CxfListed}
 
+-- the number of the interface: it rises whenever a struct, a width or a meaning changes, so that an old binding can refuse a new library
+abbrev pub interfaceNumber : ℕ
+interfaceNumber = 1
+
+-- a value of a record that is found; 0 where it is refused
+abbrev pub ofFound : (ℕ → ℕ → ℕ → ℕ) → Found → ℕ
+ofFound f (Found.Record start len next) = f start len next
+ofFound f (Found.Refused number) = 0
+
 abbrev pub recordTold : Found → CxfRecord
-recordTold (Found.Record start len next) = record { number = 0; start = start; length = len; next = next }
-recordTold (Found.Refused number) = record { number = number; start = 0; length = 0; next = 0 }
+recordTold a =
+    record { number = Record.numberOf a; start = ofFound (λ start len next. start) a; length = ofFound (λ start len next. len) a; next = ofFound (λ start len next. next) a }
 
 abbrev pub integerTold : Whole → CxfNumber
-integerTold (Whole.Is n) = record { number = 0; value = pos n }
-integerTold Whole.Malformed = record { number = malformed; value = pos 0 }
+integerTold a = record { number = integerNumber a; value = integerValue a }
 
 abbrev pub realTold : Decimal → CxfNumber
-realTold (Decimal.Is z) = record { number = 0; value = z }
-realTold Decimal.Malformed = record { number = malformed; value = pos 0 }
+realTold a = record { number = realNumber a; value = realValue a }
 
 abbrev pub readingOf : ℕ → ℕ → ℕ → Needs → Header → CxfReading
 readingOf number nth offset a h =
@@ -66,12 +70,8 @@ readTold o = answerTold (o .answer) (o .header)
 abbrev pub writeTold : Written → CxfWritten
 writeTold w = record { number = Write.numberOf w; row = Write.rowOf w; length = Write.lengthOf w }
 
-abbrev pub noFloat : Float
-noFloat = fin false 0 (pos 0)
-
 abbrev pub tileTold : Tile → CxfTile
-tileTold (Tile.At o) = record { number = 0; east = o .east; south = o .south }
-tileTold Tile.Outside = record { number = offTile; east = noFloat; south = noFloat }
+tileTold a = record { number = Tiles.numberOf a; east = eastOf a; south = southOf a }
 
 abbrev pub listedTold : Listed → CxfListed
 listedTold a = record { number = Listed.numberOf a; length = Listed.lengthOf a }

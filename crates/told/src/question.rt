@@ -1,7 +1,8 @@
 // Answers to questions about a sheet that is handed in (document 01, "Border classes", "Areas" and "Ring check"), laid out.
 ghost use mathlib.Core.Path.{_≡_};
 ghost use mathlib.Core.Bool.{cond};
-ghost use Rattle.told.specs.Answers.{noBorder, borderIs, borderTold, textTold, areaTold, noRing, ringTold};
+ghost use Rattle.border.specs.declared.BorderAnswer.the-variants.{Is};
+ghost use Rattle.told.specs.Answers.{noBorder, borderTold, textTold, areaTold, noRing, ringTold};
 use area::AreaAnswer;
 use border::Border;
 use border::BorderAnswer;
@@ -72,7 +73,7 @@ fn border_refused(number: usize, row: usize) -> CxfBorder
 }
 
 fn border_laid(b: Border) -> CxfBorder
-    ensures { λ r. ⌜ r ≡ borderIs b ⌝ }
+    ensures { λ r. ⌜ r ≡ borderTold (Is b) ⌝ }
 {
     let class = b.class;
     let place = index_of(class) + 1;

@@ -20,7 +20,7 @@ use Rattle.made.specs.declared.Verdict.the-variants.{Fine, BadHeader}
 use Rattle.made.specs.Made.{judgeRows, judgeOf}
 use Rattle.writer.specs.declared.Written.the-variants.{Wrote, TooLong, NoRoom}
 use Rattle.layout.specs.Sheet.{line, rowsText, headerText, sheetText}
-use Rattle.writer.specs.Write.{afterVerdict, writeOf}
+use Rattle.writer.specs.Write.{writtenAfter, writeOf}
 use Rattle.writer.specs.Put.{Put}
 use Rattle.writer.proofs.Putting.{Putting, putting-start, putting-room, putting-on, putting-last}
 
@@ -30,9 +30,9 @@ module _ (h : Header) (count : ℕ) (t : Tables) where
   judged-is e = cond-first (isHeader h) (judgeRows Exact count 0 t) BadHeader Fine (λ z. let y : _≡_ {A = ℕ} 0 1 = cc in omega arith) e
 
   -- the answer is the verdict's that the code found
-  pub written-by : {v w : Verdict} → v ≡ judgeOf Exact h count t → v ≡ w → (room : ℕ) → afterVerdict w (length (sheetText h count t)) room ≡ writeOf h count t room
+  pub written-by : {v w : Verdict} → v ≡ judgeOf Exact h count t → v ≡ w → (room : ℕ) → writtenAfter w (length (sheetText h count t)) room ≡ writeOf h count t room
   unfolding writeOf
-  written-by e f room = ap (λ (x : Verdict). afterVerdict x (length (sheetText h count t)) room) (sym f ∙ e)
+  written-by e f room = ap (λ (x : Verdict). writtenAfter x (length (sheetText h count t)) room) (sym f ∙ e)
 
   abbrev end : List ℕ
   end = line (text "EOF")
@@ -76,18 +76,18 @@ module _ (h : Header) (count : ℕ) (t : Tables) where
 -- ---- the answers, by the needed length as the code has it
 
 module _ (size room needed : ℕ) (q : needed ≡ min size (fileMost + 1)) where
-  pub wrote-long : fileMost < needed → TooLong ≡ afterVerdict Fine size room
+  pub wrote-long : fileMost < needed → TooLong ≡ writtenAfter Fine size room
   wrote-long h = rw (lt-leb size fileMost (omega arith))
 
   module _ (h : needed ≤ fileMost) where
     size-is : size ≡ needed
     size-is = omega arith
 
-    pub wrote-tight : room < needed → NoRoom needed ≡ afterVerdict Fine size room
+    pub wrote-tight : room < needed → NoRoom needed ≡ writtenAfter Fine size room
     wrote-tight k = rw (size-is, le-leb needed fileMost h, lt-leb needed room k)
 
     pub wrote-room : needed ≤ room → size ≤ room
     wrote-room k = omega (arith, size-is)
 
-    pub wrote-whole : needed ≤ room → Wrote needed ≡ afterVerdict Fine size room
+    pub wrote-whole : needed ≤ room → Wrote needed ≡ writtenAfter Fine size room
     wrote-whole k = rw (size-is, le-leb needed fileMost h, le-leb needed room k)

@@ -1,52 +1,93 @@
 -- Demand 2's writing, as theorems on `write`'s answer and output; and what "well made" means. Assumes nothing.
-use mathlib.Core.Path.{_≡_, _∙_, ap}
+use mathlib.Core.Path.{_≡_, sym, _∙_, ap, ap₂}
 use mathlib.Core.Bool.{true}
 use mathlib.Core.List.{List}
-use Prim.Native.Nat.{ℕ, _/_, _≤_}
+use Prim.Native.Nat.{ℕ, _*_, _≤_}
+use native.Mathlib.Omega.{arith}
 use lib.ListN.{length}
+use lib.Seq.{length-take-le}
 use borrow.Author.Tests.{le-leb}
 use Rattle.laws.specs.Lists.{over}
+use Rattle.laws.proofs.Choice.{cond-first}
 use Rattle.record.specs.declared.Mode.{Mode}
-use Rattle.record.specs.declared.Mode.the-variants.{Loose, Exact}
+use Rattle.record.specs.declared.Mode.the-variants.{Exact}
 use Rattle.record.specs.Refusals.{fileMost}
 use Rattle.heading.specs.declared.Header.{Header}
 use Rattle.heading.specs.Heading.{isHeader}
-use Rattle.sheet.specs.Tables.{Tables}
+use Rattle.kinds.specs.Kinds.{rowWidth}
+use Rattle.sheet.specs.Tables.{Tables, _then_}
 use Rattle.sheet.specs.Reading.{sheet, meaning, reading}
 use Rattle.sheet.proofs.Meaning.{reading-meaning}
-use Rattle.made.specs.declared.Verdict.the-variants.{Fine}
-use Rattle.made.specs.Made.{judgeRows, judgeOf, usedOf}
+use Rattle.made.specs.declared.Verdict.the-variants.{Fine, BadHeader}
+use Rattle.made.specs.Made.{judgeRows, judgeOf, usedOf, overOf, rowCount}
+use Rattle.made.proofs.UsedLaws.{behindOf, used-front, used-behind, judge-used, Long, fine-long}
 use Rattle.layout.specs.Sheet.{sheetText}
 use Rattle.writer.specs.Write.{writeOf, outputOf}
+use Rattle.writer.specs.declared.Written.{Written}
 use Rattle.writer.specs.declared.Written.the-variants.{Wrote}
-use Rattle.layout.proofs.WrittenLaws.{made-could-come, written-then-read}
+use Rattle.layout.proofs.WrittenLaws.{sheet-meaning, written-then-read}
 use Rattle.layout.proofs.ReadMade.{reading-made}
 use Rattle.layout.proofs.ReadWritten.{read-written}
+use Rattle.layout.proofs.UsedLaws.{text-used, read-used}
 
--- the rows of tables that were read
-abbrev pub rowCount : Tables → ℕ
-rowCount o = length (o .rows) / 12
-
--- ---- well made: exactly the sheets that could come from a loose reading, the file length limit apart
-
--- a sheet could come from a reading: some bytes mean its header and the part of its tables that its rows use
-pub record CouldCome (mode : Mode) (h : Header) (count : ℕ) (t : Tables) : Type 0 where
-  pub bytes : List ℕ
-  pub comes : meaning mode bytes ≡ sheet h (usedOf count t)
-
--- **well made**, one way
-pub made-comes : (h : Header) (count : ℕ) (t : Tables) → judgeOf Loose h count t ≡ Fine → CouldCome Loose h count t
-made-comes h count t e = let (bs, q) = made-could-come h count t e in record { bytes = bs; comes = q }
+-- ---- every reading's result is well made
 
 judged-fine : (mode : Mode) (h : Header) (count : ℕ) (t : Tables) → isHeader h ≡ true → judgeRows mode count 0 t ≡ Fine → judgeOf mode h count t ≡ Fine
 unfolding judgeOf
 judged-fine mode h count t e q = rw e q
 
--- **well made**, the other way: every reading's result is well made, in both modes (in exact mode with listed codes),
--- and its tables hold nothing but what its rows use
+-- in both modes (in exact mode with listed codes), and its tables hold nothing but what its rows use
 pub comes-made : (mode : Mode) (bs : List ℕ) (h : Header) (o : Tables) → meaning mode bs ≡ sheet h o
     → (judgeOf mode h (rowCount o) o ≡ Fine) × (usedOf (rowCount o) o ≡ o)
 comes-made mode bs h o e = let m = reading-made mode bs h o e in (judged-fine mode h (rowCount o) o (m .0) (m .1), m .2)
+
+-- ---- well made, exactly: "the rows and tables could come from a loose reading, the file length limit apart, and every table is long enough"
+
+-- some bytes mean the header and certain elements; the tables begin with these, and the sheet has as many rows
+pub record CouldCome (mode : Mode) (h : Header) (count : ℕ) (t : Tables) : Type 0 where
+  pub bytes : List ℕ
+  pub elements : Tables
+  pub behind : Tables
+  pub comes : meaning mode bytes ≡ sheet h elements
+  pub begins : elements then behind ≡ t
+  pub counted : rowCount elements ≡ count
+
+module _ (mode : Mode) (h : Header) (count : ℕ) (t : Tables) where
+  rows-fine : judgeOf mode h count t ≡ Fine → judgeRows mode count 0 t ≡ Fine
+  unfolding judgeOf
+  rows-fine e = cond-first (isHeader h) (judgeRows mode count 0 t) BadHeader Fine (λ z. let y : _≡_ {A = ℕ} 0 1 = cc in omega arith) e .1
+
+  -- every table of a well made sheet is long enough
+  pub made-long : judgeOf mode h count t ≡ Fine → Long count t
+  made-long e = fine-long mode count 0 t (rows-fine e)
+
+  -- **well made, exactly**, one way: in either mode (in exact mode with listed codes)
+  pub made-comes : judgeOf mode h count t ≡ Fine → CouldCome mode h count t
+  made-comes e =
+      record {
+        bytes = sheetText h count t;
+        elements = usedOf count t;
+        behind = behindOf count t;
+        comes = sheet-meaning mode h count t e;
+        begins = used-behind count t;
+        counted = ap rowCount (used-front count t) ∙ omega (arith, length-take-le (rowWidth * count) (t .rows) (made-long e .rows-in));
+      }
+
+  -- and the other way
+  pub comes-fine : CouldCome mode h count t → judgeOf mode h count t ≡ Fine
+  comes-fine c =
+      let o = c .elements in
+      sym (ap₂ (λ (n : ℕ) (x : Tables). judgeOf mode h n x) (c .counted) (c .begins))
+      ∙ sym (judge-used mode h (rowCount o) (o then c .behind))
+      ∙ ap (judgeOf mode h (rowCount o)) (read-used mode (c .bytes) h o (c .behind) (c .comes))
+      ∙ comes-made mode (c .bytes) h o (c .comes) .0
+
+-- ---- what stands behind the used part of the tables
+
+-- **what stands behind the used part never matters** to the writer's answer, of any tables
+pub write-used : (h : Header) (n : ℕ) (t : Tables) (room : ℕ) → writeOf h n (usedOf n t) room ≡ writeOf h n t room
+unfolding writeOf
+write-used h n t room = rw (judge-used Exact h n t, text-used h n t)
 
 -- ---- written then read, read then written
 
@@ -72,3 +113,14 @@ read-write bs h o room l e r =
     let w : writeOf h (rowCount o) o room ≡ Wrote (length bs) =
     write-fine h (rowCount o) o room f (rw q (m .0)) (rw q r) ∙ ap (λ (x : List ℕ). Wrote (length x)) q in
     (w, rw (w, q))
+
+-- **read then written**, of the tables as the reading left them, over any old contents
+pub read-write-over : (bs : List ℕ) (h : Header) (o old : Tables) (room : ℕ) (l : List ℕ) → reading Exact bs ≡ sheet h o → length bs ≤ room
+    → (writeOf h (rowCount o) (overOf o old) room ≡ Wrote (length bs)) × (outputOf (writeOf h (rowCount o) (overOf o old) room) (sheetText h (rowCount o) (overOf o old)) l ≡ over bs l)
+read-write-over bs h o old room l e r =
+    let n = rowCount o in
+    let u : usedOf n (overOf o old) ≡ o = read-used Exact bs h o _ (reading-meaning Exact bs h o e .1) in
+    let w : writeOf h n (overOf o old) room ≡ writeOf h n o room = sym (write-used h n (overOf o old) room) ∙ ap (λ (x : Tables). writeOf h n x room) u in
+    let s : sheetText h n (overOf o old) ≡ sheetText h n o = sym (text-used h n (overOf o old)) ∙ ap (sheetText h n) u in
+    let z = read-write bs h o room l e r in
+    (w ∙ z .0, ap₂ (λ (x : Written) (y : List ℕ). outputOf x y l) w s ∙ z .1)

@@ -13,7 +13,7 @@ use Rattle.layout.specs.Sheet.{rowText}
 use Rattle.layout.specs.Examples.{computed as computedText}
 use Rattle.writer.specs.declared.Written.{Written}
 use Rattle.writer.specs.declared.Written.the-variants.{Wrote, TooLong, NoRoom, Refused}
-use Rattle.writer.specs.Write.{afterVerdict, writeOf, outputOf, numberOf, rowOf, lengthOf}
+use Rattle.writer.specs.Write.{writtenAfter, writeOf, outputOf, numberOf, rowOf, lengthOf}
 use Rattle.writer.specs.Put.{frames, rowSize}
 
 -- `writeOf` with every definition opened, so that it computes
@@ -46,8 +46,8 @@ unfolding computed
 order = (refl, refl)
 
 -- a file of the most bytes is written, one byte more is 1, which comes before 14 and behind 15 and 10
-longest : (afterVerdict Fine 16777216 16777216 ≡ Wrote 16777216) × (afterVerdict Fine 16777216 16777215 ≡ NoRoom 16777216) × (afterVerdict Fine 16777217 16777217 ≡ TooLong)
-    × (afterVerdict Fine 16777217 0 ≡ TooLong) × (afterVerdict (Faulty 2) 16777217 0 ≡ Refused (Faulty 2)) × (afterVerdict (Unlisted 2) 16777217 0 ≡ Refused (Unlisted 2))
+longest : (writtenAfter Fine 16777216 16777216 ≡ Wrote 16777216) × (writtenAfter Fine 16777216 16777215 ≡ NoRoom 16777216) × (writtenAfter Fine 16777217 16777217 ≡ TooLong)
+    × (writtenAfter Fine 16777217 0 ≡ TooLong) × (writtenAfter (Faulty 2) 16777217 0 ≡ Refused (Faulty 2)) × (writtenAfter (Unlisted 2) 16777217 0 ≡ Refused (Unlisted 2))
 longest = (refl, refl, refl, refl, refl, refl)
 
 -- the text stands at the output's start and the rest is as it was; a refusal alters nothing

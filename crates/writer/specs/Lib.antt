@@ -1,4 +1,5 @@
--- The definitions of `writer`, in the order to read them, and their examples.
+-- To read beside document 01, "Refusal numbers": what the writer answers and stores.
 pub mod Write
-pub mod Put
 pub mod Examples
+-- For private contracts alone:
+pub mod Put

@@ -17,15 +17,15 @@ use Rattle.layout.specs.Sheet.{sheetText}
 use Rattle.writer.specs.declared.Written.{Written}
 use Rattle.writer.specs.declared.Written.the-variants.{Wrote, TooLong, NoRoom, Refused}
 
-abbrev pub afterVerdict : Verdict → ℕ → ℕ → Written
-afterVerdict Verdict.Fine size room = cond (leb size fileMost) (cond (leb size room) (Wrote size) (NoRoom size)) TooLong
-afterVerdict Verdict.BadHeader size room = Refused Verdict.BadHeader
-afterVerdict (Verdict.Faulty k) size room = Refused (Verdict.Faulty k)
-afterVerdict (Verdict.Unlisted k) size room = Refused (Verdict.Unlisted k)
+abbrev pub writtenAfter : Verdict → ℕ → ℕ → Written
+writtenAfter Verdict.Fine size room = cond (leb size fileMost) (cond (leb size room) (Wrote size) (NoRoom size)) TooLong
+writtenAfter Verdict.BadHeader size room = Refused Verdict.BadHeader
+writtenAfter (Verdict.Faulty k) size room = Refused (Verdict.Faulty k)
+writtenAfter (Verdict.Unlisted k) size room = Refused (Verdict.Unlisted k)
 
 -- the answer, for an output of `room` bytes
 unfoldable pub writeOf : Header → ℕ → Tables → ℕ → Written
-writeOf h count t room = afterVerdict (judgeOf Exact h count t) (length (sheetText h count t)) room
+writeOf h count t room = writtenAfter (judgeOf Exact h count t) (length (sheetText h count t)) room
 
 -- the output at exit: the text from its start and the rest as it was; a refusal alters nothing
 abbrev pub outputOf : Written → List ℕ → List ℕ → List ℕ

@@ -18,7 +18,7 @@ ghost use Rattle.heading.specs.Heading.{isHeader};
 ghost use Rattle.made.specs.declared.Verdict.the-variants.{Fine};
 ghost use Rattle.made.specs.Made.{tablesOf, hasField, areNumbers, sum, areReals, isMade, judgeRows, judgeOf};
 ghost use Rattle.layout.specs.Sheet.{line, fieldText, fieldsText, integersText, realsText, rowText, rowsText, headerText, sheetText};
-ghost use Rattle.writer.specs.Write.{afterVerdict, writeOf, outputOf};
+ghost use Rattle.writer.specs.Write.{writtenAfter, writeOf, outputOf};
 ghost use Rattle.row.specs.Walk.{cellIn};
 ghost use Rattle.writer.specs.Put.{Put, rowSize};
 use heading::Header;
@@ -360,7 +360,7 @@ fn write_judged(
     out: &mut [u8],
 ) -> Written
     requires { ⌜ judgeOf Exact header count (tablesOf (now rows) (now letters) (now islands) (now points)) ≡ Fine ⌝ }
-    ensures { λ r. ⌜ r ≡ afterVerdict Fine (length (sheetText header count (tablesOf (now (rows .entry)) (now (letters .entry)) (now (islands .entry)) (now (points .entry))))) (length (now (out .entry))) ⌝ }
+    ensures { λ r. ⌜ r ≡ writtenAfter Fine (length (sheetText header count (tablesOf (now (rows .entry)) (now (letters .entry)) (now (islands .entry)) (now (points .entry))))) (length (now (out .entry))) ⌝ }
     ensures { λ r. ⌜ now (out .exit) ≡ outputOf r (sheetText header count (tablesOf (now (rows .entry)) (now (letters .entry)) (now (islands .entry)) (now (points .entry)))) (now (out .entry)) ⌝ }
 {
     let needed = sheet_length(header, count, rows, letters, islands, points);

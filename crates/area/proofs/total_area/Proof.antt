@@ -12,13 +12,13 @@ use Rattle.plane.specs.declared.Area.the-variants.{Doubled}
 use Rattle.plane.specs.Rings.{most}
 use Rattle.plane.specs.Areas.{edge-limit}
 use Rattle.made.specs.Made.{sum}
-use Rattle.area.specs.BorderRings.{plus, totalFrom}
+use Rattle.area.specs.BorderRings.{areasTogether, totalFrom}
 use Rattle.area.proofs.total_area.Statement.{statement}
 use Rattle.area.proofs.total_area.Tie as tie
 
 abbrev Inv-loop : tie.InvT-loop
 Inv-loop points from sizes total₀ at₀ i₀ total at i =
-    (i ≤ length sizes) × (totalFrom points from sizes ≡ plus (Doubled (toZ w64 total)) (totalFrom points at (drop i sizes))) × (at + sum (drop i sizes) ≤ most) × Within (at * edge-limit) (toZ w64 total)
+    (i ≤ length sizes) × (totalFrom points from sizes ≡ areasTogether (Doubled (toZ w64 total)) (totalFrom points at (drop i sizes))) × (at + sum (drop i sizes) ≤ most) × Within (at * edge-limit) (toZ w64 total)
 
 abbrev μ-loop : tie.MeasureT-loop
 μ-loop points from sizes total₀ at₀ i₀ total at i = length sizes - i

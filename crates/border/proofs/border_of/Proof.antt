@@ -13,32 +13,8 @@ slice-aggregate-class-of c = search (held-count, needs)
 class-of-requires : tie.Need-class-of-requires
 class-of-requires c κs = search needs
 
-cell-at-requires : tie.Need-cell-at-requires
-cell-at-requires c κs = search needs
-
-cell-at-requires-2 : tie.Need-cell-at-requires-2
-cell-at-requires-2 c κs = search needs
-
-cell-at-requires-3 : tie.Need-cell-at-requires-3
-cell-at-requires-3 c κs = search needs
-
-cell-at-requires-4 : tie.Need-cell-at-requires-4
-cell-at-requires-4 c κs = search needs
-
-cell-at-requires-5 : tie.Need-cell-at-requires-5
-cell-at-requires-5 c κs = search needs
-
-cell-at-requires-6 : tie.Need-cell-at-requires-6
-cell-at-requires-6 c κs = search needs
-
-count-at-requires : tie.Need-count-at-requires
-count-at-requires c κs = search needs
-
-count-at-requires-2 : tie.Need-count-at-requires-2
-count-at-requires-2 c κs = search needs
-
-count-at-requires-3 : tie.Need-count-at-requires-3
-count-at-requires-3 c κs = search needs
+border-with-requires : tie.Need-border-with-requires
+border-with-requires c κs = search needs
 
 returns : tie.Need-returns
 returns c = search (border-is, needs)
@@ -50,13 +26,5 @@ border-of-spec =
     letters-held-requires
     slice-aggregate-class-of
     class-of-requires
-    cell-at-requires
-    cell-at-requires-2
-    cell-at-requires-3
-    cell-at-requires-4
-    cell-at-requires-5
-    cell-at-requires-6
-    count-at-requires
-    count-at-requires-2
-    count-at-requires-3
+    border-with-requires
     returns)

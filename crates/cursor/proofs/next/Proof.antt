@@ -58,7 +58,7 @@ use Rattle.record.proofs.record_at.Symbol as record-at-def
 use Rattle.record.proofs.record_at.Symbol.{name as #record·record-at}
 use Rattle.record.proofs.record_at.Met as record-at-thm
 use Rattle.cursor.specs.declared.Cursor.{Cursor}
-use Rattle.cursor.specs.Cursor.{after, handed}
+use Rattle.cursor.specs.Cursor.{placeAfter, handed}
 use Rattle.cursor.proofs.Cursor as T
 use Rattle.cursor.proofs.Cursor.Laws as T′
 use Rattle.cursor.proofs.place_after as place-after
@@ -163,19 +163,19 @@ module _ {M : Type 1} (𝓤 : URA M) (H : Heap 𝓤) (A : Atoms 𝓤) (W : Given
   goes-2 fits r u =
       qed W (‵ (Fd.the-row .own r (u ∷ [])) ∷ []) ∵ nothing ! $ owned ! usize (Is usize) (uint-makes 𝓤 H A W w64) (h .at) _ (refl, fits) $ fjoin ! $ move ! (1 ∷ 0 ∷ []) $ fjoin ! $ nothing ! $ join ! $ frame ! $ done !
 
-  said-2 : (r : Found) (n : ℕ) → ent 𝓤 (ensured 𝓤 H A place-after.ended (place-after.clauses 𝓤 H A at-mem run) tt (r, (h .at, tt)) tt n) (fact 𝓤 (n ≡ after r (h .at)))
-  said-2 r n = exE 𝓤 _ (λ ws. snd∗ 𝓤 (sem 𝓤 H A (lasts place-after.ended tt (r, (h .at, tt)) ws)) (fact 𝓤 (n ≡ after r (h .at))))
+  said-2 : (r : Found) (n : ℕ) → ent 𝓤 (ensured 𝓤 H A place-after.ended (place-after.clauses 𝓤 H A at-mem run) tt (r, (h .at, tt)) tt n) (fact 𝓤 (n ≡ placeAfter r (h .at)))
+  said-2 r n = exE 𝓤 _ (λ ws. snd∗ 𝓤 (sem 𝓤 H A (lasts place-after.ended tt (r, (h .at, tt)) ws)) (fact 𝓤 (n ≡ placeAfter r (h .at))))
 
   -- what src and the mode own is kept, and the place's facts are made anew
   again : (n : ℕ) → n < 2 ^ 64 → ent 𝓤 (sem 𝓤 H A Own) (sem 𝓤 H A (B κ′ .own (h′ n) (mach (h′ n) ∷ [])))
   again n fits = qed W (‵ Own ∷ []) ∵ owned ! usize (Is usize) (uint-makes 𝓤 H A W w64) n _ (refl, fits) $ move ! (1 ∷ 0 ∷ []) $ by ! (own-put 𝓤 H A W D L 1 vd n (mach h))
 
-  exits : (r : Found) (u : Val) (n : ℕ) → Is Fd.the-row r (u ∷ []) → r ≡ handed h due → n ≡ after r (h .at)
+  exits : (r : Found) (u : Val) (n : ℕ) → Is Fd.the-row r (u ∷ []) → r ≡ handed h due → n ≡ placeAfter r (h .at)
       → ent 𝓤 (⋆ 𝓤 H A (‵ (fobs γ (B κ′ .coded .code (h′ n))) ∷ ‵ (fbor κ (Body (mem (B κ′)) b o γ)) ∷ ‵ (flft κ q) ∷ (‵ (flft κ′ q′) ⊛ ‵ ftrue) ∷ [])) (Post u)
   exits r u n is e e′ =
       qed W (‵ (fobs γ (B κ′ .coded .code (h′ n))) ∷ ‵ (fbor κ (Body (mem (B κ′)) b o γ)) ∷ ‵ (flft κ q) ∷ (‵ (flft κ′ q′) ⊛ ‵ ftrue) ∷ []) ∵
       suffices ! _ (ends-at 𝓤 H A next.ended stayed (next.clauses 𝓤 H A at-mem run) W (((κ, (κ′, tt)), (q, (q′, tt)), bounds, x, at), tt) u r (h′ n, (tt, tt)) (tt, (tt, tt))) $
-      says ! (e, ap h′ (e′ ∙ ap (λ (f : Found). after f (h .at)) e)) $ move ! (2 ∷ 3 ∷ []) $ join ! $
+      says ! (e, ap h′ (e′ ∙ ap (λ (f : Found). placeAfter f (h .at)) e)) $ move ! (2 ∷ 3 ∷ []) $ join ! $
       frame ! $ feqI ! (List Val) (vptr b o ∷ []) (vptr b o ∷ []) refl $ fjoin3 ! $ nothing ! $ owned ! bool (Is bool) (bool-makes 𝓤 H A W) due _ refl $ fjoin ! $ move ! (1 ∷ 0 ∷ []) $ fjoin ! $
       owned ! Fd.the-row (Is Fd.the-row) (EL.makes Fd.the-type Fd′.the-plain 𝓤 H A) r _ is $ move ! (1 ∷ 0 ∷ []) $ done !
 
@@ -206,7 +206,7 @@ module _ {M : Type 1} (𝓤 : URA M) (H : Heap 𝓤) (A : Atoms 𝓤) (W : Given
         use1 W (raw (PlaceAfter 𝓤 H A at-mem run .pre (to-2 r u))) (goes-2 (wt .1 .0 .fits) r u) $
         calls-at ! fm (PlaceAfter 𝓤 H A at-mem run) known-2 (to-2 r u) (and-then ! (load ! (from ! (stop !)) (look ! 16 refl)) (and-then ! (load ! (from ! (stop !)) (look ! 8 refl)) (no-more !))) (λ w.
         use1 W (later (some (λ (n : ℕ). (‵ ftrue ⊛ ‵ (usize .own n (w ∷ []))) ⊛ raw (ensured 𝓤 H A place-after.ended (place-after.clauses 𝓤 H A at-mem run) tt (r, (h .at, tt)) tt n)))) (id⊢ 𝓤 _) $ await ! tt $ pick ! (λ n.
-        split ! $ move ! (1 ∷ []) $ use1 W (raw (fact 𝓤 (n ≡ after r (h .at)))) (said-2 r n) $ heard ! (n ≡ after r (h .at)) (λ e′. split ! $ drop ! $
+        split ! $ move ! (1 ∷ []) $ use1 W (raw (fact 𝓤 (n ≡ placeAfter r (h .at)))) (said-2 r n) $ heard ! (n ≡ placeAfter r (h .at)) (λ e′. split ! $ drop ! $
         peeks ! usize (Is usize) (shows 𝓤 H A usize) n (w ∷ []) (λ isn.
         land ! (from ! (stop !)) (store ! 12 refl (uint-lawful 𝓤 H A W w64 .typed n _ isn .0)) $ rewrite ! 12 (λ (y : Val). ‵ (fat fullShare (tyInt w64) l₅ 0 y)) (ap only (isn .0)) refl $
         assigns ! (of-opd ! (load ! (from ! (stop !)) (look ! 12 refl))) (from ! (hop ! (look ! 20 refl) (fld ! refl (stop !)))) (store-in ! 3 (sub ! 1 refl (whole !)) (tt, record { fits = isn .1 })) $

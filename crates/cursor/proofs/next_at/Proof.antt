@@ -56,12 +56,12 @@ use Rattle.record.proofs.Mode.Laws as Md′
 use Rattle.record.proofs.Found as Fd
 use Rattle.record.proofs.Found.Laws as Fd′
 use Rattle.cursor.specs.declared.Cursor.{Cursor}
-use Rattle.cursor.specs.declared.Step.{Step}
-use Rattle.cursor.specs.Cursor.{handed, moved}
+use Rattle.cursor.specs.declared.Request.{Request}
+use Rattle.cursor.specs.Cursor.{handed, movedOn}
 use Rattle.cursor.proofs.Cursor as T
 use Rattle.cursor.proofs.Cursor.Laws as T′
-use Rattle.cursor.proofs.Step as S
-use Rattle.cursor.proofs.Step.Laws as S′
+use Rattle.cursor.proofs.Request as S
+use Rattle.cursor.proofs.Request.Laws as S′
 use Rattle.cursor.proofs.next as next
 use Rattle.cursor.proofs.next.Symbol as next-def
 use Rattle.cursor.proofs.next.Symbol.{name as #cursor·next}
@@ -158,10 +158,10 @@ module _ {M : Type 1} (𝓤 : URA M) (H : Heap 𝓤) (A : Atoms 𝓤) (W : Given
       nothing ! $ owned ! bool (Is bool) (bool-makes 𝓤 H A W) due _ refl $ fjoin ! $ move ! (3 ∷ 0 ∷ []) $ fjoin ! $ nothing ! $ move ! (3 ∷ 0 ∷ []) $ join ! $ move ! (2 ∷ 0 ∷ []) $ join ! $ join ! $ frame ! $ done !
 
   -- the contract's answer, of what `next` says
-  abbrev given-back : Found → Cursor → Step
+  abbrev given-back : Found → Cursor → Request
   given-back r d = record { found = r; at = d .at }
 
-  exits : (r : Found) (d : Cursor) → (r ≡ handed c due) × (d ≡ moved c due) → Is Fd.the-row r (answer r ∷ []) → d .at < 2 ^ 64
+  exits : (r : Found) (d : Cursor) → (r ≡ handed c due) × (d ≡ movedOn c due) → Is Fd.the-row r (answer r ∷ []) → d .at < 2 ^ 64
       → ent 𝓤 (⋆ 𝓤 H A (‵ (flft κ q) ∷ ‵ Own ∷ [])) (Post (LL.val S.the-type S′.the-laws (given-back r d)))
   exits r d e is ok =
       qed W (‵ (flft κ q) ∷ ‵ Own ∷ []) ∵
@@ -191,8 +191,8 @@ module _ {M : Type 1} (𝓤 : URA M) (H : Heap 𝓤) (A : Atoms 𝓤) (W : Given
         move ! (2 ∷ 4 ∷ 0 ∷ []) $ use3 W (raw (Next 𝓤 H A at-mem run .pre (to ν l₅ δ))) (goes ν l₅ δ) $
         calls-at ! fm (Next 𝓤 H A at-mem run) known (to ν l₅ δ) (and-then ! (load ! (from ! (stop !)) (look ! 6 refl)) (and-then ! (load ! (from ! (stop !)) (look ! 11 refl)) (no-more !))) (λ u.
         use1 W (later (some (λ (r : Found). ((‵ (flft (ν ∷ κ) rq) ⊛ ‵ (flft κ lq) ⊛ ‵ ftrue) ⊛ ‵ (Fd.the-row .own r (u ∷ []))) ⊛ raw (ensured 𝓤 H A next.ended (next.clauses 𝓤 H A at-mem run) (ν ∷ κ, (κ, tt)) (lent l₅ δ, (due, tt)) tt r)))) (id⊢ 𝓤 _) $ await ! tt $ pick ! (λ r.
-        split ! $ move ! (1 ∷ []) $ use1 W (some (λ (ws : Cursor × (Unit {0} × Unit {0})). ‵ (lasts next.ended (ν ∷ κ, (κ, tt)) (lent l₅ δ, (due, tt)) ws) ⊛ raw (fact 𝓤 ((r ≡ handed c due) × (ws .0 ≡ moved c due))))) (id⊢ 𝓤 _) $ pick ! (λ ws.
-        split ! $ move ! (1 ∷ []) $ heard ! ((r ≡ handed c due) × (ws .0 ≡ moved c due)) (λ e.
+        split ! $ move ! (1 ∷ []) $ use1 W (some (λ (ws : Cursor × (Unit {0} × Unit {0})). ‵ (lasts next.ended (ν ∷ κ, (κ, tt)) (lent l₅ δ, (due, tt)) ws) ⊛ raw (fact 𝓤 ((r ≡ handed c due) × (ws .0 ≡ movedOn c due))))) (id⊢ 𝓤 _) $ pick ! (λ ws.
+        split ! $ move ! (1 ∷ []) $ heard ! ((r ≡ handed c due) × (ws .0 ≡ movedOn c due)) (λ e.
         fsplit ! $ move ! (1 ∷ []) $ drop ! $ move ! (1 ∷ []) $ split ! $ move ! (1 ∷ []) $
         -- [the answer; the tokens; the last value; the lender's part; the rest of ν; what s owns; room for _8; …; _7; …; room for _6; …; what frees _5; …]
         peeks ! Fd.the-row (Is Fd.the-row) (shows 𝓤 H A Fd.the-row) r (u ∷ []) (λ is.

@@ -5,7 +5,7 @@ use borrow.Author.Needs.{needs}
 use mathlib.Core.Path.{refl}
 use mathlib.Core.List.{[]}
 use Rattle.writer.proofs.Putting.{Putting, putting-start, putting-room, putting-on, putting-end, stored-on}
-use Rattle.listing.specs.Listing.{lineEnd, figure, figures}
+use Rattle.listing.specs.Listing.{lineFeed, figure, figures}
 use Rattle.listing.proofs.LineWays.{figures-on, figures-end}
 use Rattle.listing.proofs.put_figures.Statement.{statement}
 use Rattle.listing.proofs.put_figures.Tie as tie
@@ -47,7 +47,7 @@ same-length : tie.Need-same-length Inv-loop μ-loop
 same-length c = search needs
 
 returns : tie.Need-returns Inv-loop μ-loop
-returns c = putting-end (stored-on (c .before .before .before .before .before .before .loop .inv) lineEnd [] (figures-end ((c .before .before .before .before .before .before .before .before .before) .args .s .now) (c .before .before .before .before .before .before .loop .i) (c .before .before .before .before .before .loop-test .left)) (c .before .before .put-bytes .ensures)) refl
+returns c = putting-end (stored-on (c .before .before .before .before .before .before .loop .inv) lineFeed [] (figures-end ((c .before .before .before .before .before .before .before .before .before) .args .s .now) (c .before .before .before .before .before .before .loop .i) (c .before .before .before .before .before .loop-test .left)) (c .before .before .put-bytes .ensures)) refl
 
 pub put-figures-spec : {M : Type 1} → statement M
 put-figures-spec =

@@ -3,7 +3,7 @@ use mathlib.Core.Path.{refl}
 use borrow.Author.Needs.{needs}
 use Rattle.laws.specs.Text.{text}
 use Rattle.writer.proofs.Putting.{putting-room, putting-last}
-use Rattle.listing.specs.Listing.{blank, figure}
+use Rattle.listing.specs.Listing.{oneBlank, figure}
 use Rattle.listing.proofs.LineWays.{one-is, figures-room, figures-put, map-start, map-kind, map-blank, map-name, map-scale}
 use Rattle.listing.proofs.put_map.Statement.{statement}
 use Rattle.listing.proofs.put_map.Tie as tie

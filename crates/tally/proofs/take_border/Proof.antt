@@ -7,8 +7,14 @@ use Rattle.tally.proofs.take_border.Tie as tie
 count-at-requires : tie.Need-count-at-requires
 count-at-requires c κs = search needs
 
-count-at-requires-2 : tie.Need-count-at-requires-2
-count-at-requires-2 c κs = search needs
+slice-aggregate-class-of : tie.Need-slice-aggregate-class-of
+slice-aggregate-class-of c = search (letters-part, needs)
+
+class-of-requires : tie.Need-class-of-requires
+class-of-requires c κs = search needs
+
+border-with-requires : tie.Need-border-with-requires
+border-with-requires c κs = search needs
 
 slice-aggregate-areas-of : tie.Need-slice-aggregate-areas-of
 slice-aggregate-areas-of c = search (islands-part, needs)
@@ -24,15 +30,6 @@ enum-told-2 c = search needs
 
 enum-known-outer : tie.Need-enum-known-outer
 enum-known-outer c = search needs
-
-count-at-requires-3 : tie.Need-count-at-requires-3
-count-at-requires-3 c κs = search needs
-
-slice-aggregate-class-of : tie.Need-slice-aggregate-class-of
-slice-aggregate-class-of c = search (letters-part, needs)
-
-class-of-requires : tie.Need-class-of-requires
-class-of-requires c κs = search needs
 
 grow-requires : tie.Need-grow-requires
 grow-requires c κs = search needs
@@ -54,15 +51,14 @@ take-border-spec =
     tie.close
     (tie.spec
     count-at-requires
-    count-at-requires-2
+    slice-aggregate-class-of
+    class-of-requires
+    border-with-requires
     slice-aggregate-areas-of
     areas-of-requires
     enum-told
     enum-told-2
     enum-known-outer
-    count-at-requires-3
-    slice-aggregate-class-of
-    class-of-requires
     grow-requires
     returns
     returns-2

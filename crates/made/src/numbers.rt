@@ -1,0 +1,130 @@
+// A row's own twelve numbers (document 01, "Sheet tables"): each in its range, a field that the kind lacks 0.
+ghost use mathlib.Core.Path.{_≡_};
+ghost use mathlib.Core.Bool.{_&&_, _||_};
+ghost use Prim.Native.Nat.{_≤_, _<_};
+ghost use lib.ListN.{length};
+ghost use lib.Dec.{eqb};
+ghost use lib.Signed.{leZ};
+ghost use Rattle.laws.specs.Lists.{below};
+ghost use Rattle.kinds.specs.Kinds.{rowWidth};
+ghost use Rattle.made.specs.Made.{inRange, hasField, isOutside, isCell, isCellAt, areNumbers};
+use crate::ROW_WIDTH;
+use crate::count_at;
+use kinds::want_at;
+use spelling::is_real;
+use token::Want;
+use token::may_lie_outside;
+
+fn is_between(least: i64, most: i64, z: i64) -> bool
+    ensures { λ r. ⌜ r ≡ (leZ least z && leZ z most) ⌝ }
+{
+    if z < least {
+        return false;
+    }
+    if z > most {
+        return false;
+    }
+    true
+}
+
+fn in_range(want: Want, z: i64) -> bool
+    ensures { λ r. ⌜ r ≡ inRange want z ⌝ }
+{
+    match want {
+        Want::Key => false,
+        Want::Text => is_between(1, 255, z),
+        Want::Int => is_between(0, 9999, z),
+        Want::Real => is_real(z),
+    }
+}
+
+// Outside is 0 or 1; all but borders may lie outside.
+fn is_outside(kind: usize, z: i64) -> bool
+    ensures { λ r. ⌜ r ≡ isOutside kind z ⌝ }
+{
+    if z == 0 {
+        return true;
+    }
+    if z == 1 {
+        return may_lie_outside(kind);
+    }
+    false
+}
+
+fn is_either(n: usize, a: usize, b: usize) -> bool
+    ensures { λ r. ⌜ r ≡ (eqb n a || eqb n b) ⌝ }
+{
+    if n == a {
+        return true;
+    }
+    if n == b { true } else { false }
+}
+
+// The rows of a kind have a field at a place. Where the kind is a number of the code, this is settled before it runs.
+fn has(kind: usize, place: usize) -> bool
+    requires { ⌜ (1 ≤ kind) × (kind ≤ 5) × (place < rowWidth) ⌝ }
+    ensures { λ r. ⌜ r ≡ hasField kind place ⌝ }
+{
+    match place {
+        2 => kind > 2,
+        3 => kind < 3,
+        4 => kind < 4,
+        5 => kind < 5,
+        6 => kind < 5,
+        7 => is_either(kind, 1, 4),
+        8 => is_either(kind, 1, 4),
+        9 => !is_either(kind, 3, 5),
+        10 => kind < 2,
+        11 => is_either(kind, 1, 5),
+        _ => false,
+    }
+}
+
+// A number that a row of a kind may have at a place.
+fn is_cell(kind: usize, place: usize, z: i64) -> bool
+    requires { ⌜ (1 ≤ kind) × (kind ≤ 5) × (place < rowWidth) ⌝ }
+    ensures { λ r. ⌜ r ≡ isCell kind place z ⌝ }
+{
+    if place == 0 {
+        return is_between(1, 5, z);
+    }
+    if place == 1 {
+        return is_outside(kind, z);
+    }
+    if has(kind, place) {
+        return in_range(want_at(place), z);
+    }
+    if z == 0 { true } else { false }
+}
+
+// Each number of the first row, of a kind, is right.
+fn are_cells(kind: usize, rows: &[i64]) -> bool
+    requires { ⌜ (1 ≤ kind) × (kind ≤ 5) × (rowWidth ≤ length (now rows)) ⌝ }
+    ensures { λ r. ⌜ r ≡ below rowWidth (isCellAt kind (now (rows .entry))) ⌝ }
+{
+    let mut p = ROW_WIDTH;
+    while p > 0 {
+        p -= 1;
+        if !is_cell(kind, p, rows[p]) {
+            return false;
+        }
+    }
+    true
+}
+
+// The first row is wholly held, and each of its numbers is right. The kind is told apart first, so that each kind has its own tests.
+pub(crate) fn are_numbers(rows: &[i64]) -> bool
+    ensures { λ r. ⌜ r ≡ areNumbers (now (rows .entry)) ⌝ }
+{
+    if rows.len() < ROW_WIDTH {
+        return false;
+    }
+    match count_at(rows, 0) {
+        1 => are_cells(1, rows),
+        2 => are_cells(2, rows),
+        3 => are_cells(3, rows),
+        4 => are_cells(4, rows),
+        5 => are_cells(5, rows),
+        _ => false,
+    }
+}

@@ -1,0 +1,64 @@
+-- Readings into small lent tables, computed: what the answer is and what the tables hold at exit. Document 01, "Sheet tables".
+use mathlib.Core.Path.{_≡_, refl}
+use mathlib.Core.List.{List, [], _∷_}
+use Prim.Native.Nat.{ℕ}
+use lib.ListN.{replicate}
+use lib.IntN.{pos, negsuc}
+use Rattle.laws.specs.Lists.{run, kept, all, same, allAt, holds, place}
+use Rattle.laws.specs.Text.{text}
+use Rattle.record.specs.declared.Mode.{Mode}
+use Rattle.record.specs.declared.Mode.the-variants.{Loose, Exact}
+use Rattle.record.specs.Record.{endsCR, content, contentIs, lineIs, lineOf}
+use Rattle.number.specs.Words.{unled, trimmed, wordOf}
+use Rattle.number.specs.Number as Number
+use Rattle.header.specs.Header.{firstWords, kindSaid, isNamed, headScale, headName, headed}
+use Rattle.heading.specs.Heading.{nameByte, isName}
+use Rattle.token.specs.Lex.{keywords, mayLieOutside, lift, unlift, unmarked, isMarked, keyOf, lexOf}
+use Rattle.kinds.specs.Kinds.{schedule, nextIn, nextOf, codes, isListed, wantAt}
+use Rattle.machine.specs.Machine.{wantOf, verticesOf, fieldOf, islandOf, isShut, ringStep, vertexOf, keyStep, stepOf, oneOf}
+use Rattle.sheet.specs.Tables.{Tables, setLast, put, ringAfter}
+use Rattle.sheet.specs.Reading.{walk, walkFrom, sectionsOf, meaning, reading}
+use Rattle.reader.specs.Read.{holdsAll, readOf, numberOf, recordOf, offsetOf, countsOf}
+use Rattle.reader.specs.Exit.{answerTo, exitOf, usedPart}
+use Rattle.reader.specs.declared.Outcome.{Outcome}
+
+-- with every definition opened, so that it computes
+abbrev opened : Mode → List ℕ → Tables → Outcome
+unfolding run kept all same allAt holds place endsCR content contentIs lineIs lineOf unled trimmed wordOf Number.value Number.ended Number.lean Number.integerIs Number.integerAt Number.integerOf Number.signOf Number.signs Number.signed Number.thousandths Number.isToken Number.isNeat Number.realIs Number.realAt Number.realSigned Number.realOf firstWords nameByte isName kindSaid isNamed headScale headName headed keywords mayLieOutside schedule nextIn nextOf codes isListed lift unlift unmarked isMarked keyOf lexOf wantAt wantOf verticesOf fieldOf islandOf isShut ringStep vertexOf keyStep stepOf oneOf setLast put ringAfter walk walkFrom sectionsOf meaning reading holdsAll readOf
+opened mode bs t = answerTo mode bs t
+
+-- one text; its y is -0.005
+written-file : List ℕ
+written-file = text "MAPPA\nZ999_000100\n1000.000\nTESTO\nab\n18\n0.000\n3.000\n-0.005\nEOF"
+
+-- tables of these lengths, which hold something
+lent : ℕ → ℕ → Tables
+lent rows letters = record { rows = replicate rows (pos 7); letters = replicate letters 65; islands = 65 ∷ []; points = pos 7 ∷ [] }
+
+-- it is read, and past the used part nothing is altered
+exit-more : exitOf Loose written-file (lent 13 3)
+    ≡ record {
+      rows = pos 2 ∷ pos 0 ∷ pos 0 ∷ pos 18 ∷ pos 0 ∷ pos 3000 ∷ negsuc 4 ∷ pos 0 ∷ pos 0 ∷ pos 2 ∷ pos 0 ∷ pos 0 ∷ pos 7 ∷ [];
+      letters = text "abA";
+      islands = 65 ∷ [];
+      points = pos 7 ∷ [];
+    }
+unfolding opened written-file lent
+exit-more = refl
+
+-- larger tables hold the same in their used part
+exit-larger : usedPart (countsOf (answerTo Loose written-file (lent 30 9) .answer)) (exitOf Loose written-file (lent 30 9))
+    ≡ usedPart (countsOf (answerTo Loose written-file (lent 13 3) .answer)) (exitOf Loose written-file (lent 13 3))
+unfolding opened written-file lent
+exit-larger = refl
+
+-- one letter short: 14, and nothing is altered
+exit-short : (numberOf (answerTo Loose written-file (lent 13 1) .answer) ≡ 14) × (exitOf Loose written-file (lent 13 1) ≡ lent 13 1)
+unfolding opened written-file lent
+exit-short = (refl, refl)
+
+-- exact mode demands the CR: 3 at record 1, and nothing is altered
+exit-refused : (numberOf (answerTo Exact written-file (lent 13 3) .answer) ≡ 3) × (recordOf (answerTo Exact written-file (lent 13 3) .answer) ≡ 1)
+    × (offsetOf (answerTo Exact written-file (lent 13 3) .answer) ≡ 0) × (exitOf Exact written-file (lent 13 3) ≡ lent 13 3)
+unfolding opened written-file lent
+exit-refused = (refl, refl, refl, refl)
