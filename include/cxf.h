@@ -51,7 +51,8 @@ enum {
 
 /* What a file of n bytes can need at most, read in either mode: rows, letters, island counts, points. Who lends so much needs no
    call that asks for the needs, which judges the whole file once more. Proved: `counts-most`, `enough-read` in
-   crates/reader/proofs/NeedLaws.antt. */
+   crates/reader/proofs/NeedLaws.antt. Rows and points are counted here, numbers in a length: rows_len is CXF_ROWS_MOST(n) * CXF_ROW,
+   and points_len CXF_POINTS_MOST(n) * 2. */
 #define CXF_ROWS_MOST(n) ((n) / 28)
 #define CXF_LETTERS_MOST(n) (n)
 #define CXF_ISLANDS_MOST(n) ((n) / 2)
@@ -206,11 +207,12 @@ static inline cxf_sheet cxf_sheet_of(const cxf_reading *r, const int64_t *rows, 
     return s;
 }
 
-/* Every function below that takes a sheet judges the header (6), then all rows (15, with the first faulty row), then whether
+/* Every question below on a sheet judges the header (6), then all rows (15, with the first faulty row), then whether
    the row that is asked for is there (19), each time anew. Rows count from 0. In the answers `row` is the refused row with 15
    and 10, and with 17 and 18 of the tallies; else it is 0.
 
-   So a question takes the time that the whole sheet takes to judge, and a question on each row takes the square of that. Of a
+   So a question takes the time that the whole sheet takes to judge, and questions on all rows together take time that grows with
+   the square of the sheet. Of a
    sheet that is well made, as what a reading answered is, each row may be asked alone instead, as a sheet of one row with its own
    parts of the tables: class, texts, areas and ring check are the same. All rows together then take the time of one question:
        for (cxf_sheet rest = sheet; rest.count > 0; rest = cxf_later_rows(rest)) {
@@ -250,8 +252,9 @@ typedef struct {
     uint64_t length;      /* the bytes that were written, or that are needed with 14 */
 } cxf_written;
 
-/* Writes a sheet in the layout of the exact mode to the start of out, where its codes are listed (10), the file would not be
-   too long (1) and there is room (14). Past the text out is not altered. */
+/* Writes a sheet in the layout of the exact mode to the start of out. After the header (6) the rows are judged in order, each for
+   15 and then for its code (10), so a 10 in row 0 comes before a 15 in row 1; then whether the file would be too long (1), then
+   the room (14). Past the text out is not altered. */
 cxf_written cxf_write(CXF_SHEET, uint8_t *out, size_t out_len);
 
 /* ---- borders and texts ----------------------------------------------------------------------------------------------- */
@@ -275,6 +278,7 @@ typedef struct {
     uint64_t centroid;      /* 1 where it is a TESTO of size 0: a raster parcel's centroid. A row may be both */
 } cxf_text;
 
+/* Of any row: one that is no TESTO answers 0 and 0, and is not refused. */
 cxf_text cxf_text_at(CXF_SHEET, uint64_t row);
 
 /* ---- areas ----------------------------------------------------------------------------------------------------------- */

@@ -17,7 +17,7 @@ ghost use Rattle.ring.specs.RingCheck.{ringCheckAt};
 ghost use Rattle.tally.specs.Take.{takenOf, tallyOf};
 ghost use Rattle.tile.specs.Tiles.{tileOf};
 ghost use Rattle.listing.specs.Listing.{listingOf};
-ghost use Rattle.listing.specs.Listed.{listedOf, outputOf as listedIn};
+ghost use Rattle.listing.specs.Listed.{listedOf, listedIn};
 ghost use Rattle.told.specs.Asked.{modeOf, isKeywordDue, headerOf};
 ghost use Rattle.told.specs.Told.{interfaceNumber, readTold, writeTold, recordTold, integerTold, realTold, tileTold, listedTold};
 ghost use Rattle.told.specs.Answers.{borderTold, textTold, areaTold, ringTold};

@@ -40,7 +40,7 @@ fn ends_in(byte: u8, s: &[u8]) -> bool
 }
 
 // Letters that begin with a byte, in kind 2.
-fn is_marked(byte: u8, kind: usize, s: &[u8]) -> bool
+fn begins_in_kind2(byte: u8, kind: usize, s: &[u8]) -> bool
     ensures { λ r. ⌜ r ≡ beginsInKind2 byte kind (now (s .entry)) ⌝ }
 {
     if kind != 2 {
@@ -55,7 +55,7 @@ fn is_road(kind: usize, s: &[u8]) -> bool
     if is_same(s, b"STRADA") {
         return true;
     }
-    is_marked(b'S', kind, s)
+    begins_in_kind2(b'S', kind, s)
 }
 
 fn is_water(kind: usize, s: &[u8]) -> bool
@@ -64,7 +64,7 @@ fn is_water(kind: usize, s: &[u8]) -> bool
     if is_same(s, b"ACQUA") {
         return true;
     }
-    is_marked(b'A', kind, s)
+    begins_in_kind2(b'A', kind, s)
 }
 
 // The class of a border with these letters: the first rule that holds.

@@ -19,17 +19,17 @@ use Rattle.plane.specs.Rings.{x-at, y-at}
 use Rattle.crossing.specs.declared.Point.{Point}
 use Rattle.crossing.specs.Edges.{point-at, spans-overlap, boxes-overlap}
 use Rattle.crossing.specs.Search.{faulty-pair}
-use Rattle.crossing.specs.Runs.{along, Run, Skip, span-meets}
+use Rattle.crossing.specs.Runs.{along, SideRun, Skip, span-meets}
 use Rattle.crossing.proofs.EdgeLaws.{meet-not-boxes, faulty-other, not-last}
 
 -- ---- a run, vertex by vertex
 
 module _ (p : ℕ → Bool) (j stop : ℕ) where
-  pub run-start : j ≤ stop → p j ≡ true → Run p j stop j
+  pub run-start : j ≤ stop → p j ≡ true → SideRun p j stop j
   run-start h e =
       record { on = le-refl j; inside = h; each = λ k x y. let q : j ≡ k = omega arith in subst (λ (u : ℕ). p u ≡ true) q e }
 
-  pub run-more : (r : ℕ) → Run p j stop r → r < stop → p (r + 1) ≡ true → Run p j stop (r + 1)
+  pub run-more : (r : ℕ) → SideRun p j stop r → r < stop → p (r + 1) ≡ true → SideRun p j stop (r + 1)
   run-more r w h e =
       record {
         on = omega (arith, w .on);
@@ -52,7 +52,7 @@ module _ (m c d : ℤ) where
   above-both e f = cond-elim (λ (z : ℤ). leZ z m ≡ false) (ltZ c d) c d (λ q. le-not-lt c m true e) (λ q. le-not-lt d m true f)
 
 module _ (ps : List ℤ) (from axis : ℕ) (a b : ℤ) (j stop r : ℕ) where
-  pub skip-below : (m : ℤ) → m ≡ lowZ a b → Run (λ k. ltZ (along ps axis (from + k)) m) j stop r → Skip (span-meets ps from axis a b) j stop r
+  pub skip-below : (m : ℤ) → m ≡ lowZ a b → SideRun (λ k. ltZ (along ps axis (from + k)) m) j stop r → Skip (span-meets ps from axis a b) j stop r
   unfolding spans-overlap
   skip-below m q w =
       record {
@@ -65,7 +65,7 @@ module _ (ps : List ℤ) (from axis : ℕ) (a b : ℤ) (j stop r : ℕ) where
             sym (and-off (leZ (lowZ a b) (highZ c d)) (leZ (lowZ c d) (highZ a b)) e);
       }
 
-  pub skip-above : (m : ℤ) → m ≡ highZ a b → Run (λ k. ltZ m (along ps axis (from + k))) j stop r → Skip (span-meets ps from axis a b) j stop r
+  pub skip-above : (m : ℤ) → m ≡ highZ a b → SideRun (λ k. ltZ m (along ps axis (from + k))) j stop r → Skip (span-meets ps from axis a b) j stop r
   unfolding spans-overlap
   skip-above m q w =
       record {

@@ -12,7 +12,7 @@ abbrev pub along : List ℤ → ℕ → ℕ → ℤ
 along ps axis v = getD ps (2 * v + axis) (pos 0)
 
 -- the vertices from j to r pass a test, and r is not past `stop`
-pub record Run (p : ℕ → Bool) (j stop r : ℕ) : Type 0 where
+pub record SideRun (p : ℕ → Bool) (j stop r : ℕ) : Type 0 where
   pub on : j ≤ r
   pub inside : r ≤ stop
   pub each : (k : ℕ) → k < r + 1 → j ≤ k → p k ≡ true

@@ -7,6 +7,7 @@ use Prim.Native.Nat.{ℕ, zero, suc, _+_, _-_, _≤_, _<_}
 use lib.Dec.{ltb, eqb}
 use lib.ListN.{length}
 use lib.IntN.{ℤ}
+use Rattle.record.specs.Refusals.{tooWide, noSuch}
 use Rattle.plane.specs.Rings.{held, narrow}
 use Rattle.crossing.specs.declared.RingVerdict.{RingVerdict}
 use Rattle.crossing.specs.declared.RingVerdict.the-variants.{Simple, Faulty, Wide, Missing}
@@ -53,8 +54,8 @@ verdictOf ps from n = cond (held (length ps) from n) (cond (narrow ps from n) (s
 abbrev pub verdict-told : RingVerdict → ℕ × List ℕ
 verdict-told Simple = (0, [])
 verdict-told (Faulty i j) = (0, i ∷ j ∷ [])
-verdict-told Wide = (17, [])
-verdict-told Missing = (19, [])
+verdict-told Wide = (tooWide, [])
+verdict-told Missing = (noSuch, [])
 
 -- what the first faulty pair is: a faulty one, and every pair before it in the order is good
 pub record FirstPair (ps : List ℤ) (from edges i j : ℕ) : Type 0 where

@@ -11,7 +11,7 @@ ghost use Rattle.laws.specs.Whole.{Within, lowZ, highZ};
 ghost use Rattle.plane.specs.Rings.{all-near};
 ghost use Rattle.crossing.specs.Edges.{span, Close, point-at, side, dot, equal-ends, neighbours-overlap, spans-overlap, beside-line, boxes-overlap, edges-meet};
 ghost use Rattle.crossing.specs.Search.{faulty-pair, FirstFault, verdictOf};
-ghost use Rattle.crossing.specs.Runs.{along, Run, Skip, span-meets};
+ghost use Rattle.crossing.specs.Runs.{along, SideRun, Skip, span-meets};
 
 pub struct Point {
     pub x: i64,
@@ -203,7 +203,7 @@ fn is_above(points: &[i64], axis: usize, v: usize, bound: i64) -> bool
 // Vertex j lies below a bound, along an axis: the last vertex, up to `stop`, that is reached through such vertices alone.
 fn run_below(points: &[i64], from: usize, axis: usize, j: usize, stop: usize, bound: i64) -> usize
     requires { ⌜ (axis ≤ 1) × (j ≤ stop) × (2 * (from + (stop + 1)) ≤ length (now points)) × (ltZ (along (now points) axis (from + j)) bound ≡ true) ⌝ }
-    ensures { λ r. ⌜ Run (λ k. ltZ (along (now (points .entry)) axis (from + k)) bound) j stop r ⌝ }
+    ensures { λ r. ⌜ SideRun (λ k. ltZ (along (now (points .entry)) axis (from + k)) bound) j stop r ⌝ }
 {
     let mut e = j;
     while e < stop {
@@ -219,7 +219,7 @@ fn run_below(points: &[i64], from: usize, axis: usize, j: usize, stop: usize, bo
 // The same above a bound.
 fn run_above(points: &[i64], from: usize, axis: usize, j: usize, stop: usize, bound: i64) -> usize
     requires { ⌜ (axis ≤ 1) × (j ≤ stop) × (2 * (from + (stop + 1)) ≤ length (now points)) × (ltZ bound (along (now points) axis (from + j)) ≡ true) ⌝ }
-    ensures { λ r. ⌜ Run (λ k. ltZ bound (along (now (points .entry)) axis (from + k))) j stop r ⌝ }
+    ensures { λ r. ⌜ SideRun (λ k. ltZ bound (along (now (points .entry)) axis (from + k))) j stop r ⌝ }
 {
     let mut e = j;
     while e < stop {

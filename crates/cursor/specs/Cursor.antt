@@ -8,7 +8,7 @@ use Rattle.record.specs.declared.Found.{Found}
 use Rattle.record.specs.declared.Found.the-variants.{Record, Refused}
 use Rattle.record.specs.Record.{recordAt}
 use Rattle.cursor.specs.declared.Cursor.{Cursor}
-use Rattle.cursor.specs.declared.Request.{Request}
+use Rattle.cursor.specs.declared.Served.{Served}
 
 -- the place after an answer at a place: past the record, and the same where it is refused
 abbrev pub placeAfter : Found → ℕ → ℕ
@@ -27,7 +27,7 @@ abbrev pub movedOn : Cursor → Bool → Cursor
 movedOn c due = record { src = c .src; at = placeAfter (handed c due) (c .at); mode = c .mode }
 
 -- the answer and the place after it, at a place of a file
-abbrev pub stepAt : List ℕ → ℕ → Mode → Bool → Request
+abbrev pub stepAt : List ℕ → ℕ → Mode → Bool → Served
 stepAt s at mode due = record { found = recordAt s at mode due; at = placeAfter (recordAt s at mode due) at }
 
 -- passes over a record that is found

@@ -15,7 +15,7 @@ pub struct Cursor<'a> {
 }
 
 // An answer, and the place after it.
-pub struct Request {
+pub struct Served {
     pub found: Found,
     pub at: usize,
 }
@@ -47,12 +47,12 @@ pub fn next<'s, 'a>(c: &'s mut Cursor<'a>, due: bool) -> Found
 }
 
 // One request at a place, with plain parameters: for a caller that keeps the place itself, and for covered functions.
-pub fn next_at(src: &[u8], at: usize, mode: Mode, due: bool) -> Request
+pub fn next_at(src: &[u8], at: usize, mode: Mode, due: bool) -> Served
     ensures { λ r. ⌜ r ≡ stepAt (now (src .entry)) at mode due ⌝ }
 {
     let mut c = Cursor { src, at, mode };
     let found = next(&mut c, due);
-    Request { found, at: c.at }
+    Served { found, at: c.at }
 }
 
 // The record of a number, from 0: for a caller that has a number, as from a refusal, and wants the record's bytes.

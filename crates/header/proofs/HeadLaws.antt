@@ -17,7 +17,7 @@ use Rattle.record.specs.declared.Mode.the-variants.{Loose, Exact}
 use Rattle.record.specs.declared.Line.{Line}
 use Rattle.record.specs.declared.Line.the-variants.{Got, Bad}
 use Rattle.record.specs.Record.{plain, lineOf}
-use Rattle.record.specs.RecordView.{LineEnd, crlf, lf, Ending, ended, bare, IsLine}
+use Rattle.record.specs.RecordView.{LineEnd, crlf, lf, Ending, lineEnded, bare, IsLine}
 use Rattle.record.proofs.RecordLaws.{line-view, line-make}
 use Rattle.number.specs.declared.Word.{Word}
 use Rattle.number.specs.declared.Word.the-variants as Word
@@ -58,7 +58,7 @@ pub line-front : (mode : Mode) (bs : List ℕ) (len width : ℕ) → lineOf mode
 line-front mode bs len width q = by (line-view mode false bs len width q)
   where
     go : IsLine mode false bs len width → Ending mode false bs len width → Front mode bs len width
-    go v (ended e k d w) =
+    go v (lineEnded e k d w) =
         record { e = e; whole = record { good = v .allPlain; most = omega (arith, v .counted, v .most); end = k }; split = d; counted = v .counted; wide = omega (arith, v .counted) }
     go v (bare m f z l w) = absurd (let y : _≡_ {A = ℕ} 0 1 = cc in omega arith)
 

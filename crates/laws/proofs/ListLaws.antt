@@ -197,9 +197,6 @@ same-is (a ∷ s) (b ∷ t) e =
     let h : a ≡ b = eqb-true a b (and-left (eqb a b) (same s t) e) in
     let k : s ≡ t = same-is s t (and-right (eqb a b) (same s t) e) in cc
 
-pub same-eq : (s t : List ℕ) → s ≡ t → same s t ≡ true
-same-eq s t e = rw e (same-refl t)
-
 pub same-short : (s t : List ℕ) → (length s ≡ length t → ⊥) → false ≡ same s t
 same-short s t h = go (same s t) refl
   where

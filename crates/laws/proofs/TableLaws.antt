@@ -10,9 +10,6 @@ use Rattle.laws.specs.Lists.{tail, over, pasted}
 use Rattle.laws.proofs.ListLaws.{rest-is, left-none}
 
 module _ {ℓ} {A : Type ℓ} where
-  pub over-none : (l : List A) → l ≡ over [] l
-  over-none l = refl
-
   -- what is stored behind `xs` is over the longer list
   pub over-more : (xs vs l : List A) → length xs + length vs ≤ length l → pasted (over xs l) (length xs) vs ≡ over (xs ++ vs) l
   over-more xs vs l h =

@@ -10,7 +10,7 @@ use borrow.Author.Tests.{eqb-true}
 use Rattle.laws.specs.Text.{text}
 use Rattle.laws.proofs.Choice.{and-left, cond-elim}
 use Rattle.record.specs.declared.Mode.the-variants.{Exact}
-use Rattle.record.specs.RecordView.{LineEnd, Ending, ended, bare}
+use Rattle.record.specs.RecordView.{LineEnd, Ending, lineEnded, bare}
 use Rattle.number.specs.declared.Word.{Word}
 use Rattle.number.specs.declared.Word.the-variants as Word
 use Rattle.number.specs.Words.{wordOf, trimmed}
@@ -93,7 +93,7 @@ end-spelt z width v ok = by (v .line .ending)
     word = key-only (take (v .len) z) (v .t) (v .says) ∙ ap keyText (end-key (v .t) (v .steps))
 
     by : Ending Exact true z (v .len) width → line (text "EOF") ≡ z
-    by (ended e k d w) = line-spelt Exact (take (v .len) z) (text "EOF") e [] (drop width z) refl k (sym word) (sym ok) ∙ sym d
+    by (lineEnded e k d w) = line-spelt Exact (take (v .len) z) (text "EOF") e [] (drop width z) refl k (sym word) (sym ok) ∙ sym d
     by (bare m d q₁ l₁ w₁) = absurd (let y : _≡_ {A = ℕ} 0 1 = cc in omega arith)
 
 -- ---- the file

@@ -25,7 +25,7 @@ use Rattle.made.specs.Made.{natOf}
 use Rattle.layout.proofs.ReadMade.{reading-made}
 use Rattle.tally.specs.Take.{tallyOf, numberOf, rowOf}
 use Rattle.listing.specs.Listing.{oneBlank, figure, figures, wordLine, mapLine, classWords, fourOf, classLines, rowsLine, refusedLine, sheetLines, talliedText, sheetListing, readText, inputMost, listingOf}
-use Rattle.listing.specs.Listed.{listedOf, outputOf, textMost}
+use Rattle.listing.specs.Listed.{listedOf, listedIn, textMost}
 use Rattle.listing.specs.declared.Listed.{Listed}
 use Rattle.listing.specs.declared.Listed.the-variants.{Wrote, NoRoom}
 
@@ -150,7 +150,7 @@ listing-most bs =
     cond-elim (λ (s : List ℕ). length s ≤ textMost) (leb (length bs) inputMost) (readText (reading Loose bs)) (refusedLine 1 0 0) (λ _. read-most bs) (λ _. refused-most 1 0 0)
 
 -- what is written lies in the buffer
-pub wrote-within : (s l d : List ℕ) (x : Listed) → x ≡ listedOf s (length l) → d ≡ outputOf x s l → (n : ℕ) → x ≡ Wrote n → n ≤ length d
+pub wrote-within : (s l d : List ℕ) (x : Listed) → x ≡ listedOf s (length l) → d ≡ listedIn x s l → (n : ℕ) → x ≡ Wrote n → n ≤ length d
 unfolding listedOf
 wrote-within s l d x e w n q = go (leb (length s) (length l)) (sym e ∙ q)
   where

@@ -29,7 +29,7 @@ use Rattle.tally.specs.Take.{tallyOf, numberOf, rowOf}
 use Rattle.listing.proofs.ListLaws.{refused-most, read-most}
 use Rattle.listing.specs.Listing.{refusedLine, sheetLines, talliedText, sheetListing, readText, inputMost, listingOf}
 use Rattle.reader.specs.Exit.{usedPart}
-use Rattle.listing.specs.Listed.{listedOf, outputOf, textMost, UsedFits}
+use Rattle.listing.specs.Listed.{listedOf, listedIn, textMost, UsedFits}
 use Rattle.listing.specs.declared.Listed.the-variants.{Wrote, NoRoom}
 
 -- the same text
@@ -204,12 +204,12 @@ module _ (s l text : List ℕ) (size : ℕ) (w : Put l 0 s text size) where
     text-room : size ≤ length out → 0 + length (take size text) ≤ length out
     text-room h = rw text-is (omega (arith, size-is))
 
-    pub answer-none : length out < size → (NoRoom size ≡ listedOf s (length out)) × (out ≡ outputOf (NoRoom size) s out)
+    pub answer-none : length out < size → (NoRoom size ≡ listedOf s (length out)) × (out ≡ listedIn (NoRoom size) s out)
     unfolding listedOf
     answer-none h = (rw (lt-leb (length s) (length out) (omega (arith, size-is)), size-is), refl)
 
     pub answer-wrote : size ≤ length out → (d : List ℕ) (r : ℕ) → Stored out 0 (take size text) d r
-        → (Wrote size ≡ listedOf s (length out)) × (d ≡ outputOf (Wrote size) s out)
+        → (Wrote size ≡ listedOf s (length out)) × (d ≡ listedIn (Wrote size) s out)
     unfolding listedOf
     answer-wrote h d r w =
         let p = stored-put (text-room h) w in

@@ -16,9 +16,9 @@ unfoldable pub listedOf : List ℕ → ℕ → Listed
 listedOf s room = cond (leb (length s) room) (Wrote (length s)) (NoRoom (length s))
 
 -- the buffer at exit: the text from its start and the rest as it was; with no room nothing is altered
-abbrev pub outputOf : Listed → List ℕ → List ℕ → List ℕ
-outputOf (Wrote n) s l = over s l
-outputOf (NoRoom n) s l = l
+abbrev pub listedIn : Listed → List ℕ → List ℕ → List ℕ
+listedIn (Wrote n) s l = over s l
+listedIn (NoRoom n) s l = l
 
 -- no listing is longer
 abbrev pub textMost : ℕ

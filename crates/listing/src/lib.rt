@@ -10,7 +10,7 @@ ghost use Rattle.made.specs.Made.{tablesOf, natOf};
 ghost use Rattle.writer.specs.Put.{Put};
 ghost use Rattle.listing.specs.Listing.{inputMost, figure, figures, wordLine, mapLine, classWords, fourOf, classLines, refusedLine, sheetLines, sheetListing, readText, listingOf};
 ghost use Rattle.reader.specs.Exit.{usedPart};
-ghost use Rattle.listing.specs.Listed.{listedOf, outputOf, textMost, UsedFits};
+ghost use Rattle.listing.specs.Listed.{listedOf, listedIn, textMost, UsedFits};
 use heading::Header;
 use made::count_at;
 use reader::Answer;
@@ -243,7 +243,7 @@ fn put_listing(src: &[u8], out: &mut [u8]) -> usize
 // Writes what the listing program writes for this input to the start of `out`, where there is room.
 pub fn list_text(src: &[u8], out: &mut [u8]) -> Listed
     ensures { λ r. ⌜ r ≡ listedOf (listingOf (now (src .entry))) (length (now (out .entry))) ⌝ }
-    ensures { λ r. ⌜ now (out .exit) ≡ outputOf r (listingOf (now (src .entry))) (now (out .entry)) ⌝ }
+    ensures { λ r. ⌜ now (out .exit) ≡ listedIn r (listingOf (now (src .entry))) (now (out .entry)) ⌝ }
 {
     let mut text = [0u8; TEXT_MOST];
     let size = put_listing(src, &mut text);

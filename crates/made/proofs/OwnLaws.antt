@@ -66,14 +66,14 @@ rings-front (n ∷ ns) c s h =
 
 -- ---- fronts of the four tables; a row's own part is one
 
-abbrev pub frontOf : ℕ → ℕ → ℕ → ℕ → Tables → Tables
-frontOf r l i p t = tablesOf (take r (t .rows)) (take l (t .letters)) (take i (t .islands)) (take p (t .points))
+abbrev pub frontsOf : ℕ → ℕ → ℕ → ℕ → Tables → Tables
+frontsOf r l i p t = tablesOf (take r (t .rows)) (take l (t .letters)) (take i (t .islands)) (take p (t .points))
 
 module _ (t : Tables) (r l i p : ℕ) (a : rowWidth ≤ r) (b : countAt t lettersPlace ≤ l) (c : countAt t islandsPlace ≤ i) (d : 2 * countAt t verticesPlace ≤ p) where
-  cell-front : (k : ℕ) → k < rowWidth → cellAt (frontOf r l i p t) k ≡ cellAt t k
+  cell-front : (k : ℕ) → k < rowWidth → cellAt (frontsOf r l i p t) k ≡ cellAt t k
   cell-front k h = getD-take r (t .rows) k (pos 0) (omega arith)
 
-  pub first-front : firstOf (frontOf r l i p t) ≡ firstOf t
+  pub first-front : firstOf (frontsOf r l i p t) ≡ firstOf t
   first-front =
       rw (
         cell-front lettersPlace (omega arith),
@@ -86,7 +86,7 @@ module _ (t : Tables) (r l i p : ℕ) (a : rowWidth ≤ r) (b : countAt t letter
       )
 
 module _ (t : Tables) (r l i p : ℕ) where
-  pub rest-front : restOf (frontOf (rowWidth + r) (countAt t lettersPlace + l) (countAt t islandsPlace + i) (2 * countAt t verticesPlace + p) t) ≡ frontOf r l i p (restOf t)
+  pub rest-front : restOf (frontsOf (rowWidth + r) (countAt t lettersPlace + l) (countAt t islandsPlace + i) (2 * countAt t verticesPlace + p) t) ≡ frontsOf r l i p (restOf t)
   rest-front =
       let cell : (k : ℕ) → k < rowWidth → getD (take (rowWidth + r) (t .rows)) k (pos 0) ≡ cellAt t k = λ k h. getD-take (rowWidth + r) (t .rows) k (pos 0) (omega arith) in
       rw (
@@ -231,5 +231,5 @@ module _ (t u : Tables) (r : Held t) where
 
   pub rest-own : restOf (firstOf t then u) ≡ u
   rest-own =
-      let none : restOf (firstOf t) ≡ frontOf 0 0 0 0 (restOf t) = simp add-zero at (rest-front t 0 0 0 0) in
+      let none : restOf (firstOf t) ≡ frontsOf 0 0 0 0 (restOf t) = simp add-zero at (rest-front t 0 0 0 0) in
       rest-then (firstOf t) u held-first ∙ ap (λ (x : Tables). x then u) none

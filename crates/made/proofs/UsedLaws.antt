@@ -13,7 +13,7 @@ use Rattle.sheet.specs.Tables.{Tables, _then_}
 use Rattle.made.specs.Made.{tablesOf, cellAt, countAt, kindOf, firstOf, restOf, isMade, isCoded, judgeRows, judgeOf, usedOf}
 use Rattle.made.specs.declared.Verdict.the-variants.{Fine, Faulty, Unlisted}
 use Rattle.made.proofs.RowWays.{made-held}
-use Rattle.made.proofs.OwnLaws.{frontOf, first-front, rest-front, cell-alike, made-alike, first-then, rest-then}
+use Rattle.made.proofs.OwnLaws.{frontsOf, first-front, rest-front, cell-alike, made-alike, first-then, rest-then}
 
 -- ---- the used part is the front of each table, and the rest is behind it
 
@@ -25,7 +25,7 @@ total p (suc n) t = countAt t p + total p n (restOf t)
 abbrev pub behindOf : ℕ → Tables → Tables
 behindOf n t = tablesOf (drop (rowWidth * n) (t .rows)) (drop (total lettersPlace n t) (t .letters)) (drop (total islandsPlace n t) (t .islands)) (drop (2 * total verticesPlace n t) (t .points))
 
-pub used-front : (n : ℕ) (t : Tables) → usedOf n t ≡ frontOf (rowWidth * n) (total lettersPlace n t) (total islandsPlace n t) (2 * total verticesPlace n t) t
+pub used-front : (n : ℕ) (t : Tables) → usedOf n t ≡ frontsOf (rowWidth * n) (total lettersPlace n t) (total islandsPlace n t) (2 * total verticesPlace n t) t
 unfolding usedOf total
 used-front zero t = refl
 used-front (suc n) t =

@@ -1,13 +1,13 @@
 -- A sheet that is handed in, and when it is well made: document 01, "Sheet tables". Assumes nothing: these are definitions.
 -- The rows before a row use up what stands before its own part of each table, so a row is judged on what is left of the four.
-use Prim.Native.Nat.{ℕ, zero, suc, _+_, _-_, _*_, _/_}
+use Prim.Native.Nat.{ℕ, zero, suc, _+_, _-_, _*_}
 use mathlib.Core.List.{List, [], _∷_}
 use mathlib.Core.Bool.{Bool, true, false, cond, not, _&&_, _||_}
 use lib.ListN.{length, getD, take, drop}
 use lib.Dec.{leb, eqb}
 use lib.IntN.{ℤ, pos, negsuc}
 use lib.Signed.{leZ}
-use Rattle.laws.specs.Lists.{all, below, holds, over}
+use Rattle.laws.specs.Lists.{all, below, holds}
 use Rattle.laws.specs.Whole.{eqZ}
 use Rattle.record.specs.declared.Mode.{Mode}
 use Rattle.record.specs.Record.{isLoose, plain}
@@ -184,14 +184,6 @@ faultOf v = record { number = numberOf v; row = rowOf v }
 
 -- ---- the part of the tables that the rows use
 
--- the rows of tables that were read
-abbrev pub rowCount : Tables → ℕ
-rowCount o = length (o .rows) / rowWidth
-
 unfoldable pub usedOf : ℕ → Tables → Tables
 usedOf zero t = empty
 usedOf (suc n) t = firstOf t then usedOf n (restOf t)
-
--- tables that held `old` and now hold `o` from their start, as a reading leaves them
-abbrev pub overOf : Tables → Tables → Tables
-overOf o old = tablesOf (over (o .rows) (old .rows)) (over (o .letters) (old .letters)) (over (o .islands) (old .islands)) (over (o .points) (old .points))

@@ -56,10 +56,6 @@ unfolding trimmed unled run kept
 untrimmed [] f l = refl
 untrimmed (b ∷ s) f l = rw f (rw (kept-whole blank (b ∷ s) (omega arith) l) (take-length (b ∷ s)))
 
--- trimming again changes nothing
-pub trimmed-twice : (c : List ℕ) → trimmed (trimmed c) ≡ trimmed c
-trimmed-twice c = untrimmed (trimmed c) (trimmed-first c) (trimmed-last c)
-
 -- a word of a record's content holds such bytes only
 pub trimmed-plain : (c : List ℕ) → all plain c ≡ true → all plain (trimmed c) ≡ true
 unfolding trimmed unled

@@ -4,6 +4,7 @@ use mathlib.Core.List.{List, [], _∷_}
 use Prim.Native.Nat.{ℕ, zero, suc, _+_, _-_, _*_}
 use lib.ListN.{length}
 use lib.IntN.{ℤ, pos, natAbs, _+ℤ_, _-ℤ_, _*ℤ_}
+use Rattle.record.specs.Refusals.{tooWide, noSuch}
 use Rattle.plane.specs.declared.Area.{Area}
 use Rattle.plane.specs.declared.Area.the-variants.{Doubled, Wide, Missing}
 use Rattle.plane.specs.Rings.{most, reach, x-at, y-at, held, narrow}
@@ -34,8 +35,8 @@ areaOf ps from n =
 -- an answer in the paper's terms: the refusal's number, or 0 and the doubled area
 abbrev pub area-told : Area → ℕ × List ℤ
 area-told (Doubled d) = (0, d ∷ [])
-area-told Wide = (17, [])
-area-told Missing = (19, [])
+area-told Wide = (tooWide, [])
+area-told Missing = (noSuch, [])
 
 -- the most that one edge adds, either way, and that a ring's edges add together
 abbrev pub edge-limit : ℕ

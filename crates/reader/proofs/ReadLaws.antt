@@ -14,7 +14,7 @@ use Rattle.record.specs.declared.Mode.{Mode}
 use Rattle.record.specs.declared.Mode.the-variants.{Loose, Exact}
 use Rattle.record.specs.Refusals.{lineEnd, unlistedCode, afterEOF, noRoom, fileMost}
 use Rattle.heading.specs.declared.Header.{Header}
-use Rattle.sheet.specs.Tables.{Tables, _then_}
+use Rattle.sheet.specs.Tables.{Tables, _then_, overOf, rowCount}
 use Rattle.sheet.specs.Reading.{Reading, sheet, refused, reading, joined}
 use Rattle.sheet.proofs.Exact.{exact-loose}
 use Rattle.sheet.proofs.Join.{joining}
@@ -212,21 +212,40 @@ exit-used mode bs t = go (answerTo mode bs t) (answerTo mode bs t .answer) (view
     go x (Answer.NoRoom a) v n = absurd (n refl)
     go x (Answer.Refused m k at) v n = rw v refl
 
--- **exact within loose**: where exact mode accepts (0) with given tables, loose mode accepts with the same tables, the same header, and
+-- **what a caller has in hand**: accepted (0), the tables at exit are what was read over what they held, and the counts say its rows
+pub exit-over : (mode : Mode) (bs : List ℕ) (t : Tables) → numberOf (answerTo mode bs t .answer) ≡ 0
+    → (exitOf mode bs t ≡ overOf (tablesIn (reading mode bs)) t) × (countsOf (answerTo mode bs t .answer) .rows ≡ rowCount (tablesIn (reading mode bs)))
+exit-over mode bs t e =
+    let v = zero-is mode bs (roomsIn t) e in
+    let x = is-read mode bs (roomsIn t) (answerTo mode bs t .header) (v .tables) (v .sound) (v .room) in
+    (rw x refl, rw (x, v .sound) refl)
+
+-- **a refusal alters nothing**: whatever its number, the tables at exit are as they were
+pub refused-exit : (mode : Mode) (bs : List ℕ) (t : Tables) → (numberOf (answerTo mode bs t .answer) ≡ 0 → ⊥) → exitOf mode bs t ≡ t
+refused-exit mode bs t = by (answerTo mode bs t .answer)
+  where
+    by : (a : Answer) → (numberOf a ≡ 0 → ⊥) → atExit a (tablesIn (reading mode bs)) t ≡ t
+    by (Answer.Read a) n = absurd (n refl)
+    by (Answer.NoRoom a) n = refl
+    by (Answer.Refused m k at) n = refl
+
+-- **exact within loose**: where exact mode accepts (0) with given tables, loose mode accepts with the same tables, the same header and counts, and
 -- each of the four tables holds the same at exit
 pub exact-exit : (bs : List ℕ) (t : Tables) → numberOf (answerTo Exact bs t .answer) ≡ 0
-    → (numberOf (answerTo Loose bs t .answer) ≡ 0) × (answerTo Loose bs t .header ≡ answerTo Exact bs t .header) × (exitOf Loose bs t ≡ exitOf Exact bs t)
+    → (numberOf (answerTo Loose bs t .answer) ≡ 0) × (answerTo Loose bs t .header ≡ answerTo Exact bs t .header) × (countsOf (answerTo Loose bs t .answer) ≡ countsOf (answerTo Exact bs t .answer))
+    × (exitOf Loose bs t ≡ exitOf Exact bs t)
 exact-exit bs t e =
     let v = zero-is Exact bs (roomsIn t) e in
     let h = answerTo Exact bs t .header in
     let x = is-read Exact bs (roomsIn t) h (v .tables) (v .sound) (v .room) in
     let w = exact-within-loose bs (roomsIn t) (needsOf (v .tables)) h x in
-    (ap (λ (y : Outcome). numberOf (y .answer)) (w .0), ap (λ (y : Outcome). y .header) (w .0), ap₂ (λ (y : Outcome) (o : Tables). atExit (y .answer) o t) (w .0 ∙ sym x) (w .1))
+    (ap (λ (y : Outcome). numberOf (y .answer)) (w .0), ap (λ (y : Outcome). y .header) (w .0), ap (λ (y : Outcome). countsOf (y .answer)) (w .0 ∙ sym x), ap₂ (λ (y : Outcome) (o : Tables). atExit (y .answer) o t) (w .0 ∙ sym x) (w .1))
 
--- **room**: larger tables change no number, record, offset or header, and no used part at exit, but where the number was 14
+-- **room**: larger tables change no number, record, offset, count or header, and no used part at exit, but where the number was 14
 pub larger-exit : (mode : Mode) (bs : List ℕ) (t u : Tables) → Larger (roomsIn t) (roomsIn u) → (numberOf (answerTo mode bs t .answer) ≡ noRoom → ⊥)
     → (numberOf (answerTo mode bs u .answer) ≡ numberOf (answerTo mode bs t .answer)) × (recordOf (answerTo mode bs u .answer) ≡ recordOf (answerTo mode bs t .answer))
-    × (offsetOf (answerTo mode bs u .answer) ≡ offsetOf (answerTo mode bs t .answer)) × (answerTo mode bs u .header ≡ answerTo mode bs t .header)
+    × (offsetOf (answerTo mode bs u .answer) ≡ offsetOf (answerTo mode bs t .answer)) × (countsOf (answerTo mode bs u .answer) ≡ countsOf (answerTo mode bs t .answer))
+    × (answerTo mode bs u .header ≡ answerTo mode bs t .header)
     × (usedPart (countsOf (answerTo mode bs u .answer)) (exitOf mode bs u) ≡ usedPart (countsOf (answerTo mode bs t .answer)) (exitOf mode bs t))
 larger-exit mode bs t u l n =
     let x : answerTo mode bs u ≡ answerTo mode bs t = larger-tables mode bs (roomsIn t) (roomsIn u) l (not-short (answerTo mode bs t .answer) n) in
@@ -234,6 +253,7 @@ larger-exit mode bs t u l n =
       m,
       ap (λ (y : Outcome). recordOf (y .answer)) x,
       ap (λ (y : Outcome). offsetOf (y .answer)) x,
+      ap (λ (y : Outcome). countsOf (y .answer)) x,
       ap (λ (y : Outcome). y .header) x,
       exit-used mode bs u (λ e. n (sym m ∙ e)) ∙ sym (exit-used mode bs t n),
     )

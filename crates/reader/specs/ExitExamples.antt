@@ -4,27 +4,19 @@ use mathlib.Core.List.{List, [], _∷_}
 use Prim.Native.Nat.{ℕ}
 use lib.ListN.{replicate}
 use lib.IntN.{pos, negsuc}
-use Rattle.laws.specs.Lists.{run, kept, all, same, allAt, holds, place}
+use Rattle.sheet.specs.Examples.{computed}
+use Rattle.laws.specs.Lists.{same}
 use Rattle.laws.specs.Text.{text}
 use Rattle.record.specs.declared.Mode.{Mode}
 use Rattle.record.specs.declared.Mode.the-variants.{Loose, Exact}
-use Rattle.record.specs.Record.{endsCR, content, contentIs, lineIs, lineOf}
-use Rattle.number.specs.Words.{unled, trimmed, wordOf}
-use Rattle.number.specs.Number as Number
-use Rattle.header.specs.Header.{firstWords, kindSaid, isNamed, headScale, headName, headed}
-use Rattle.heading.specs.Heading.{nameByte, isName}
-use Rattle.token.specs.Lex.{keywords, mayLieOutside, lift, unlift, unmarked, isMarked, keyOf, lexOf}
-use Rattle.kinds.specs.Kinds.{schedule, nextIn, nextOf, codes, isListed, wantAt}
-use Rattle.machine.specs.Machine.{wantOf, verticesOf, fieldOf, islandOf, isShut, ringStep, vertexOf, keyStep, stepOf, oneOf}
-use Rattle.sheet.specs.Tables.{Tables, setLast, put, ringAfter}
-use Rattle.sheet.specs.Reading.{walk, walkFrom, sectionsOf, meaning, reading}
+use Rattle.sheet.specs.Tables.{Tables}
 use Rattle.reader.specs.Read.{holdsAll, readOf, numberOf, recordOf, offsetOf, countsOf}
 use Rattle.reader.specs.Exit.{answerTo, exitOf, usedPart}
 use Rattle.reader.specs.declared.Outcome.{Outcome}
 
 -- with every definition opened, so that it computes
 abbrev opened : Mode → List ℕ → Tables → Outcome
-unfolding run kept all same allAt holds place endsCR content contentIs lineIs lineOf unled trimmed wordOf Number.value Number.ended Number.lean Number.integerIs Number.integerAt Number.integerOf Number.signOf Number.signs Number.signed Number.thousandths Number.isToken Number.isNeat Number.realIs Number.realAt Number.realSigned Number.realOf firstWords nameByte isName kindSaid isNamed headScale headName headed keywords mayLieOutside schedule nextIn nextOf codes isListed lift unlift unmarked isMarked keyOf lexOf wantAt wantOf verticesOf fieldOf islandOf isShut ringStep vertexOf keyStep stepOf oneOf setLast put ringAfter walk walkFrom sectionsOf meaning reading holdsAll readOf
+unfolding computed holdsAll readOf
 opened mode bs t = answerTo mode bs t
 
 -- one text; its y is -0.005

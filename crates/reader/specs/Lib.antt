@@ -1,4 +1,4 @@
--- To read beside document 01, "Sheet tables": the answer of a reading, and the lent tables at exit.
+-- To read beside document 01, "Sheet tables": the answer of a reading, and the lent tables at exit. (`judgedOf` of `Read` serves a private contract.)
 pub mod Read
 pub mod Exit
 pub mod ExitExamples

@@ -19,7 +19,7 @@ use Rattle.record.specs.declared.Line.the-variants.{Got, Bad}
 use Rattle.record.specs.declared.Found.the-variants.{Record, Refused}
 use Rattle.record.specs.Record.{isLoose, plain, notLF, wordEOF, endsCR, contentIs, lineOf, placed, recordAt}
 use Rattle.record.specs.Scan.{crlfAt}
-use Rattle.record.specs.RecordView.{LineEnd, crlf, lf, Ending, ended, bare, IsLine, IsRecord, Lies}
+use Rattle.record.specs.RecordView.{LineEnd, crlf, lf, Ending, lineEnded, bare, IsLine, IsRecord, Lies}
 use Rattle.record.proofs.RecordCases.{LF-at, no-LF, to-CR, to-bare, at-LF, at-CRLF, crlf-yes}
 
 loose-is : (mode : Mode) → isLoose mode ≡ true → mode ≡ Loose
@@ -73,7 +73,7 @@ module _ (mode : Mode) (due : Bool) (bs : List ℕ) where
         some = omega (arith, end-some mode e k);
         past = omega arith;
         within = within;
-        ending = ended e k (sym (take-append-drop n bs) ∙ ap (λ (t : List ℕ). take n bs ++ t) d) refl;
+        ending = lineEnded e k (sym (take-append-drop n bs) ∙ ap (λ (t : List ℕ). take n bs ++ t) d) refl;
       }
 
   -- the LF stands at `r`, and a CR before it
@@ -158,7 +158,7 @@ line-widens due due′ bs l w h = let v = line-view Exact due bs l w h in go v (
     loose e (lf m q) = crlf (cc)
 
     go : IsLine Exact due bs l w → Ending Exact due bs l w → lineOf Loose due′ bs ≡ Got l w
-    go v (ended e k d r) =
+    go v (lineEnded e k d r) =
         ap (lineOf Loose due′) d
         ∙ line-make Loose due′ (take l bs) e (drop w bs) (v .allPlain) (omega (arith, v .counted, v .most)) (loose e k)
         ∙ rw (v .counted, r)

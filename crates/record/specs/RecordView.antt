@@ -18,7 +18,7 @@ pub data LineEnd (mode : Mode) (e : List ℕ) : Type 0 where
 
 -- the bytes are a content, a line end and a rest, or they are the loose `EOF`
 pub data Ending (mode : Mode) (due : Bool) (bs : List ℕ) (len width : ℕ) : Type 0 where
-  ended : (e : List ℕ) → LineEnd mode e → bs ≡ take len bs ++ (e ++ drop width bs) → width ≡ len + length e → Ending mode due bs len width
+  lineEnded : (e : List ℕ) → LineEnd mode e → bs ≡ take len bs ++ (e ++ drop width bs) → width ≡ len + length e → Ending mode due bs len width
   bare : mode ≡ Loose → due ≡ true → bs ≡ wordEOF → len ≡ 3 → width ≡ 3 → Ending mode due bs len width
 
 -- a record with `len` bytes of content stands at the front of the bytes, `width` bytes long

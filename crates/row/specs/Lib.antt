@@ -1,4 +1,5 @@
 -- To read beside document 01, "Sheet tables" and "Refusal numbers": where a row stands, the row that is sought, a row handed in alone.
+-- `wordMost` and `Stands` of `Walk` serve private contracts alone.
 pub mod Walk
 pub mod Seek
 pub mod Alone

@@ -31,7 +31,7 @@ use Rattle.machine.specs.declared.One.{One}
 use Rattle.machine.specs.Machine.{isDue, oneOf}
 use Rattle.sheet.specs.Tables.{Tables, empty, put, ringAfter}
 use Rattle.sheet.specs.Reading.{Sections, read, stop, behindEof, after, walk, walkFrom, refused, under, beyond, sectionsOf, meaning, reading}
-use Rattle.sheet.specs.First.{Stage, word, name, scale, part, Given, passed, fault, last, wordIs, nameIs, scaleIs, ofHead, ofPart, givenBy, frontOf, pastFront, Answers, refuses, passes, ends}
+use Rattle.sheet.specs.First.{Stage, word, name, scale, part, Given, passed, fault, last, wordIs, nameIs, scaleIs, ofHead, ofPart, givenBy, frontOf, pastFront, Answers, refuses, passes, finishes}
 use Rattle.sheet.proofs.Pass.{OneView, one-view}
 use Rattle.sheet.proofs.Alone.{line-width, given-alone, given-none}
 
@@ -46,13 +46,13 @@ By mode k a bs s (last o) = s ≡ behindEof mode o a (k + 1) (a + length (frontO
 answers-by : {mode : Mode} {w : Stage} {k a : ℕ} {bs : List ℕ} {s : Sections} → Answers mode w k a bs s → By mode k a bs s (givenBy mode w (frontOf bs))
 answers-by {mode} {k = k} {a} {bs} {s} (refuses e) = subst (By mode k a bs s) (sym e) refl
 answers-by {mode} {k = k} {a} {bs} {s} (passes e x) = subst (By mode k a bs s) (sym e) x
-answers-by {mode} {k = k} {a} {bs} {s} (ends e) = subst (By mode k a bs s) (sym e) refl
+answers-by {mode} {k = k} {a} {bs} {s} (finishes e) = subst (By mode k a bs s) (sym e) refl
 
 -- **the refusal is determined**: a file has one answer
 pub answers-one : {mode : Mode} {w : Stage} {k a : ℕ} {bs : List ℕ} {s s′ : Sections} → Answers mode w k a bs s → Answers mode w k a bs s′ → s ≡ s′
 answers-one {mode} {k = k} {a} {bs} {s′ = s′} (refuses e) y = sym (subst (By mode k a bs s′) e (answers-by y))
 answers-one {mode} {k = k} {a} {bs} {s′ = s′} (passes e x) y = answers-one x (subst (By mode k a bs s′) e (answers-by y))
-answers-one {mode} {k = k} {a} {bs} {s′ = s′} (ends e) y = sym (subst (By mode k a bs s′) e (answers-by y))
+answers-one {mode} {k = k} {a} {bs} {s′ = s′} (finishes e) y = sym (subst (By mode k a bs s′) e (answers-by y))
 
 -- ---- the sections
 
@@ -88,7 +88,7 @@ walk-answers (suc f) mode st o k a bs h =
     by (One.No m) e v ih = refuses (part-gives mode st o bs (One.No m) e)
     by (One.End width) e v ih =
         subst (λ (n : ℕ). Answers mode (part st o) k a bs (behindEof mode o a (k + 1) (a + n) (drop n bs))) (sym (line-width mode (isDue st) bs (v .len) width (v .found)))
-        (ends (part-gives mode st o bs (One.End width) e))
+        (finishes (part-gives mode st o bs (One.End width) e))
 
 -- **the count never decides**: two counts that are enough give one walk
 pub walk-count : (f g : ℕ) (mode : Mode) (st : State) (o : Tables) (k a : ℕ) (bs : List ℕ) → length bs ≤ f → length bs ≤ g

@@ -11,7 +11,7 @@ use Rattle.record.specs.Record.{notLF}
 use Rattle.record.specs.Refusals.{cut}
 use Rattle.sheet.specs.Tables.{Tables}
 use Rattle.sheet.specs.Reading.{Sections, read, stop, behindEof, refused, meaning, records}
-use Rattle.sheet.specs.First.{Stage, Given, passed, fault, last, givenBy, frontOf, pastFront, Answers, refuses, passes, ends}
+use Rattle.sheet.specs.First.{Stage, Given, passed, fault, last, givenBy, frontOf, pastFront, Answers, refuses, passes, finishes}
 use Rattle.sheet.proofs.Alone.{given-alone, given-none}
 use Rattle.sheet.proofs.First.{meaning-first}
 
@@ -69,7 +69,7 @@ answers-at : {mode : Mode} {w : Stage} {k a : ℕ} {bs : List ℕ} {s : Sections
 answers-at {k = k} {a} {bs} (refuses e) = here k a bs
 answers-at {mode} {w} {k} {a} {bs} {s} (passes {w′ = w′} e x) =
     stop-on k a bs (not-cut mode w bs (passed w′) e (λ q. let z : _≡_ {A = ℕ} 0 1 = cc in omega arith)) s (answers-at x)
-answers-at {mode} {w} {k} {a} {bs} (ends {o = o} e) =
+answers-at {mode} {w} {k} {a} {bs} (finishes {o = o} e) =
     stop-on k a bs (not-cut mode w bs (last o) e (λ q. let z : _≡_ {A = ℕ} 0 1 = cc in omega arith))
     (behindEof mode o a (k + 1) (a + length (frontOf bs)) (pastFront bs)) (ended-at mode o a (k + 1) (a + length (frontOf bs)) (pastFront bs))
 

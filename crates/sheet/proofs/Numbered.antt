@@ -39,7 +39,7 @@ use Rattle.machine.specs.declared.Step.the-variants.{Go, No, End}
 use Rattle.machine.specs.declared.One.{One}
 use Rattle.sheet.specs.Tables.{Tables, ringAfter}
 use Rattle.sheet.specs.Reading.{Sections, read, stop, behindEof, refused, meaning, reading}
-use Rattle.sheet.specs.First.{Stage, word, name, scale, part, Given, passed, fault, last, wordIs, nameIs, scaleIs, ofHead, ofPart, givenBy, frontOf, pastFront, Answers, refuses, passes, ends}
+use Rattle.sheet.specs.First.{Stage, word, name, scale, part, Given, passed, fault, last, wordIs, nameIs, scaleIs, ofHead, ofPart, givenBy, frontOf, pastFront, Answers, refuses, passes, finishes}
 use Rattle.sheet.proofs.First.{meaning-first}
 
 -- the numbers that a record's refusal can have: 2 to 13, and 3, 10 and 13 in exact mode alone
@@ -159,7 +159,7 @@ one-known mode st next bs = by-line (lineOf mode (isDue st) bs) (line-known mode
     by-line (Got len width) k = by-token len width (lexOf mode (wantOf st) (take len bs)) (lex-known mode (wantOf st) (take len bs))
     by-line (Bad m) k = k
 
--- ---- a givenBy, an answer
+-- ---- what a record gives, an answer
 
 abbrev GivenKnown : Mode → Given → Type 0
 GivenKnown mode (passed w) = Unit {0}
@@ -201,7 +201,7 @@ ended-known Loose o eof k a bs = tt
 answers-known : {mode : Mode} {w : Stage} {k a : ℕ} {bs : List ℕ} {s : Sections} → Answers mode w k a bs s → SectionsKnown mode s
 answers-known {mode} {w} {bs = bs} (refuses e) = subst (GivenKnown mode) e (given-known mode w (frontOf bs))
 answers-known (passes e x) = answers-known x
-answers-known {mode} {k = k} {a} {bs} (ends {o = o} e) = ended-known mode o a (k + 1) (a + length (frontOf bs)) (pastFront bs)
+answers-known {mode} {k = k} {a} {bs} (finishes {o = o} e) = ended-known mode o a (k + 1) (a + length (frontOf bs)) (pastFront bs)
 
 -- ---- the file
 

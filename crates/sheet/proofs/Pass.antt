@@ -13,7 +13,7 @@ use Rattle.record.specs.declared.Mode.{Mode}
 use Rattle.record.specs.declared.Mode.the-variants.{Loose, Exact}
 use Rattle.record.specs.declared.Line.{Line}
 use Rattle.record.specs.Record.{isLoose, plain, wordEOF, lineOf}
-use Rattle.record.specs.RecordView.{LineEnd, crlf, lf, Ending, ended, bare, IsLine}
+use Rattle.record.specs.RecordView.{LineEnd, crlf, lf, Ending, lineEnded, bare, IsLine}
 use Rattle.record.proofs.RecordLaws.{line-view, line-make}
 use Rattle.number.specs.Words.{unled, trimmed, wordOf}
 use Rattle.kinds.specs.Kinds.{nextOf, isListed}
@@ -104,7 +104,7 @@ pub record Went (mode : Mode) (st : State) (next : ℕ) (bs : List ℕ) (st′ :
   pub line : IsLine mode (isDue st) bs len width
   pub found : lineOf mode (isDue st) bs ≡ Line.Got len width
 
--- the record that ended the file
+-- the record that lineEnded the file
 pub record Ended (mode : Mode) (st : State) (next : ℕ) (bs : List ℕ) (width : ℕ) : Type 0 where
   pub due : st ≡ Due
   pub len : ℕ
@@ -148,7 +148,7 @@ module _ (mode : Mode) (st : State) (next : ℕ) (bs : List ℕ) where
   view-step len width f l t q (Go st′) g = by (l .ending)
     where
       by : Ending mode (isDue st) bs len width → Went mode st next bs st′ t len width
-      by (ended e k d w) =
+      by (lineEnded e k d w) =
           record { e = e; goes = record { good = l .allPlain; most = omega (arith, l .counted, l .most); end = k; says = q; steps = g }; split = d; wide = w; line = l; found = f }
       by (bare m d q₁ l₁ w₁) =
           let c : take len bs ≡ wordEOF = rw (l₁, q₁) in

@@ -1,5 +1,5 @@
 -- What a record stores is the value of its content: document 01, "Sheet tables" and "Records". A token lifts a real so that it is never below 0;
--- nothing that is stored, and no ring that is judged closed, shows it. Assumes nothing.
+-- nothing that is stored shows it, and two tokens of reals are equal exactly where the reals are (`same-real`). Assumes nothing.
 use mathlib.Core.Path.{_≡_, refl, sym, _∙_, ap, subst}
 use mathlib.Core.List.{List, [], _∷_, _++_}
 use mathlib.Core.Bool.{Bool, true, false, cond}

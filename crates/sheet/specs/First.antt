@@ -81,5 +81,5 @@ pub data Answers (mode : Mode) : Stage → ℕ → ℕ → List ℕ → Sections
   refuses : {w : Stage} {k a m : ℕ} {bs : List ℕ} → givenBy mode w (frontOf bs) ≡ fault m → Answers mode w k a bs (stop m k a)
   passes : {w w′ : Stage} {k a : ℕ} {bs : List ℕ} {s : Sections} → givenBy mode w (frontOf bs) ≡ passed w′
       → Answers mode w′ (k + 1) (a + length (frontOf bs)) (pastFront bs) s → Answers mode w k a bs s
-  ends : {w : Stage} {k a : ℕ} {bs : List ℕ} {o : Tables} → givenBy mode w (frontOf bs) ≡ last o
+  finishes : {w : Stage} {k a : ℕ} {bs : List ℕ} {o : Tables} → givenBy mode w (frontOf bs) ≡ last o
       → Answers mode w k a bs (behindEof mode o a (k + 1) (a + length (frontOf bs)) (pastFront bs))

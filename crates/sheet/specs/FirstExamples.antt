@@ -2,26 +2,18 @@
 use mathlib.Core.Path.{refl}
 use mathlib.Core.List.{List, []}
 use Prim.Native.Nat.{ℕ}
-use Rattle.laws.specs.Lists.{run, kept, all, same, allAt, place}
+use Rattle.sheet.specs.Examples.{computed}
 use Rattle.laws.specs.Text.{text}
 use Rattle.record.specs.declared.Mode.{Mode}
 use Rattle.record.specs.declared.Mode.the-variants.{Loose, Exact}
-use Rattle.record.specs.Record.{endsCR, content, contentIs, lineIs, lineOf}
-use Rattle.number.specs.Words.{unled, trimmed, wordOf}
-use Rattle.number.specs.Number as Number
-use Rattle.header.specs.Header.{firstWords, kindSaid, isNamed}
-use Rattle.heading.specs.Heading.{nameByte, isName}
-use Rattle.token.specs.Lex.{keywords, mayLieOutside, lift, unmarked, isMarked, keyOf, lexOf}
-use Rattle.kinds.specs.Kinds.{schedule, nextIn, nextOf, wantAt}
-use Rattle.machine.specs.Machine.{wantOf, fieldOf, keyStep, stepOf, oneOf}
 use Rattle.machine.specs.declared.State.the-variants.{Due, Field}
-use Rattle.sheet.specs.Tables.{empty, setLast, put, ringAfter}
+use Rattle.sheet.specs.Tables.{empty, put}
 use Rattle.sheet.specs.Reading.{stop}
-use Rattle.sheet.specs.First.{Stage, word, name, scale, part, Given, givenBy, Answers, refuses, passes, ends}
+use Rattle.sheet.specs.First.{Stage, word, name, scale, part, Given, givenBy, Answers, refuses, passes, finishes}
 
 -- `givenBy` with every definition opened, so that it computes
 abbrev opened : Mode → Stage → List ℕ → Given
-unfolding run kept all same allAt place endsCR content contentIs lineIs lineOf unled trimmed wordOf Number.value Number.ended Number.lean Number.integerIs Number.integerAt Number.integerOf Number.signOf Number.signs Number.signed Number.thousandths Number.isToken Number.isNeat Number.realIs Number.realAt Number.realSigned Number.realOf firstWords nameByte isName kindSaid isNamed keywords mayLieOutside schedule nextIn nextOf lift unmarked isMarked keyOf lexOf wantAt wantOf fieldOf keyStep stepOf oneOf setLast put ringAfter givenBy
+unfolding computed givenBy
 opened mode w bs = givenBy mode w bs
 
 -- a wrong name (6) before a malformed scale (8), which stands in the next record
@@ -37,4 +29,4 @@ first-in-sections = passes {w′ = name 1} refl (passes {w′ = scale} refl (pas
 -- what follows the EOF record, in exact mode
 first-after-eof : Answers Exact word 1 0 (text "MAPPA\r\nZ999_000100\r\n    1000.000\r\nEOF\r\nx") (stop 13 5 39)
 unfolding opened
-first-after-eof = passes {w′ = name 1} refl (passes {w′ = scale} refl (passes {w′ = part Due empty} refl (ends {o = empty} refl)))
+first-after-eof = passes {w′ = name 1} refl (passes {w′ = scale} refl (passes {w′ = part Due empty} refl (finishes {o = empty} refl)))

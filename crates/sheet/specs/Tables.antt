@@ -5,6 +5,7 @@ use mathlib.Core.Bool.{Bool, cond}
 use lib.ListN.{length, getD, set, replicate}
 use lib.Dec.{eqb}
 use lib.IntN.{ℤ, pos}
+use Rattle.laws.specs.Lists.{over}
 use Rattle.number.specs.Words.{trimmed}
 use Rattle.kinds.specs.Kinds.{rowWidth, lettersPlace, wantAt}
 use Rattle.token.specs.Lex.{unlift}
@@ -27,6 +28,14 @@ empty = record { rows = []; letters = []; islands = []; points = [] }
 infixl 40 _then_
 abbrev pub _then_ : Tables → Tables → Tables
 a then b = record { rows = a .rows ++ b .rows; letters = a .letters ++ b .letters; islands = a .islands ++ b .islands; points = a .points ++ b .points }
+
+-- how many rows they hold
+abbrev pub rowCount : Tables → ℕ
+rowCount o = length (o .rows) / rowWidth
+
+-- tables that held `old` and now hold `o` from their start, as a reading leaves them
+abbrev pub overOf : Tables → Tables → Tables
+overOf o old = record { rows = over (o .rows) (old .rows); letters = over (o .letters) (old .letters); islands = over (o .islands) (old .islands); points = over (o .points) (old .points) }
 
 -- kind and outside; a field the section lacks is 0
 abbrev pub newRow : ℕ → List ℤ

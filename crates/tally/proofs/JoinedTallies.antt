@@ -9,11 +9,11 @@ use lib.ListN.{length, length-append}
 use Rattle.record.specs.declared.Mode.{Mode}
 use Rattle.record.specs.Refusals.{fileMost}
 use Rattle.heading.specs.declared.Header.{Header}
-use Rattle.sheet.specs.Tables.{Tables, _then_}
+use Rattle.sheet.specs.Tables.{Tables, _then_, overOf, rowCount}
 use Rattle.sheet.specs.Reading.{sheet, reading, joined}
 use Rattle.sheet.proofs.Meaning.{reading-meaning}
 use Rattle.sheet.proofs.Join.{joining}
-use Rattle.made.specs.Made.{usedOf, overOf, rowCount}
+use Rattle.made.specs.Made.{usedOf}
 use Rattle.layout.proofs.ReadMade.{reading-made}
 use Rattle.layout.proofs.UsedLaws.{read-used}
 use Rattle.tally.specs.declared.Tally.{Tally}

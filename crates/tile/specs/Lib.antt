@@ -1,3 +1,3 @@
--- The definitions that the contracts of crate `tile` cite.
+-- To read beside document 01, "Tile points". (`alongOf` serves a private contract.)
 pub mod Tiles
 pub mod Examples

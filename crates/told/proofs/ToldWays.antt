@@ -90,9 +90,9 @@ pub put-out {ℓ} : {M : Type ℓ} (f : M → Written) (t : M → List ℕ) (l :
 put-out f t l e q p = p ∙ ap₂ (λ (a : Written). λ (xs : List ℕ). outputOf a xs l) (asked f q e) (ap t e)
 
 -- the listing s, its answer and the buffer l at exit
-pub listed : (s l : List ℕ) {l′ : List ℕ} {r v : Listed} → r ≡ listedOf s (length l) → l′ ≡ Listed.outputOf r s l → r ≡ v
-    → (listedTold v ≡ listedTold (listedOf s (length l))) × (l′ ≡ Listed.outputOf (listedOf s (length l)) s l)
-listed s l p o q = (told listedTold p q, o ∙ ap (λ (a : Listed). Listed.outputOf a s l) p)
+pub listed : (s l : List ℕ) {l′ : List ℕ} {r v : Listed} → r ≡ listedOf s (length l) → l′ ≡ Listed.listedIn r s l → r ≡ v
+    → (listedTold v ≡ listedTold (listedOf s (length l))) × (l′ ≡ Listed.listedIn (listedOf s (length l)) s l)
+listed s l p o q = (told listedTold p q, o ∙ ap (λ (a : Listed). Listed.listedIn a s l) p)
 
 -- ---- questions about a sheet
 

@@ -3,7 +3,7 @@
 // bytes; then the tile example. Its file `stdin` has the printed form, its file `stdout` the padded one.
 // Where 000 prints a part of a section alone, `stdin` has records of our own: before the vertices of 1.1.6 the first eight of its BORDO (the
 // keyword to the inner point), behind 1.1.7 its 820 vertices (753 on a circle round the inner point, 67 on a smaller one), and the EOF. The two notes
-// of 1.1.6 stand behind ten blanks as those of 1.1.7 do.
+// of 1.1.6 stand behind ten blanks as those of 1.1.7 do, where our text of 000 has a tab; the tab behind its vertices is left out.
 ghost use Prim.Native.Nat.{_≤_};
 ghost use lib.ListN.{length};
 use heading::Header;

@@ -1,5 +1,5 @@
 -- Demand 2's writing, as theorems on `write`'s answer and output; and what "well made" means. Assumes nothing.
-use mathlib.Core.Path.{_≡_, sym, _∙_, ap, ap₂}
+use mathlib.Core.Path.{_≡_, refl, sym, _∙_, ap, ap₂}
 use mathlib.Core.Bool.{true}
 use mathlib.Core.List.{List}
 use Prim.Native.Nat.{ℕ, _*_, _≤_}
@@ -10,21 +10,22 @@ use borrow.Author.Tests.{le-leb}
 use Rattle.laws.specs.Lists.{over}
 use Rattle.laws.proofs.Choice.{cond-first}
 use Rattle.record.specs.declared.Mode.{Mode}
-use Rattle.record.specs.declared.Mode.the-variants.{Exact}
+use Rattle.record.specs.declared.Mode.the-variants.{Loose, Exact}
 use Rattle.record.specs.Refusals.{fileMost}
 use Rattle.heading.specs.declared.Header.{Header}
 use Rattle.heading.specs.Heading.{isHeader}
 use Rattle.kinds.specs.Kinds.{rowWidth}
-use Rattle.sheet.specs.Tables.{Tables, _then_}
+use Rattle.sheet.specs.Tables.{Tables, _then_, overOf, rowCount}
 use Rattle.sheet.specs.Reading.{sheet, meaning, reading}
 use Rattle.sheet.proofs.Meaning.{reading-meaning}
+use Rattle.sheet.proofs.Exact.{exact-loose}
 use Rattle.made.specs.declared.Verdict.the-variants.{Fine, BadHeader}
-use Rattle.made.specs.Made.{judgeRows, judgeOf, usedOf, overOf, rowCount}
+use Rattle.made.specs.Made.{judgeRows, judgeOf, usedOf}
 use Rattle.made.proofs.UsedLaws.{behindOf, used-front, used-behind, judge-used, Long, fine-long}
 use Rattle.layout.specs.Sheet.{sheetText}
-use Rattle.writer.specs.Write.{writeOf, outputOf}
+use Rattle.writer.specs.Write.{writeOf, outputOf, numberOf}
 use Rattle.writer.specs.declared.Written.{Written}
-use Rattle.writer.specs.declared.Written.the-variants.{Wrote}
+use Rattle.writer.specs.declared.Written.the-variants.{Wrote, TooLong, NoRoom, Refused}
 use Rattle.layout.proofs.WrittenLaws.{sheet-meaning, written-then-read}
 use Rattle.layout.proofs.ReadMade.{reading-made}
 use Rattle.layout.proofs.ReadWritten.{read-written}
@@ -98,6 +99,13 @@ module _ (h : Header) (count : ℕ) (t : Tables) (room : ℕ) where
   unfolding writeOf
   write-fine e l r = rw (e, le-leb (length (sheetText h count t)) fileMost l, le-leb (length (sheetText h count t)) room r)
 
+-- **a refusal alters nothing**: whatever its number, the output is as it was
+pub refused-output : (w : Written) (s l : List ℕ) → (numberOf w ≡ 0 → ⊥) → outputOf w s l ≡ l
+refused-output (Wrote n) s l f = absurd (f refl)
+refused-output TooLong s l f = refl
+refused-output (NoRoom n) s l f = refl
+refused-output (Refused v) s l f = refl
+
 -- **written then read**: writing a well made sheet that uses listed codes, where it fits, gives bytes that the exact mode reads back as that same sheet
 pub written-read : (h : Header) (count : ℕ) (t : Tables) → judgeOf Exact h count t ≡ Fine → length (sheetText h count t) ≤ fileMost
     → reading Exact (sheetText h count t) ≡ sheet h (usedOf count t)
@@ -124,3 +132,13 @@ read-write-over bs h o old room l e r =
     let s : sheetText h n (overOf o old) ≡ sheetText h n o = sym (text-used h n (overOf o old)) ∙ ap (sheetText h n) u in
     let z = read-write bs h o room l e r in
     (w ∙ z .0, ap₂ (λ (x : Written) (y : List ℕ). outputOf x y l) w s ∙ z .1)
+
+-- **what was read is well made**, in either mode, on the tables as the reading leaves them: the premise of every question that is asked of a row alone
+pub read-fine-over : (mode : Mode) (bs : List ℕ) (h : Header) (o old : Tables) → reading mode bs ≡ sheet h o → judgeOf Loose h (rowCount o) (overOf o old) ≡ Fine
+read-fine-over mode bs h o old e =
+    let l = reading-meaning Loose bs h o (widened mode e) .1 in
+    sym (judge-used Loose h (rowCount o) (overOf o old)) ∙ ap (judgeOf Loose h (rowCount o)) (read-used Loose bs h o _ l) ∙ comes-made Loose bs h o l .0
+  where
+    widened : (mode : Mode) → reading mode bs ≡ sheet h o → reading Loose bs ≡ sheet h o
+    widened Loose q = q
+    widened Exact q = exact-loose bs h o q

@@ -13,8 +13,8 @@ is-same-requires c κs = search needs
 returns : tie.Need-returns
 returns c = search (road-ways, needs)
 
-is-marked-requires : tie.Need-is-marked-requires
-is-marked-requires c κs = search needs
+begins-in-kind2-requires : tie.Need-begins-in-kind2-requires
+begins-in-kind2-requires c κs = search needs
 
 returns-2 : tie.Need-returns-2
 returns-2 c = search (road-ways, needs)
@@ -22,4 +22,4 @@ returns-2 c = search (road-ways, needs)
 pub is-road-spec : {M : Type 1} → statement M
 is-road-spec =
     tie.close
-    (tie.spec slice-aggregate-is-same is-same-requires returns is-marked-requires returns-2)
+    (tie.spec slice-aggregate-is-same is-same-requires returns begins-in-kind2-requires returns-2)

@@ -6,13 +6,13 @@ use lib.Signed.{ltZ}
 use mir.Syntax.{w64}
 use mir.Val.{toZ, ofZ}
 use mir.Facts.{toZ-ofZ}
-use Rattle.crossing.specs.Runs.{along, Run}
+use Rattle.crossing.specs.Runs.{along, SideRun}
 use Rattle.crossing.proofs.RunLaws.{run-start, run-more}
 use Rattle.crossing.proofs.run_above.Statement.{statement}
 use Rattle.crossing.proofs.run_above.Tie as tie
 
 abbrev Inv-loop : tie.InvT-loop
-Inv-loop points from axis j stop bound e₀ e = Run (λ k. ltZ (toZ w64 bound) (along points axis (from + k))) j stop e
+Inv-loop points from axis j stop bound e₀ e = SideRun (λ k. ltZ (toZ w64 bound) (along points axis (from + k))) j stop e
 
 abbrev μ-loop : tie.MeasureT-loop
 μ-loop points from axis j stop bound e₀ e = stop - e

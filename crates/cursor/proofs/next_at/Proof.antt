@@ -56,12 +56,12 @@ use Rattle.record.proofs.Mode.Laws as Md′
 use Rattle.record.proofs.Found as Fd
 use Rattle.record.proofs.Found.Laws as Fd′
 use Rattle.cursor.specs.declared.Cursor.{Cursor}
-use Rattle.cursor.specs.declared.Request.{Request}
+use Rattle.cursor.specs.declared.Served.{Served}
 use Rattle.cursor.specs.Cursor.{handed, movedOn}
 use Rattle.cursor.proofs.Cursor as T
 use Rattle.cursor.proofs.Cursor.Laws as T′
-use Rattle.cursor.proofs.Request as S
-use Rattle.cursor.proofs.Request.Laws as S′
+use Rattle.cursor.proofs.Served as S
+use Rattle.cursor.proofs.Served.Laws as S′
 use Rattle.cursor.proofs.next as next
 use Rattle.cursor.proofs.next.Symbol as next-def
 use Rattle.cursor.proofs.next.Symbol.{name as #cursor·next}
@@ -158,7 +158,7 @@ module _ {M : Type 1} (𝓤 : URA M) (H : Heap 𝓤) (A : Atoms 𝓤) (W : Given
       nothing ! $ owned ! bool (Is bool) (bool-makes 𝓤 H A W) due _ refl $ fjoin ! $ move ! (3 ∷ 0 ∷ []) $ fjoin ! $ nothing ! $ move ! (3 ∷ 0 ∷ []) $ join ! $ move ! (2 ∷ 0 ∷ []) $ join ! $ join ! $ frame ! $ done !
 
   -- the contract's answer, of what `next` says
-  abbrev given-back : Found → Cursor → Request
+  abbrev given-back : Found → Cursor → Served
   given-back r d = record { found = r; at = d .at }
 
   exits : (r : Found) (d : Cursor) → (r ≡ handed c due) × (d ≡ movedOn c due) → Is Fd.the-row r (answer r ∷ []) → d .at < 2 ^ 64

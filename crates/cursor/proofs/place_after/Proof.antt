@@ -1,4 +1,4 @@
--- `cursor::place_after` meets its contract: each arm is a case of `after`. Assumes nothing.
+-- `cursor::place_after` meets its contract: each arm is a case of `placeAfter`. Assumes nothing.
 use borrow.Author.Needs.{needs}
 use Rattle.cursor.proofs.place_after.Statement.{statement}
 use Rattle.cursor.proofs.place_after.Tie as tie
