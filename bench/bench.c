@@ -1,6 +1,6 @@
 /* How fast the library is, beside the independent implementation of tests/reference.c, in one run.
-   bench [RUNS]: the best of so many runs (10) of reading, writing, the tally and the ring check, at a quarter and at full size
-   (12 MB); one memchr pass over the file is the floor. */
+   bench [RUNS]: the best of so many runs (10) of reading, writing, the tally, the ring check and the SUP file, at a quarter and at
+   full size (12 MB); one memchr pass over the file is the floor. */
 #define _POSIX_C_SOURCE 200809L
 #include "generate.h"
 #include "reference.h"
@@ -20,10 +20,11 @@ typedef struct {
     cxf_written (*write)(CXF_SHEET, uint8_t *, size_t);
     cxf_tally (*tally)(CXF_SHEET);
     cxf_ring (*ring)(CXF_SHEET, uint64_t, uint64_t);
+    cxf_sup (*sup)(CXF_SHEET, const uint8_t *, size_t, uint8_t *, size_t);
 } party;
 
-static const party PARTIES[] = { { "library", cxf_read, cxf_write, cxf_tally_sheet, cxf_ring_check },
-                                 { "reference", ref_read, ref_write, ref_tally_sheet, ref_ring_check } };
+static const party PARTIES[] = { { "library", cxf_read, cxf_write, cxf_tally_sheet, cxf_ring_check, cxf_sup_write },
+                                 { "reference", ref_read, ref_write, ref_tally_sheet, ref_ring_check, ref_sup_write } };
 enum { LIBRARY, REFERENCE, COUNT };
 
 static int runs = 10;
@@ -112,6 +113,18 @@ static tables town(size_t size) {
     return t;
 }
 
+/* Nothing but small parcels, in no order of their codes, some codes twice: more listed borders than a real sheet has. */
+static tables parcels(size_t size) {
+    tables t = empty_sheet(2 * size);
+    rng g = seeded(2, 0);
+    char letters[24];
+    for (size_t length = 60; length < size; length += 28 * 5 + 100) {
+        snprintf(letters, sizeof letters, "%d%s", (int)below(&g, 100000), one_in(&g, 20) ? "/a" : "");
+        add_row(&t, 1, 0, letters, 5, (double)between(&g, 1000, 50000), between(&g, 0, 9000000), between(&g, 0, 9000000));
+    }
+    return t;
+}
+
 /* ---- the items */
 
 typedef struct { tables sheet; bytes text; uint64_t mode; } job;
@@ -133,6 +146,11 @@ static uint64_t tally_item(const party *p, const job *j, tables *to, bytes *out)
 static uint64_t ring_item(const party *p, const job *j, tables *to, bytes *out) {
     (void)to, (void)out;
     return p->ring(SHEET(&j->sheet), 0, 0).number;
+}
+
+static uint64_t sup_item(const party *p, const job *j, tables *to, bytes *out) {
+    (void)to;
+    return p->sup(SHEET(&j->sheet), (const uint8_t *)"20261115", 8, out->at, out->len).number;
 }
 
 static void measure(const char *name, item run, job full, job quarter) {
@@ -195,5 +213,10 @@ int main(int argc, char **argv) {
     job ring = job_of(round_borders(RING, 1), false), half = job_of(round_borders(RING / 2, 1), false);
     half.text.len = ring.text.len / 4;
     measure("ring check", ring_item, ring, half);
+    measure("sup", sup_item, exact, exact4);
+    measure("sup parcels", sup_item, job_of(parcels(FULL), false), job_of(parcels(FULL / 4), false));
+#ifndef CXF_SUP
+    printf("the library has no cxf_sup_write yet: in sup the reference stands in its place\n");
+#endif
     return 0;
 }

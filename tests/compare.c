@@ -20,20 +20,21 @@
 
 typedef enum {
     READ, WRITE, BORDER_AT, TEXT_AT, RING_AREA, NET_AREA, TALLY_SHEET, TALLY_TAKE, RING_CHECK, TILE_POINT, RECORD_AT, INTEGER, REAL,
-    LISTING, ENTRIES
+    LISTING, SUP_WRITE, ENTRIES
 } entry;
 
 static const char *const NAMES[ENTRIES] = {
     "read", "write", "border_at", "text_at", "ring_area", "net_area", "tally_sheet", "tally_take", "ring_check", "tile_point",
-    "record_at", "integer", "real", "listing",
+    "record_at", "integer", "real", "listing", "sup_write",
 };
 
 /* How often the reference gave each number, so that thin coverage shows. */
-#define NUMBERS 21
+#define NUMBERS 24
 static uint64_t given[ENTRIES][2][NUMBERS]; /* by mode where there is one: 0 loose, 1 exact */
 static uint64_t listing_says[NUMBERS];
 static uint64_t classes[7], rings_simple, pairs_self, pairs_next, pairs_ends, pairs_other, rights, centroids, both_texts, lists_whole;
 static uint64_t whole_files, rewritten;
+static uint64_t sup_kinds[4], sup_listed_most, sup_equal_codes, sup_minus, sup_wide[9], sup_wide_listed, sup_past[2];
 static uint64_t answers, differences, shown_most = 1;
 
 /* ---- What is being asked, for the report ---- */
@@ -228,6 +229,15 @@ static flat of_listed(cxf_listed a) {
     return f;
 }
 
+static flat of_sup(cxf_sup a) {
+    flat f = {.count = 0};
+    put(&f, "number", a.number);
+    put(&f, "row", a.row);
+    put(&f, "line", a.line);
+    put(&f, "length", a.length);
+    return f;
+}
+
 /* Compares two answers; `lent` says what else went wrong with what was lent, or is null. */
 static void judge(flat library, flat reference, const char *lent) {
     bool same = lent == NULL;
@@ -256,7 +266,7 @@ typedef struct { uint8_t *low, *high, *at; size_t len, before, behind; } pen;
 
 enum { PAGES = 65536, GUARD = 96, GUARD_BYTE = 0xC3 };
 
-static pen SRC, OUT, ROWS, LETTERS, ISLANDS, POINTS, NAME, FIGURES;
+static pen SRC, OUT, ROWS, LETTERS, ISLANDS, POINTS, NAME, FIGURES, DATE;
 
 static void build(pen *p, size_t most) {
     const size_t n = (most + 4 * GUARD + PAGES) / PAGES * PAGES + PAGES;
@@ -541,6 +551,26 @@ static void try_check(const tables *t, uint64_t row, uint64_t ring) {
     else pairs_other++;
 }
 
+static cxf_sup try_sup(rng *g, const tables *t, const uint8_t *date, size_t date_len, size_t out_len) {
+    ask_sheet(SUP_WRITE, t);
+    now.src = date;
+    now.src_len = date_len;
+    arg("out_len", out_len);
+    const uint8_t *lent_date = lend_copy(&DATE, g, date, date_len, 1);
+    uint8_t *out = lend(&OUT, g, out_len, 1);
+    memset(OUT.at, (int)below(g, 256), OUT.len);
+    uint8_t *mine_out = copied(&out_copy, &OUT);
+    const cxf_sup theirs = cxf_sup_write(LENT(t), lent_date, date_len, out, out_len);
+    const cxf_sup mine = ref_sup_write(OWN(t), date, date_len, mine_out, out_len);
+    const char *lent = sheet_altered(t);
+    if (lent == NULL && !holds(&DATE, date)) lent = "the date was altered, or what lies around it";
+    if (lent == NULL && !holds(&OUT, mine_out)) lent = "the text, or what lies around it, differs";
+    if (lent != NULL && differences < shown_most)
+        printf("\nthe library's text:\n%.*s\nthe reference's text:\n%.*s\n", (int)out_len, (const char *)OUT.at, (int)out_len, (const char *)mine_out);
+    judge(of_sup(theirs), of_sup(mine), lent);
+    return mine;
+}
+
 /* A row with its own parts of the tables, as a sheet of one row. */
 static tables alone(const tables *t, uint64_t row) {
     tables one = *t;
@@ -666,6 +696,56 @@ static void take_once(rng *g, const tables *t, uint64_t row) {
     try_take(g, t, row, figures, figures_len);
 }
 
+static int64_t sup_figure(const uint8_t *line) {
+    char text[11] = {0};
+    memcpy(text, line + 11, 10);
+    return strtoll(text, NULL, 10);
+}
+
+/* What can be seen of a SUP text by itself. As a blank is the lowest letter and no code ends in one, the left fields rise
+   as the codes do; and a figure never falls as the exact area rises. */
+static void look_at_sup(const tables *t, const uint8_t *text, size_t length) {
+    const cxf_tally tally = ref_tally_sheet(OWN(t));
+    const uint64_t listed = (uint64_t)tally.figures[t->kind == 3 ? 4 : 20];
+    const uint8_t *list = text + 7 * 23, *last = list + listed * 23;
+    if (length != 23 * (14 + listed)) own_fault("a SUP text has not 14 lines and one for each listed border");
+    for (size_t i = 0; i < length; i++) {
+        const bool good = i % 23 == 21 ? text[i] == 13 : i % 23 == 22 ? text[i] == 10 : text[i] >= 32 && text[i] <= 126;
+        if (!good) own_fault("a SUP line is not 21 letters and CR LF");
+    }
+    for (const uint8_t *line = list; line < last; line += 23) {
+        if (sup_figure(line) < 0) sup_minus++;
+        if (line == list) continue;
+        const int order = memcmp(line - 23, line, 11);
+        if (order > 0 || (order == 0 && sup_figure(line - 23) > sup_figure(line))) own_fault("the listed borders are not in order");
+        if (order == 0) sup_equal_codes++;
+    }
+    if (sup_figure(last + 6 * 23) != sup_figure(last + 4 * 23) - sup_figure(last + 5 * 23))
+        own_fault("SBILANCIO is not TOTALE less CONFINE");
+    sup_kinds[t->kind]++;
+    if (listed > sup_listed_most) sup_listed_most = listed;
+}
+
+/* A SUP file with a date and an output of some length; the sheet is lent. */
+static void sup_once(rng *g, const tables *t) {
+    uint8_t date[16];
+    const size_t date_len = make_date(g, date);
+    const cxf_sup need = ref_sup_write(OWN(t), date, date_len, NULL, 0);
+    size_t out_len = need.number == 14 ? (size_t)need.length : below(g, 800);
+    if (need.number == 14 && one_in(g, 4)) out_len -= one_in(g, 2) ? 1 : 1 + below(g, out_len);
+    else if (one_in(g, 2)) out_len += below(g, 50);
+    const cxf_sup a = try_sup(g, t, date, date_len, out_len);
+    if (a.number == 0) look_at_sup(t, out_copy.at, (size_t)a.length);
+    const cxf_tally tally = ref_tally_sheet(OWN(t));
+    if (a.number == 18 && tally.number == 0) sup_past[tally.figures[21] < tally.figures[23]]++; /* parcels have TOTALE's sign */
+    if (a.number == 23) {
+        const uint64_t listed = (uint64_t)tally.figures[t->kind == 3 ? 4 : 20];
+        if (a.line <= 7) sup_wide[0]++;
+        else if (a.line <= 7 + listed) sup_wide_listed++;
+        else sup_wide[a.line - 7 - listed]++;
+    }
+}
+
 /* Questions on one sheet; `all` asks each, else some. */
 static void question_sheet(rng *g, const tables *t, bool all) {
     lend_sheet(g, t);
@@ -689,6 +769,7 @@ static void question_sheet(rng *g, const tables *t, bool all) {
         const uint64_t row = some_row(g, t, BORDO);
         try_check(t, row, some_ring(g, t, row));
     }
+    if (all || one_in(g, 3)) sup_once(g, t);
     if (all || one_in(g, 3)) {
         const uint64_t row = some_row(g, t, one_in(g, 3) ? TESTO : BORDO);
         try_alone(t, row, some_ring(g, t, row));
@@ -786,16 +867,34 @@ static void rings_case(rng *g, size_class size) {
         take_once(g, &sheet, row);
     }
     try_tally(&sheet);
+    sup_once(g, &sheet);
 }
 
 static void wound_case(rng *g) {
     make_wound(g, &sheet);
     lend_sheet(g, &sheet);
     try_tally(&sheet);
+    sup_once(g, &sheet);
     const uint64_t row = some_row(g, &sheet, BORDO);
     take_once(g, &sheet, row);
     try_net(&sheet, row);
     try_area(&sheet, row, some_ring(g, &sheet, row));
+}
+
+/* SUP files of a sheet with listed borders; now and then the sheet is damaged too, for the order of the refusals. */
+static void sup_case(rng *g, size_class size) {
+    make_listed(g, size, &sheet);
+    if (one_in(g, 12)) damage_sheet(g, &sheet);
+    lend_sheet(g, &sheet);
+    for (int i = 0; i < (size == LONG ? 1 : 3); i++) sup_once(g, &sheet);
+    try_tally(&sheet);
+}
+
+static void combined_case(rng *g) {
+    make_combined(g, &sheet);
+    lend_sheet(g, &sheet);
+    sup_once(g, &sheet);
+    sup_once(g, &sheet);
 }
 
 static void number_case(rng *g) {
@@ -889,6 +988,9 @@ static void one_case(rng *g) {
     else if (draw < 800) sheet_file_case(g, LONG);
     else if (draw < 1200) sheet_case(g, LONG);
     else if (draw < 1400) rings_case(g, LONG);
+    else if (draw < 1500) sup_case(g, LONG);
+    else if (draw < 1700) combined_case(g);
+    else if (draw < 9000) sup_case(g, one_in(g, 2) ? SHORT : MIDDLE);
     else if (draw < 42000) sheet_file_case(g, SHORT);
     else if (draw < 55000) sheet_file_case(g, MIDDLE);
     else if (draw < 74000) sheet_case(g, SHORT);
@@ -922,6 +1024,13 @@ static void print_counts(void) {
     printf("  rings: simple %llu; first faulty pair an edge itself %llu, with the next %llu, of edge 0 with a later one %llu, other %llu\n",
            (unsigned long long)rings_simple, (unsigned long long)pairs_self, (unsigned long long)pairs_next, (unsigned long long)pairs_ends,
            (unsigned long long)pairs_other);
+    printf("  SUP files of kinds 1 to 3: %llu %llu %llu; at most %llu listed, %llu below zero, %llu with the code of the one before\n",
+           (unsigned long long)sup_kinds[1], (unsigned long long)sup_kinds[2], (unsigned long long)sup_kinds[3],
+           (unsigned long long)sup_listed_most, (unsigned long long)sup_minus, (unsigned long long)sup_equal_codes);
+    printf("  SUP figures too long: FABBRIC %llu, listed %llu, then PARTIC to SBILANCIO", (unsigned long long)sup_wide[0],
+           (unsigned long long)sup_wide_listed);
+    for (int i = 1; i <= 7; i++) printf(" %llu", (unsigned long long)sup_wide[i]);
+    printf("; TOTALE past the limit %llu, below zero %llu\n", (unsigned long long)sup_past[0], (unsigned long long)sup_past[1]);
     printf("  files with no fault read as they were made %llu, written again as they stood %llu\n", (unsigned long long)whole_files,
            (unsigned long long)rewritten);
 }
@@ -943,6 +1052,7 @@ int main(int argc, char **argv) {
     build(&POINTS, FILE_LIMIT / 12 * 16 + 4096);
     build(&NAME, 64);
     build(&FIGURES, 4096);
+    build(&DATE, 64);
 
     const int stops[] = {SIGSEGV, SIGBUS, SIGFPE, SIGILL, SIGABRT, SIGTRAP, SIGVTALRM};
     for (size_t i = 0; i < sizeof stops / sizeof stops[0]; i++) signal(stops[i], on_signal);
@@ -959,6 +1069,9 @@ int main(int argc, char **argv) {
         one_case(&g);
     }
     print_counts();
+#ifndef CXF_SUP
+    printf("\nthe library has no cxf_sup_write yet: there the reference was asked twice\n");
+#endif
     printf("\n%llu cases of seed %llu from case %llu: %llu answers compared, %llu differences\n", (unsigned long long)count,
            (unsigned long long)seed, (unsigned long long)first, (unsigned long long)answers, (unsigned long long)differences);
     return differences == 0 ? 0 : 1;

@@ -537,6 +537,266 @@ void make_full(rng *g, size_t length, tables *t) {
     }
 }
 
+/* ---- Sheets for SUP files ---- */
+
+/* Appends a closed ring whose doubled area is just `doubled`; how many vertices it has. From the first vertex it goes out,
+   round a square as often as that goes in, and back; then triangles make up the rest. */
+static size_t add_exact_ring(rng *g, tables *t, int64_t doubled, at origin) {
+    static const int corners[4][2] = {{1, 1}, {-1, 1}, {-1, -1}, {1, -1}};
+    const int64_t round = 2 * REACH * REACH; /* an edge from corner to corner */
+    const bool turned = one_in(g, 2);        /* x and y exchanged: the other sense */
+    const size_t first = t->points_len;
+    const int64_t edges = doubled / round, rest = doubled % round;
+    const int64_t tall = rest / REACH, low = tall < REACH ? tall : REACH;
+    const int64_t triangles[3][2] = {{REACH, low}, {REACH, tall - low}, {rest % REACH, 1}};
+#define AT(dx, dy) add_point(t, origin.x + (turned ? (dy) : (dx)), origin.y + (turned ? (dx) : (dy)))
+    AT(0, 0);
+    for (int64_t i = 0; edges > 0 && i <= edges; i++) AT(corners[i % 4][0] * REACH, corners[i % 4][1] * REACH);
+    if (edges > 0) AT(0, 0);
+    for (int k = 0; k < 3; k++) {
+        if (triangles[k][0] * triangles[k][1] == 0) continue;
+        AT(triangles[k][0], 0);
+        AT(triangles[k][0], triangles[k][1]);
+        AT(0, 0);
+    }
+    while (t->points_len - first < 8) AT(0, 0);
+#undef AT
+    return (t->points_len - first) / 2;
+}
+
+/* A border with these letters, its outer ring of `outer`, and its islands of `holes` together; `count` of them. */
+static void add_measured(rng *g, tables *t, const uint8_t *text, size_t n, int64_t outer, int64_t holes, size_t count, at origin) {
+    int64_t row[WIDTH];
+    begin_border(g, t, row, origin);
+    t->letters_len -= (size_t)row[LETTERS];
+    add_letters(t, text, n);
+    row[LETTERS] = (int64_t)n;
+    row[ISLANDS] = (int64_t)count;
+    row[VERTICES] = (int64_t)add_exact_ring(g, t, outer, origin);
+    for (size_t i = 0; i < count; i++) {
+        const int64_t part = i + 1 == count ? holes : one_in(g, 3) ? 0 : between(g, 0, holes);
+        const size_t vertices = add_exact_ring(g, t, part, origin);
+        holes -= part;
+        add_island(t, vertices);
+        row[VERTICES] += (int64_t)vertices;
+    }
+    add_row(t, row);
+}
+
+/* A border of this net area, with or without islands. */
+static void add_net(rng *g, tables *t, const uint8_t *text, size_t n, int64_t net, at origin) {
+    const int64_t most = one_in(g, 2) ? 3 : 100000000;
+    int64_t outer = net > 0 ? net : 0, holes = net < 0 ? -net : 0;
+    if (one_in(g, 3)) {
+        const int64_t more = between(g, 0, most);
+        outer += more;
+        holes += more;
+    }
+    add_measured(g, t, text, n, outer, holes, holes > 0 ? 1 + below(g, 3) : below(g, 2), origin);
+}
+
+/* A doubled area: small, at a half, or anything of a parcel's size. */
+static int64_t some_net(rng *g) {
+    switch (below(g, 5)) {
+    case 0: return between(g, -3, 3);
+    case 1: return (one_in(g, 2) ? 1000000 : -1000000) + between(g, -1, 1);
+    case 2: return 2000000 * between(g, -30, 30) + 1000000 + between(g, -1, 1);
+    case 3: return between(g, -40000000, 40000000);
+    default: return between(g, -1000000000000LL, 4000000000000LL);
+    }
+}
+
+/* A total at the end of what 10 characters show: 9,999,999,999 or -999,999,999, the next figure, or near. */
+static int64_t end_total(rng *g) {
+    const int64_t above = 19999999999000000LL, under = -1999999999000000LL;
+    const int64_t off = one_in(g, 3) ? between(g, -4000000, 4000000) : between(g, -2, 2);
+    return (one_in(g, 2) ? above : under) + off;
+}
+
+/* Letters of a PARCEL: few codes, so that many are equal; codes that begin each other; blanks and signs inside. */
+static size_t parcel_code(rng *g, const tables *t, uint8_t out[255]) {
+    static const uint8_t alphabet[] = {'0', '1', ' ', '!', '/', 'A', 'S', 'a', '~', '+'};
+    static const char *const chain = "1000000000";
+    size_t n = 0;
+    switch (below(g, 6)) {
+    case 0: n = (size_t)snprintf((char *)out, 16, "%d", (int)below(g, 12)); break;
+    case 1: n = (size_t)snprintf((char *)out, 16, "%d", (int)below(g, 2000)); break;
+    case 2:
+        n = 1 + below(g, 10);
+        memcpy(out, chain, n);
+        break;
+    case 3: /* all but one of the letters of the name */
+        n = 10;
+        memcpy(out, t->name, n);
+        break;
+    default:
+        n = 1 + below(g, one_in(g, 6) ? 10 : 3);
+        for (size_t i = 0; i < n; i++) out[i] = PICK(g, alphabet);
+        break;
+    }
+    if (out[0] == ' ' || (t->kind == 2 && (out[0] == 'S' || out[0] == 'A'))) out[0] = 'B';
+    if (out[n - 1] == ' ' || out[n - 1] == '+') out[n - 1] = 'x';
+    return n;
+}
+
+/* Letters of an OTHER border: 11, and not the name. */
+static size_t other_code_letters(rng *g, const tables *t, uint8_t out[255]) {
+    static const char *const words[] = {"STRADA 1234", "ACQUA123456", "1234567890+", "S1234567890", "~~~~~~~~~~~", "!!!!!!!!!!!"};
+    if (one_in(g, 4)) {
+        const char *word = PICK(g, words);
+        memcpy(out, word, 11);
+    } else {
+        memcpy(out, t->name, 11);
+        out[one_in(g, 2) ? 10 : below(g, 11)] = (uint8_t)between(g, '0', '3');
+    }
+    if (memcmp(out, t->name, 11) == 0) out[10] = '~';
+    return 11;
+}
+
+typedef enum { CONFINE, OTHER, ROAD, WATER, BUILDING, PARCEL, CLASSES } class;
+
+static size_t class_letters(rng *g, const tables *t, class c, uint8_t out[255]) {
+    static const char *const roads[] = {"STRADA", "S", "S7", "S7+", "STRADA DEL MULINO"};
+    static const char *const waters[] = {"ACQUA", "A", "A12", "A1+", "ACQUA DI FOSSO"};
+    static const char *const buildings[] = {"7+", "+", "1000000000+", "12345678901+", "1 +"}; /* one of 11 letters is OTHER */
+    const char *word = NULL;
+    switch (c) {
+    case CONFINE: memcpy(out, t->name, 11); return 11;
+    case OTHER: return other_code_letters(g, t, out);
+    case PARCEL: return parcel_code(g, t, out);
+    case ROAD: word = t->kind == 2 ? PICK(g, roads) : roads[0]; break;
+    case WATER: word = t->kind == 2 ? PICK(g, waters) : waters[0]; break;
+    default: word = PICK(g, buildings); break;
+    }
+    memcpy(out, word, strlen(word));
+    return strlen(word);
+}
+
+static void add_of_class(rng *g, tables *t, class c, int64_t net, at origin) {
+    uint8_t text[255];
+    const size_t n = class_letters(g, t, c, text);
+    add_net(g, t, text, n, net, origin);
+}
+
+/* Splits a net that one ring could not have, or any net that is to be a sum. */
+static void add_sum(rng *g, tables *t, class c, int64_t net, at origin) {
+    const int64_t most = 7000000000000000000LL;
+    const int64_t part = net > most || net < -most ? net / 2 : one_in(g, 3) ? some_net(g) : 0;
+    if (part != 0) add_of_class(g, t, c, part, origin);
+    add_of_class(g, t, c, net - part, origin);
+}
+
+/* Room for every ring on all sides of it. */
+static at inner_origin(rng *g) {
+    const int64_t low = REAL_LOW + REACH, high = REAL_HIGH - REACH;
+    switch (below(g, 4)) {
+    case 0: return (at){low, high};
+    case 1: return (at){high, low};
+    case 2: return (at){0, 5000000000LL};
+    default: return (at){between(g, low, high), between(g, low, high)};
+    }
+}
+
+/* A parcel whose code has over 11 letters. */
+static void add_long_code(rng *g, tables *t, at origin) {
+    static const size_t lengths[] = {12, 12, 13, 255};
+    uint8_t text[255];
+    memset(text, '1', sizeof text);
+    add_net(g, t, text, PICK(g, lengths), some_net(g), origin);
+}
+
+/* A row that is no border and that no line may tell of. */
+static void add_note(rng *g, tables *t) {
+    int64_t row[WIDTH] = {0};
+    uint8_t text[255];
+    row[KIND] = TESTO;
+    row[LETTERS] = (int64_t)class_letters(g, t, (class)below(g, CLASSES), text);
+    add_letters(t, text, (size_t)row[LETTERS]);
+    add_row(t, row);
+}
+
+/* One figure at its end: a listed border's, a class's, TOTALE's while its parts are shorter, or SBILANCIO's alone. */
+static void add_ends(rng *g, tables *t, at origin) {
+    static const class parts[] = {BUILDING, PARCEL, ROAD, WATER, OTHER};
+    uint8_t text[255];
+    const int64_t end = end_total(g), size = end < 0 ? -end : end;
+    switch (below(g, 5)) {
+    case 0: add_sum(g, t, PICK(g, parts), end, origin); break;
+    case 1: /* SVIL-ALL */
+        add_measured(g, t, text, class_letters(g, t, CONFINE, text), one_in(g, 2) ? size : 0, size, 1 + below(g, 2), origin);
+        break;
+    case 2: add_measured(g, t, text, class_letters(g, t, CONFINE, text), size, 0, 0, origin); break;
+    case 3: { /* TOTALE */
+        const int64_t parcels = end / 3, roads = end / 4;
+        add_sum(g, t, PARCEL, parcels, origin);
+        add_sum(g, t, ROAD, roads, origin);
+        add_sum(g, t, WATER, end - parcels - roads, origin);
+        break;
+    }
+    default: { /* TOTALE less CONFINE is -999,999,999 or one less */
+        const int64_t parcels = some_net(g);
+        add_of_class(g, t, PARCEL, parcels, origin);
+        const int64_t outside = parcels + 1999999998000000LL + between(g, -3, 3) * 1000000;
+        add_measured(g, t, text, class_letters(g, t, CONFINE, text), outside, 0, 0, origin);
+        break;
+    }
+    }
+}
+
+void make_listed(rng *g, size_class size, tables *t) {
+    static const class mostly[] = {CONFINE, OTHER, OTHER, ROAD, WATER, BUILDING, PARCEL, PARCEL, PARCEL};
+    empty_sheet(g, t);
+    const at origin = inner_origin(g);
+    const class listed = t->kind == 3 ? OTHER : PARCEL;
+    const size_t borders = size == SHORT ? below(g, 8) : size == MIDDLE ? below(g, 40) : 200 + below(g, 1500);
+    const bool alike = one_in(g, 4), too_long = one_in(g, 8); /* only listed borders; codes over 11 letters among them */
+    if (size != LONG && one_in(g, 4)) add_ends(g, t, origin);
+    for (size_t i = 0; i < borders; i++) {
+        if (one_in(g, 12)) add_note(g, t);
+        if (too_long && one_in(g, 5)) add_long_code(g, t, origin);
+        add_of_class(g, t, alike ? listed : PICK(g, mostly), some_net(g), origin);
+    }
+    if (size != LONG && one_in(g, 8)) add_ends(g, t, origin);
+}
+
+void make_combined(rng *g, tables *t) {
+    const int64_t limit = 9000000000000000000LL, off[] = {0, 1, -1, 100000, -100000};
+    uint8_t text[255];
+    empty_sheet(g, t);
+    const at origin = inner_origin(g);
+    const int64_t sign = one_in(g, 2) ? 1 : -1;
+    /* waters, or CONFINE's islands, are what parcels and roads leave of the limit, or take back from it, but for `off` */
+    const int64_t parcels = between(g, 5, 89) * 100000000000000000LL, roads = between(g, 5, 89) * 100000000000000000LL;
+    const int64_t left = one_in(g, 4) ? between(g, 0, 80) * 100000000000000000LL /* far past it, so that 64 bits would not hold it */
+                                      : limit - parcels - roads + PICK(g, off);  /* -8.8 * 10^18 to 8 * 10^18 */
+    const int64_t holes = sign > 0 && left > 0 && one_in(g, 2) ? left : sign < 0 && left < 0 && one_in(g, 2) ? -left : 0;
+    if (one_in(g, 4)) add_of_class(g, t, PARCEL, 0, origin);
+    add_sum(g, t, PARCEL, sign * parcels, origin);
+    add_sum(g, t, ROAD, sign * roads, origin);
+    if (holes == 0) add_sum(g, t, WATER, sign * left, origin);
+    else if (holes < 7000000000000000000LL) add_measured(g, t, text, class_letters(g, t, CONFINE, text), 0, holes, 1, origin);
+    if (one_in(g, 4)) add_long_code(g, t, origin);
+    if (one_in(g, 4)) add_of_class(g, t, PARCEL, some_net(g), origin);
+}
+
+size_t make_date(rng *g, uint8_t out[16]) {
+    static const char *const ends[] = {"20230231", "00000101", "99991231", "20240229", "19990712", "20231301", "20230001", "20230132",
+                                       "20230100", "20239901", "20230199", "2023 101", "2023010 ", "-0230101"};
+    static const uint8_t wrong[] = {' ', '/', ':', 'a', 0, 255, '0' + 128, '+'};
+    const char *end = PICK(g, ends);
+    char text[24];
+    size_t n = 8;
+    if (one_in(g, 5)) memcpy(out, end, 8);
+    else {
+        snprintf(text, sizeof text, "%04d%02d%02d", (int)below(g, 10000), 1 + (int)below(g, 12), 1 + (int)below(g, 31));
+        memcpy(out, text, 8);
+    }
+    memcpy(out + 8, "01010101", 8);
+    if (one_in(g, 16)) out[below(g, 8)] = PICK(g, wrong);
+    if (one_in(g, 24)) n = one_in(g, 3) ? 7 : one_in(g, 2) ? 9 : one_in(g, 2) ? 0 : below(g, 17);
+    return n;
+}
+
 /* ---- Sheets damaged ---- */
 
 static void stretch(rng *g, size_t *len, size_t room) {

@@ -48,6 +48,13 @@ void make_rings(rng *g, size_class size, tables *t);
 void make_wound(rng *g, tables *t);
 /* A well made sheet with listed codes that is written in exactly `length` bytes (a million or more). */
 void make_full(rng *g, size_t length, tables *t);
+/* A well made sheet for a SUP file, its doubled areas drawn and then built: listed borders with equal codes, codes that begin
+   each other, 10 to 13 letters, nets below zero, halves, and figures at the 10 characters' end. LONG lists hundreds. */
+void make_listed(rng *g, size_class size, tables *t);
+/* The same with TOTALE at the tally's limit or just past it, on either side of zero, while each part keeps it. */
+void make_combined(rng *g, tables *t);
+/* A SUP file's date, good or nearly; its length. */
+size_t make_date(rng *g, uint8_t out[16]);
 /* A sheet that is whole but for one count or length just past its rule: an island of 3, a line of 1 or of 10,000, 256
    letters and the like, with all that belongs to it. As a file too it is refused for that alone. */
 void make_odd(rng *g, tables *t);

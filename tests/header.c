@@ -18,6 +18,7 @@
 #define cxf_record paper_record
 #define cxf_number paper_number
 #define cxf_listed paper_listed
+#define cxf_sup paper_sup
 #define STRUCTS_ALONE
 #include "reference.h"
 #undef cxf_reading
@@ -31,12 +32,16 @@
 #undef cxf_record
 #undef cxf_number
 #undef cxf_listed
+#undef cxf_sup
 
 #include "cxf.h"
 #include "cxf.h" /* once is twice */
 
 /* The functions again, as the tests declare them: the compiler refuses another parameter or answer. */
 DECLARE_INTERFACE(cxf)
+#ifdef CXF_SUP
+DECLARE_SUP(cxf)
+#endif
 uint64_t cxf_interface(void);
 
 /* ---- structs: the offset, the size and the type of each field ---- */
@@ -122,6 +127,14 @@ SAME(number, value);
 WHOLE(listed);
 SAME(listed, number);
 SAME(listed, length);
+
+#ifdef CXF_SUP
+WHOLE(sup);
+SAME(sup, number);
+SAME(sup, row);
+SAME(sup, line);
+SAME(sup, length);
+#endif
 
 /* ---- numbers, as document 01 and the paper of the interface have them ---- */
 
@@ -219,13 +232,19 @@ static void expect(int holds, const char *what)
     wrong = 1;
 }
 
+#ifdef CXF_SUP
+enum { LAST_REFUSAL = 23 };
+#else
+enum { LAST_REFUSAL = 20 };
+#endif
+
 /* One sentence for each refusal, and one for all other numbers. */
 static void sentences(void)
 {
     const char *other = cxf_refusal_text(0);
     for (uint64_t n = 1; n <= 24; n++) {
         const char *text = cxf_refusal_text(n);
-        const int listed = n <= 20 && n != 16;
+        const int listed = n <= LAST_REFUSAL && n != 16;
         expect(text[0] != 0 && text[strlen(text) - 1] == '.' && strchr(text, '\n') == NULL, "a refusal's text is no sentence");
         expect((strcmp(text, other) != 0) == listed, "a refusal has no sentence of its own, or another number has one");
         for (uint64_t m = 1; m < n; m++)

@@ -1,9 +1,11 @@
-/* The reference: document 01's base in plain C, written from the papers for clarity, not for speed.
-   It shares no line with the library. The sentences in comments are document 01's, or the interface paper's. */
+/* The reference: document 01's base, and T-01 of document 02, in plain C, written from the papers for clarity, not for
+   speed. It shares no line with the library. The sentences in comments are document 01's, or the interface paper's; those
+   of the SUP file are T-01's. */
 #include "reference.h"
 
 #include <stdbool.h>
 #include <stdio.h>
+#include <stdlib.h>
 #include <string.h>
 
 #define FILE_LIMIT 16777216u
@@ -17,12 +19,14 @@
 #define LISTING_LIMIT 8192u
 #define NAME_LENGTH 11u
 #define ROW_WIDTH 12u
+#define SUP_LEFT 11u
+#define SUP_RIGHT 10u
 
 /* The refusal numbers, by the names of document 01's table. */
 enum {
     TOO_LONG = 1, CUT = 2, LINE_END = 3, LENGTH = 4, BYTE = 5, HEADER = 6, NO_KEYWORD = 7, NO_NUMBER = 8,
     NO_LETTERS = 9, CODE = 10, COUNT = 11, OPEN_RING = 12, AFTER_EOF = 13, NO_ROOM = 14, NOT_MADE = 15,
-    TOO_WIDE = 17, TOTAL = 18, MISSING = 19, OUTSIDE_FRAME = 20
+    TOO_WIDE = 17, TOTAL = 18, MISSING = 19, OUTSIDE_FRAME = 20, BAD_DATE = 21, LONG_CODE = 22, WIDE_FIGURE = 23
 };
 
 /* "Each element is a row of 12 numbers": their places. */
@@ -980,4 +984,155 @@ cxf_listed ref_listing(const uint8_t *src, size_t src_len, uint8_t *out, size_t 
     if (n > out_len) return (cxf_listed){NO_ROOM, n};
     memcpy(out, text, n);
     return (cxf_listed){0, n};
+}
+
+/* ---- SUP files ---- */
+
+/* The classes, in the order of the tally's figures; four figures each. */
+enum { CONFINE = 1, OTHER, ROAD, WATER, BUILDING, PARCEL };
+enum { BORDERS, OUTER, HOLES, HOLES_TOTAL };
+
+static int64_t figure_of(const cxf_tally *t, int class, int which) { return t->figures[4 * (class - 1) + which]; }
+
+/* "Areas are net": both totals keep the tally's limit, so their difference is an i64. */
+static int64_t class_net(const cxf_tally *t, int class) { return figure_of(t, class, OUTER) - figure_of(t, class, HOLES_TOTAL); }
+
+/* "a date of eight digits, month 01-12, day 01-31" */
+static bool good_date(const uint8_t *date, size_t len) {
+    if (len != 8) return false;
+    for (size_t i = 0; i < len; i++)
+        if (!is_digit(date[i])) return false;
+    const int month = 10 * (date[4] - '0') + (date[5] - '0'), day = 10 * (date[6] - '0') + (date[7] - '0');
+    return month >= 1 && month <= 12 && day >= 1 && day <= 31;
+}
+
+/* "the floor of (D + 1,000,000) / 2,000,000": C's division goes toward zero, so a rest below zero is one too many. */
+static int64_t square_metres(__int128 doubled) {
+    const __int128 n = doubled + 1000000;
+    return (int64_t)(n / 2000000 - (n % 2000000 < 0 ? 1 : 0));
+}
+
+/* A border that the file lists. */
+typedef struct { const uint8_t *code; size_t length; int64_t net; } entry;
+
+/* "Parcels go by bytes of their code, equal codes by rising exact area"; a beginning comes before its continuation. */
+static int in_order(const void *one, const void *another) {
+    const entry *a = one, *b = another;
+    const int bytes = memcmp(a->code, b->code, a->length < b->length ? a->length : b->length);
+    if (bytes != 0) return bytes;
+    if (a->length != b->length) return a->length < b->length ? -1 : 1;
+    return a->net < b->net ? -1 : a->net > b->net ? 1 : 0;
+}
+
+/* "Lines are an 11-character left field and a 10-character right field": left aligned, right aligned (000, 1.2.1). */
+typedef struct { const uint8_t *left; size_t left_len; char right[24]; } sup_line;
+
+static sup_line figure_line(const uint8_t *left, size_t left_len, int64_t figure) {
+    sup_line line = {left, left_len, ""};
+    snprintf(line.right, sizeof line.right, "%lld", (long long)figure);
+    return line;
+}
+
+static sup_line named_line(const char *word, int64_t figure) { return figure_line((const uint8_t *)word, strlen(word), figure); }
+
+static void put_sup_line(writer *w, const sup_line *line) {
+    put(w, line->left, line->left_len);
+    for (size_t n = line->left_len; n < SUP_LEFT; n++) put(w, " ", 1);
+    for (size_t n = strlen(line->right); n < SUP_RIGHT; n++) put(w, " ", 1);
+    put_line(w, line->right);
+}
+
+static void *sup_room(uint64_t n, size_t size) {
+    void *p = calloc((size_t)n + 1, size);
+    if (p == NULL) {
+        fprintf(stderr, "reference: out of memory\n");
+        exit(2);
+    }
+    return p;
+}
+
+/* The borders that the file lists, in row order; 22 "listed code over 11 letters (with the first such row)". */
+static refusal take_listed(const sheet *s, entry *listed_borders, uint64_t *n) {
+    const uint64_t wanted = s->kind == QUADRO ? OTHER : PARCEL;
+    refusal first = {0, 0};
+    spot at = {0, 0, 0};
+    *n = 0;
+    for (uint64_t row = 0; row < s->count; row++) {
+        if (row_of(s, row)[KIND] == BORDO && class_of(s, row, at) == wanted) {
+            int64_t outer, inner;
+            border_areas(s, row, at, &outer, &inner); /* the tally has judged its rings */
+            const size_t length = (size_t)row_of(s, row)[LETTERS];
+            listed_borders[(*n)++] = (entry){s->letters + at.letters, length, outer - inner};
+            if (length > SUP_LEFT && first.number == 0) first = (refusal){LONG_CODE, row};
+        }
+        at = after_row(s, row, at);
+    }
+    return first;
+}
+
+/* The lines in the printed order (000, 1.2.2); how many. `total` is TOTALE's exact sum, `outside` CONFINE's. */
+static uint64_t sup_lines(const sheet *s, const uint8_t *date, const cxf_tally *t, const entry *listed_borders, uint64_t listed_count,
+                          __int128 total, int64_t outside, sup_line *lines) {
+    const int64_t totale = square_metres(total), confine = square_metres(outside);
+    uint64_t n = 0;
+    lines[n] = (sup_line){s->name, NAME_LENGTH, ""};
+    memcpy(lines[n++].right, date, 8);
+    lines[n++] = named_line("N.FABBRIC", figure_of(t, BUILDING, BORDERS));
+    lines[n++] = named_line("N.PARTIC", figure_of(t, PARCEL, BORDERS));
+    lines[n++] = named_line("N.STRADE", figure_of(t, ROAD, BORDERS));
+    lines[n++] = named_line("N.ACQUE", figure_of(t, WATER, BORDERS));
+    lines[n++] = named_line("N.SVIL-ALL", figure_of(t, CONFINE, HOLES)); /* "SVIL-ALL comes from CONFINE's islands" */
+    lines[n++] = named_line("FABBRIC", square_metres(class_net(t, BUILDING)));
+    for (uint64_t i = 0; i < listed_count; i++)
+        lines[n++] = figure_line(listed_borders[i].code, listed_borders[i].length, square_metres(listed_borders[i].net));
+    lines[n++] = named_line("PARTIC", square_metres(class_net(t, PARCEL)));
+    lines[n++] = named_line("STRADE", square_metres(class_net(t, ROAD)));
+    lines[n++] = named_line("ACQUE", square_metres(class_net(t, WATER)));
+    lines[n++] = named_line("SVIL-ALL", square_metres(figure_of(t, CONFINE, HOLES_TOTAL)));
+    lines[n++] = named_line("TOTALE", totale);
+    lines[n++] = named_line("CONFINE", confine);
+    lines[n++] = named_line("SBILANCIO", totale - confine); /* "the difference of the two printed figures" */
+    return n;
+}
+
+/* "Refusals: after 6, 15 and the tally's own, 21 .., 22 .., 18 where a combined total passes that limit either side of
+   zero, 23 figure over 10 characters (with the first such line, from 1), then 14 with the needed length." */
+cxf_sup ref_sup_write(CXF_SHEET, const uint8_t *date, size_t date_len, uint8_t *out, size_t out_len) {
+    const sheet s = THE_SHEET;
+    const cxf_tally t = ref_tally_sheet(kind, name, name_len, scale, count, rows, rows_len, letters, letters_len, islands, islands_len,
+                                        points, points_len);
+    if (t.number != 0) return (cxf_sup){t.number, t.row, 0, 0};
+    if (!good_date(date, date_len)) return (cxf_sup){BAD_DATE, 0, 0, 0};
+
+    cxf_sup answer = {0, 0, 0, 0};
+    uint64_t n;
+    entry *borders = sup_room(count, sizeof *borders);
+    sup_line *lines = sup_room(count + 14, sizeof *lines);
+    const refusal code = take_listed(&s, borders, &n);
+    /* "TOTALE .. parcels, roads, waters, .. islands", "CONFINE is outer only"; "A kind 3 sheet lists its OTHER borders,
+       net, in place of parcels, with TOTALE and CONFINE both their sum." */
+    __int128 total = (__int128)class_net(&t, PARCEL) + class_net(&t, ROAD) + class_net(&t, WATER) + figure_of(&t, CONFINE, HOLES_TOTAL);
+    int64_t outside = figure_of(&t, CONFINE, OUTER);
+    if (kind == QUADRO) total = outside = class_net(&t, OTHER);
+
+    if (code.number != 0) {
+        answer = (cxf_sup){code.number, code.row, 0, 0};
+    } else if (total > TALLY_MOST || total < -TALLY_MOST) {
+        answer.number = TOTAL;
+    } else {
+        if (n > 1) qsort(borders, (size_t)n, sizeof *borders, in_order);
+        const uint64_t line_count = sup_lines(&s, date, &t, borders, n, total, outside, lines);
+        writer measure = {NULL, 0}, w = {out, 0};
+        for (uint64_t i = 0; i < line_count && answer.number == 0; i++) {
+            if (strlen(lines[i].right) > SUP_RIGHT) answer = (cxf_sup){WIDE_FIGURE, 0, i + 1, 0};
+            put_sup_line(&measure, &lines[i]);
+        }
+        if (answer.number == 0) {
+            answer = (cxf_sup){measure.length > out_len ? NO_ROOM : 0, 0, 0, measure.length};
+            for (uint64_t i = 0; i < line_count && answer.number == 0; i++) put_sup_line(&w, &lines[i]);
+        }
+    }
+    free(borders);
+    free(lines);
+    return answer;
 }

@@ -35,6 +35,7 @@ typedef struct { uint64_t number; float east, south; } cxf_tile;
 typedef struct { uint64_t number, start, length, next; } cxf_record;
 typedef struct { uint64_t number; int64_t value; } cxf_number;
 typedef struct { uint64_t number, length; } cxf_listed;
+typedef struct { uint64_t number, row, line, length; } cxf_sup; /* T-01; line, from 1, with 23 */
 
 #define DECLARE_INTERFACE(P)                                                                             \
     cxf_reading P##_read(const uint8_t *src, size_t src_len, uint64_t mode, int64_t *rows,               \
@@ -55,9 +56,17 @@ typedef struct { uint64_t number, length; } cxf_listed;
     cxf_number P##_real(const uint8_t *content, size_t content_len, uint64_t mode);                      \
     cxf_listed P##_listing(const uint8_t *src, size_t src_len, uint8_t *out, size_t out_len);
 
+#define DECLARE_SUP(P) cxf_sup P##_sup_write(CXF_SHEET, const uint8_t *date, size_t date_len, uint8_t *out, size_t out_len);
+
 #ifndef STRUCTS_ALONE /* header.c declares the functions with the header's own structs */
 DECLARE_INTERFACE(cxf)
 DECLARE_INTERFACE(ref)
+DECLARE_SUP(ref)
+#ifdef CXF_SUP
+DECLARE_SUP(cxf)
+#else /* until the library has it the reference stands in its place */
+#define cxf_sup_write ref_sup_write
+#endif
 uint64_t cxf_interface(void);
 #endif
 

@@ -58,6 +58,16 @@ noSuch = 19
 abbrev pub offTile : ℕ
 offTile = 20
 
+-- those of document 02, T-01: a SUP file's date, the code of a border that it lists, a figure
+abbrev pub badDate : ℕ
+badDate = 21
+
+abbrev pub longCode : ℕ
+longCode = 22
+
+abbrev pub wideFigure : ℕ
+wideFigure = 23
+
 -- a file is at most so many bytes
 abbrev pub fileMost : ℕ
 fileMost = 16777216

@@ -1,4 +1,4 @@
-// The refusals of document 01 by name.
+// The refusals of documents 01 and 02 by name.
 pub const TOO_LONG: usize = 1;
 
 pub const CUT: usize = 2;
@@ -36,3 +36,9 @@ pub const PAST_LIMIT: usize = 18;
 pub const NO_SUCH: usize = 19;
 
 pub const OFF_TILE: usize = 20;
+
+pub const BAD_DATE: usize = 21;
+
+pub const LONG_CODE: usize = 22;
+
+pub const WIDE_FIGURE: usize = 23;

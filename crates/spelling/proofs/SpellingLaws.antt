@@ -24,12 +24,12 @@ use Rattle.spelling.proofs.DigitLaws.{digit-low, digit-high, digits-all
 
 -- ---- `aligned`
 
-aligned-length : (w : ℕ) (s : List ℕ) → length s ≤ w → length (aligned w s) ≡ w
+pub aligned-length : (w : ℕ) (s : List ℕ) → length s ≤ w → length (aligned w s) ≡ w
 unfolding aligned
 aligned-length w s h = omega (arith, length-append (replicate (w - length s) 32) s, length-replicate {A = ℕ} (w - length s) 32)
 
 -- the blanks in front are those that reading drops
-aligned-unled : (w : ℕ) (s : List ℕ) → run blank s ≡ 0 → unled (aligned w s) ≡ s
+pub aligned-unled : (w : ℕ) (s : List ℕ) → run blank s ≡ 0 → unled (aligned w s) ≡ s
 unfolding unled aligned
 aligned-unled w s e =
     let k = w - length s in
@@ -51,7 +51,7 @@ unled-aligned c =
 first-digit : (s t : List ℕ) → all digit s ≡ true → 1 ≤ length s → digit (getD (s ++ t) 0 0) ≡ true
 first-digit s t e h = rw (List·getD-append s t 0 0 h) (all-each digit s 0 e h)
 
-no-blank : (s : List ℕ) → digit (getD s 0 0) ≡ true → run blank s ≡ 0
+pub no-blank : (s : List ℕ) → digit (getD s 0 0) ≡ true → run blank s ≡ 0
 no-blank s e = run-none blank s (ne-eqb (getD s 0 0) 32 (λ q. omega (arith, digit-low (getD s 0 0) e)))
 
 -- ---- integers
@@ -212,7 +212,7 @@ module _ (m : ℕ) where
   unfolding decimal
   decimal-length = token-length (digits 8 (m / 1000)) (places 3 (m % 1000)) (places-length 3 (m % 1000))
 
-minus-none : (a : ℕ) → minus (pos a) ≡ []
+pub minus-none : (a : ℕ) → minus (pos a) ≡ []
 unfolding minus
 minus-none a = rw (le-ltb a 0 zero-le)
 

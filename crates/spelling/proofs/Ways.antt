@@ -12,15 +12,17 @@ use lib.Signed.{ltZ, leZ, nonNeg}
 use mir.Syntax.{w64}
 use mir.Val.{SFits, Fits, toZ, ofZ}
 use mir.ValLaws.{toZ-ofZ}
-use borrow.Author.Tests.{lt-leb, le-leb, ltb-true, ltb-false, leb-false}
+use borrow.Author.Tests.{lt-leb, le-leb, ltb-true, ltb-false, leb-true, leb-false}
 use Rattle.laws.specs.Lists.{tail, over, pasted}
 use Rattle.laws.proofs.Choice.{false≢true}
 use Rattle.laws.proofs.TableLaws.{pasted-none, pasted-front, pasted-before, pasted-one, pasted-part, length-pasted, length-over, over-next, over-whole}
 use Rattle.number.specs.Number.{isReal}
 use Rattle.spelling.specs.Stored.{hasRoom, Stored}
 use Rattle.spelling.specs.Spelling.{digits, places, countText, aligned, integerText, minus, decimal, realText}
-use Rattle.spelling.proofs.DigitLaws.{digits-few, digits-more, shorter}
-use Rattle.spelling.proofs.SpellingLaws.{body-length, decimal-length, in-plus, in-minus}
+use Rattle.spelling.specs.Figures.{wholeText, isNarrow, figureText}
+use Rattle.spelling.proofs.DigitLaws.{digits-few, digits-more, digits-fit, digits-most, shorter}
+use Rattle.spelling.proofs.SpellingLaws.{body-length, decimal-length, in-plus, in-minus, minus-none}
+use Rattle.spelling.proofs.FigureLaws.{digits-wider, narrow-plus, narrow-minus}
 
 -- ---- the digits, last one first: `done` stands from `at` on, and `rest` has those that are missing
 
@@ -289,6 +291,89 @@ real-made z y m r l a b d room i h n p q e =
     e ∙ rw (i, x) (pasted-front base (r - length (minus z)) r (minus z) (decimal (natAbs z)) o (omega arith))
     ∙ aligned-over 12 8 (r - length (minus z)) s l (omega (arith, length-append (minus z) (decimal (natAbs z)), decimal-length (natAbs z))) (omega arith) (omega arith)
 
+-- ---- a figure
+
+narrow-below : (z : ℤ) → SFits w64 z → ltZ z (negsuc 999999998) ≡ true → isNarrow z ≡ false
+narrow-below (pos a) f e = absurd (false≢true e)
+narrow-below (negsuc a) f e = let h : a < 2 ^ 63 = f .sfits in narrow-minus a (omega arith) ∙ lt-leb a 999999998 (ltb-true 999999998 a e)
+
+narrow-above : (z : ℤ) → SFits w64 z → ltZ (pos 9999999999) z ≡ true → isNarrow z ≡ false
+narrow-above (pos a) f e = let h : a < 2 ^ 63 = f .sfits in narrow-plus a (omega arith) ∙ lt-leb a 9999999999 (ltb-true 9999999999 a e)
+narrow-above (negsuc a) f e = absurd (false≢true e)
+
+narrow-between : (z : ℤ) → SFits w64 z → ltZ z (negsuc 999999998) ≡ false → ltZ (pos 9999999999) z ≡ false → isNarrow z ≡ true
+narrow-between (pos a) f e g = let h : a < 2 ^ 63 = f .sfits in narrow-plus a (omega arith) ∙ le-leb a 9999999999 (ltb-false 9999999999 a g)
+narrow-between (negsuc a) f e g = let h : a < 2 ^ 63 = f .sfits in narrow-minus a (omega arith) ∙ le-leb a 999999998 (ltb-false 999999998 a e)
+
+module _ (z : ℤ) (f : SFits w64 z) where
+  pub figure-low : ltZ (toZ w64 (ofZ w64 z)) (negsuc 999999998) ≡ true → false ≡ isNarrow z
+  figure-low e = sym (narrow-below z f (rw (back z f) at e))
+
+  pub figure-high : ltZ (pos 9999999999) (toZ w64 (ofZ w64 z)) ≡ true → false ≡ isNarrow z
+  figure-high e = sym (narrow-above z f (rw (back z f) at e))
+
+  pub figure-in : ltZ (toZ w64 (ofZ w64 z)) (negsuc 999999998) ≡ false → ltZ (pos 9999999999) (toZ w64 (ofZ w64 z)) ≡ false → true ≡ isNarrow z
+  figure-in e g = sym (narrow-between z f (rw (back z f) at e) (rw (back z f) at g))
+
+-- a figure is within the range of a real, below ten digits, and its sign finds room before them
+record Narrow (z : ℤ) : Type 0 where
+  pub real : isReal z ≡ true
+  pub few : natAbs z < 10000000000
+  pub room : length (minus z) + length (digits 10 (natAbs z)) ≤ 10
+
+narrow-is : (z : ℤ) → SFits w64 z → isNarrow z ≡ true → Narrow z
+unfolding isReal minus
+narrow-is (pos a) f e =
+    let h : a < 2 ^ 63 = f .sfits in
+    let k : a ≤ 9999999999 = leb-true a 9999999999 (sym (narrow-plus a (omega arith)) ∙ e) in
+    record {
+      real = le-leb a 99999999999 (omega arith);
+      few = omega arith;
+      room = rw (minus-none a) (omega (arith, digits-most 10 a));
+    }
+narrow-is (negsuc a) f e =
+    let h : a < 2 ^ 63 = f .sfits in
+    let k : a ≤ 999999998 = leb-true a 999999998 (sym (narrow-minus a (omega arith)) ∙ e) in
+    record {
+      real = rw (le-leb a 9999999998 (omega arith));
+      few = omega arith;
+      room = omega (arith, digits-fit 10 9 (suc a) (omega arith) (omega arith));
+    }
+
+module _ (z : ℤ) (f : SFits w64 z) (h : isNarrow z ≡ true) where
+  pub figure-real : isReal (toZ w64 (ofZ w64 z)) ≡ true
+  figure-real = ap isReal (back z f) ∙ narrow-is z f h .real
+
+  module _ (m : ℕ) (e : m ≡ natAbs (toZ w64 (ofZ w64 z))) where
+    figure-abs : m ≡ natAbs z
+    figure-abs = e ∙ ap natAbs (back z f)
+
+    pub figure-few : m < 10000000000
+    figure-few = omega (arith, narrow-is z f h .few, figure-abs)
+
+    pub figure-sign : (r : ℕ) → r + length (digits 10 m) ≡ 10 → length (minus (toZ w64 (ofZ w64 z))) ≤ r
+    figure-sign r q =
+        let w : r + length (digits 10 (natAbs z)) ≡ 10 = rw figure-abs at q in
+        rw (back z f) (omega (arith, narrow-is z f h .room))
+
+    -- digits and sign over blanks
+    pub figure-made : (r : ℕ) (l b d : List ℕ) → 10 ≤ length l
+        → (r + length (digits 10 m) ≡ 10) × (b ≡ pasted (over (blanks 10) l) r (digits 10 m))
+        → d ≡ pasted b (r - length (minus (toZ w64 (ofZ w64 z)))) (minus (toZ w64 (ofZ w64 z))) → d ≡ over (figureText z) l
+    unfolding figureText wholeText countText
+    figure-made r l b d room q e =
+        let n = natAbs z in
+        let few : n < 10000000000 = narrow-is z f h .few in
+        let base : List ℕ = over (blanks 10) l in
+        let o : length base ≡ length l = length-over (blanks 10) l (omega arith) in
+        let g : length (minus z) + length (digits 10 n) ≤ 10 = narrow-is z f h .room in
+        let w : r + length (digits 10 n) ≡ 10 = rw figure-abs at (q .0) in
+        let x : b ≡ pasted base r (digits 10 n) = q .1 ∙ rw figure-abs in
+        let k : r - length (minus z) + length (minus z) ≡ r = omega arith in
+        e ∙ rw (back z f, x, digits-wider 10 20 n (omega arith) (omega arith) few)
+        (pasted-front base (r - length (minus z)) r (minus z) (digits 10 n) k (omega arith)
+        ∙ aligned-over 10 10 (r - length (minus z)) (minus z ++ digits 10 n) l (omega (arith, length-append (minus z) (digits 10 n))) (omega arith) (omega arith))
+
 -- ---- the copy: the first `i` characters stand over what was there
 
 pub record Copying (text l out : List ℕ) (i : ℕ) : Type 0 where
@@ -321,18 +406,19 @@ module _ (v n : ℕ) where
   pub integer-done : v ≤ 9999 → 4 ≤ n → true ≡ (leb v 9999 && leb 4 n)
   integer-done h k = rw (le-leb v 9999 h, le-leb 4 n k)
 
-module _ (z : ℤ) (n : ℕ) (f : SFits w64 z) (r : Bool) (e : r ≡ isReal (toZ w64 (ofZ w64 z))) where
-  real-is : r ≡ isReal z
-  real-is = e ∙ ap isReal (back z f)
+-- a signed number that passes its test p, in w characters
+module _ (p : ℤ → Bool) (w : ℕ) (z : ℤ) (n : ℕ) (f : SFits w64 z) (r : Bool) (e : r ≡ p (toZ w64 (ofZ w64 z))) where
+  test-is : r ≡ p z
+  test-is = e ∙ ap p (back z f)
 
-  pub real-out : r ≡ false → false ≡ (isReal z && leb 12 n)
-  real-out x = rw (← real-is, x)
+  pub signed-out : r ≡ false → false ≡ (p z && leb w n)
+  signed-out x = rw (← test-is, x)
 
-  pub real-tight : r ≡ true → n < 12 → false ≡ (isReal z && leb 12 n)
-  real-tight x k = rw (← real-is, x, lt-leb 12 n k)
+  pub signed-tight : r ≡ true → n < w → false ≡ (p z && leb w n)
+  signed-tight x k = rw (← test-is, x, lt-leb w n k)
 
-  pub real-done : r ≡ true → 12 ≤ n → true ≡ (isReal z && leb 12 n)
-  real-done x k = rw (← real-is, x, le-leb 12 n k)
+  pub signed-done : r ≡ true → w ≤ n → true ≡ (p z && leb w n)
+  signed-done x k = rw (← test-is, x, le-leb w n k)
 
 module _ (v r : ℕ) (text : List ℕ) (e : (r + length (digits 20 v) ≡ 20) × (text ≡ pasted (blanks 20) r (digits 20 v))) (l : List ℕ) where
   count-size : 20 - r ≡ length (countText v)

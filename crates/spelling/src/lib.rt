@@ -1,5 +1,6 @@
 // A number as exact mode has it (document 01, "Records"): the 4 characters of an integer, the 12 of a real.
 // And as the listing has it ("Listing program"): its digits alone.
+// And as a SUP file has it (document 02, T-01): right aligned in 10 characters.
 // And bytes as they are, at a place.
 // All of it is proved, and no public function has a `requires`: a value out of range, or too little room, alters nothing.
 ghost use mathlib.Core.Path.{_≡_};
@@ -12,6 +13,7 @@ ghost use lib.IntN.{natAbs};
 ghost use Rattle.laws.specs.Lists.{over, pasted};
 ghost use Rattle.number.specs.Number.{isReal};
 ghost use Rattle.spelling.specs.Stored.{Stored};
+ghost use Rattle.spelling.specs.Figures.{figureWidth, isNarrow, figureText};
 ghost use Rattle.spelling.specs.Spelling.{integerMost, integerWidth, realWidth, digits, places, countText, integerText, minus, realText};
 
 const INTEGER_MOST: usize = 9999;
@@ -25,6 +27,13 @@ const REAL_MOST: i64 = 99_999_999_999;
 const REAL_WIDTH: usize = 12;
 
 const COUNT_WIDTH: usize = 20;
+
+// The numbers of at most 10 characters, a minus counted.
+const FIGURE_LEAST: i64 = -999_999_999;
+
+const FIGURE_MOST: i64 = 9_999_999_999;
+
+const FIGURE_WIDTH: usize = 10;
 
 // The last digit of a number, as a character.
 fn glyph(n: usize) -> u8
@@ -226,4 +235,44 @@ pub fn spell_count(value: usize, out: &mut [u8]) -> usize
     }
     copy(&text[at..], out);
     size
+}
+
+// A figure finds room in its 10 characters.
+pub fn is_narrow(value: i64) -> bool
+    ensures { λ r. ⌜ r ≡ isNarrow value ⌝ }
+{
+    if value < FIGURE_LEAST {
+        return false;
+    }
+    if value > FIGURE_MOST {
+        return false;
+    }
+    true
+}
+
+// The characters of a figure, straight at the start of `out`: blanks, and over them digits and sign.
+fn put_figure(value: i64, out: &mut [u8])
+    requires { ⌜ (isNarrow value ≡ true) × (figureWidth ≤ length (now out)) ⌝ }
+    ensures { λ _. ⌜ now (out .exit) ≡ over (figureText value) (now (out .entry)) ⌝ }
+{
+    copy(b"          ", out);
+    let m = magnitude(value);
+    let at = put_digits(out, FIGURE_WIDTH, m);
+    put_sign(out, at, value);
+}
+
+// True where the 10 characters of a figure now stand at the start of `out`;
+// false, and `out` as it was, where the figure has more characters or `out` is shorter.
+pub fn spell_figure(value: i64, out: &mut [u8]) -> bool
+    ensures { λ r. ⌜ r ≡ (isNarrow value && leb figureWidth (length (now (out .entry)))) ⌝ }
+    ensures { λ r. ⌜ now (out .exit) ≡ cond r (over (figureText value) (now (out .entry))) (now (out .entry)) ⌝ }
+{
+    if is_narrow(value) {
+        if out.len() < FIGURE_WIDTH {
+            return false;
+        }
+        put_figure(value, out);
+        return true;
+    }
+    false
 }

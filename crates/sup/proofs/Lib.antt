@@ -1,0 +1,6 @@
+-- The laws of a SUP file's text, and the ways through the code.
+pub mod SupLaws
+mod RoundWays
+mod LineWays
+mod TotalWays
+mod DateWays

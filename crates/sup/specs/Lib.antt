@@ -1,0 +1,11 @@
+-- To read beside document 02, T-01, and the specification's section 1.2: square metres, the date, a line, the lines of a SUP file, the answer.
+pub mod Metres
+pub mod Date
+pub mod Lines
+pub mod Sup
+pub mod Answer
+pub mod Examples
+pub mod AnswerExamples
+-- For private contracts alone:
+pub mod Printing
+pub mod Totals
