@@ -3,3 +3,4 @@ pub mod Asked
 pub mod Told
 pub mod Answers
 pub mod Tallies
+pub mod SupFiles
