@@ -77,7 +77,7 @@ enum {
     CXF_NO_ROOM = 14,   /* what was lent is too short: the answer says what is needed */
     CXF_NOT_MADE = 15,  /* the sheet handed in could not come from a reading: the answer names the row */
     CXF_TOO_WIDE = 17,  /* a ring with a vertex more than 20,000,000 mm from its first, in x or in y */
-    CXF_TOO_LARGE = 18, /* a figure of a tally above 9,000,000,000,000,000,000, or TOTALE of a SUP file beyond it, either side of 0 */
+    CXF_TOO_LARGE = 18, /* a figure of a tally, or TOTALE of a SUP file, beyond 9,000,000,000,000,000,000 */
     CXF_NO_SUCH = 19,   /* no such row, border or ring */
     CXF_OFF_TILE = 20,  /* outside the tile frame */
     CXF_BAD_DATE = 21,  /* a SUP file's date that is not eight digits, with a month 01 to 12 and a day 01 to 31 */
@@ -325,12 +325,12 @@ typedef struct {
     uint64_t length;      /* the bytes that were written, or that are needed with 14 */
 } cxf_sup;
 
-/* Writes the SUP file that goes out with a sheet to the start of out: its name and the date, counts, and areas in square metres, all
-   of them those of the sheet's tally. It has 14 lines and one for each border that it lists, 23 bytes each. Listed are the
-   parcels, or the borders of class CXF_OTHER of a QUADRO D'UNIONE, by the bytes of their codes, equal codes by rising area. The date
-   is eight digits: year, month, day. Refused are, in this order: the header (6), the rows (15), the tally (17, 18), the date (21),
-   the first row with a listed code that is too long (22), a TOTALE beyond the tally's limit (18, with no row), the first figure
-   that is too wide (23), the room (14). Past the text out is not altered. */
+/* Writes the SUP file that goes out with a sheet to the start of out: its name and the date, the counts and areas of the sheet's
+   tally, and the area of each border that it lists, in square metres. It has 14 lines and one for each listed border, 23 bytes
+   each. Listed are the parcels, or the borders of class CXF_OTHER of a QUADRO D'UNIONE, by the bytes of their codes, equal codes by
+   rising area. The date is eight digits: year, month, day. Refused are, in this order: the header (6), the rows (15), the tally
+   (17, 18), the date (21), the first row with a listed code that is too long (22), a TOTALE beyond the tally's limit (18, with no
+   row), the first figure that is too wide (23), the room (14). Past the text out is not altered. */
 cxf_sup cxf_sup_write(CXF_SHEET, const uint8_t *date, size_t date_len, uint8_t *out, size_t out_len);
 
 /* ---- ring check ------------------------------------------------------------------------------------------------------ */
