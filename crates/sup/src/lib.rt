@@ -277,8 +277,10 @@ pub fn sup_text(
     ensures { λ r. ⌜ now (out .exit) ≡ supOutput r (sheetSup header count (tablesOf (now (rows .entry)) (now (letters .entry)) (now (islands .entry)) (now (points .entry))) (now (date .entry))) (now (out .entry)) ⌝ }
 {
     let taken = tally_sheet(header, count, rows, letters, islands, points);
-    let figures = taken.tally.figures;
-    match taken.refusal {
+    let tally = taken.tally;
+    let figures = tally.figures;
+    let refusal = taken.refusal;
+    match refusal {
         Refusal::None => dated_sup(
             header,
             count,

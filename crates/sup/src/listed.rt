@@ -161,12 +161,10 @@ pub(crate) fn put_listed(
 {
     let mut w = next_window(header, count, rows, letters, islands, points, Since::First);
     let mut next = at;
-    let mut i = 0;
     let mut j = 0;
     while j < w.count {
         let d = w.items[j];
         next = put_border(out, next, rows, letters, islands, points, d);
-        i += 1;
         j += 1;
         if j == WIDTH {
             w = next_window(
