@@ -4,3 +4,5 @@ mod RoundWays
 mod LineWays
 mod TotalWays
 mod DateWays
+mod ListedWays
+mod TextWays

@@ -16,11 +16,11 @@ use Rattle.sup.specs.declared.SupAnswer.{SupAnswer}
 use Rattle.sup.specs.declared.SupAnswer.the-variants.{Wrote, NoRoom, Refused, BadDate, CodeTooLong, PastTotal, WideFigure}
 use Rattle.sup.specs.Date.{isDate}
 use Rattle.sup.specs.Examples.{computed as computedText}
-use Rattle.sup.specs.Answer.{codeNets, codesInOrder, storedSup, printedSup, datedSup, supOf}
+use Rattle.sup.specs.Answer.{codeNets, codesInOrder, storedSup, linedSup, printedSup, datedSup, supOf}
 
 -- the definitions opened, so that they compute
 unfoldable pub computed : Header → ℕ → Tables → List ℕ → ℕ → SupAnswer
-unfolding supOf datedSup printedSup storedSup codesInOrder codeNets isDate computedText computedOrder computedTally
+unfolding supOf datedSup printedSup linedSup storedSup codesInOrder codeNets isDate computedText computedOrder computedTally
 computed h count t date room = supOf h count t date room
 
 abbrev today : List ℕ

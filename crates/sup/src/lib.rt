@@ -21,9 +21,8 @@ ghost use Rattle.sup.specs.Date.{isDate};
 ghost use Rattle.sup.specs.Sup.{exactTotal, isLimited, firstWide, supText};
 ghost use Rattle.sup.specs.Answer.{codesInOrder, sheetSup, linedSup, printedSup, datedSup, supOf, supOutput};
 use crate::dating::is_date;
-use crate::listed::is_any_wide;
+use crate::listed::first_wide_listed;
 use crate::listed::put_listed;
-use crate::listed::wide_listed;
 use crate::printing::put_date;
 use crate::printing::put_lines;
 use crate::totalling::first_wide;
@@ -85,11 +84,9 @@ fn first_wide_line(
     if in_head != 0 {
         return in_head;
     }
-    if is_any_wide(header, count, rows, letters, islands, points) {
-        let in_list = wide_listed(header, count, rows, letters, islands, points);
-        if in_list != 0 {
-            return in_list;
-        }
+    let in_list = first_wide_listed(header, count, rows, letters, islands, points);
+    if in_list != 0 {
+        return in_list;
     }
     let foot = foot_figures(header.kind, figures, total);
     first_wide(&foot, FIRST_LISTED + listed)
@@ -277,8 +274,10 @@ pub fn sup_text(
     ensures { λ r. ⌜ now (out .exit) ≡ supOutput r (sheetSup header count (tablesOf (now (rows .entry)) (now (letters .entry)) (now (islands .entry)) (now (points .entry))) (now (date .entry))) (now (out .entry)) ⌝ }
 {
     let taken = tally_sheet(header, count, rows, letters, islands, points);
-    let figures = taken.tally.figures;
-    match taken.refusal {
+    let tally = taken.tally;
+    let figures = tally.figures;
+    let refusal = taken.refusal;
+    match refusal {
         Refusal::None => dated_sup(
             header,
             count,

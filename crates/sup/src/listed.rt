@@ -58,8 +58,8 @@ fn is_wide_at(
     !is_narrow(metres_at(rows, islands, points, d))
 }
 
-// Whether any is, in row order: so that the windows are walked for a line only where there is one to find.
-pub(crate) fn is_any_wide(
+// Whether any is, in row order.
+fn is_any_wide(
     header: Header,
     count: usize,
     rows: &[i64],
@@ -86,8 +86,8 @@ pub(crate) fn is_any_wide(
     false
 }
 
-// The first line of a listed border whose figure is too wide; 0 where there is none.
-pub(crate) fn wide_listed(
+// The first line of such a border, in order; 0 where there is none.
+fn wide_listed(
     header: Header,
     count: usize,
     rows: &[i64],
@@ -120,6 +120,24 @@ pub(crate) fn wide_listed(
             );
             j = 0;
         }
+    }
+    0
+}
+
+// The windows are walked for that line only where there is one to find.
+pub(crate) fn first_wide_listed(
+    header: Header,
+    count: usize,
+    rows: &[i64],
+    letters: &[u8],
+    islands: &[u16],
+    points: &[i64],
+) -> usize
+    requires { ⌜ judgeRows Loose count 0 (tablesOf (now rows) (now letters) (now islands) (now points)) ≡ Fine ⌝ }
+    ensures { λ r. ⌜ r ≡ wideFrom 8 (figuresIn (listedLines (codesInOrder header count (tablesOf (now (rows .entry)) (now (letters .entry)) (now (islands .entry)) (now (points .entry)))))) ⌝ }
+{
+    if is_any_wide(header, count, rows, letters, islands, points) {
+        return wide_listed(header, count, rows, letters, islands, points);
     }
     0
 }
@@ -161,12 +179,10 @@ pub(crate) fn put_listed(
 {
     let mut w = next_window(header, count, rows, letters, islands, points, Since::First);
     let mut next = at;
-    let mut i = 0;
     let mut j = 0;
     while j < w.count {
         let d = w.items[j];
         next = put_border(out, next, rows, letters, islands, points, d);
-        i += 1;
         j += 1;
         if j == WIDTH {
             w = next_window(
