@@ -2,6 +2,7 @@
 use Prim.Native.Nat.{ℕ}
 use mathlib.Core.Path.{_≡_, refl}
 use mathlib.Core.List.{List, [], _∷_, _++_}
+use lib.ListN.{replicate}
 use lib.IntN.{ℤ, pos}
 use Rattle.laws.specs.Text.{text}
 use Rattle.heading.specs.declared.Header.{Header}
@@ -10,6 +11,7 @@ use Rattle.made.specs.declared.Verdict.the-variants as Verdict
 use Rattle.made.specs.Made.{tablesOf}
 use Rattle.made.specs.Examples.{header}
 use Rattle.tally.specs.declared.Refusal.the-variants.{Sheet, Wide}
+use Rattle.tally.specs.Tally.{limit}
 use Rattle.tally.specs.Examples.{computed as computedTally}
 use Rattle.order.specs.Examples.{computed as computedOrder}
 use Rattle.sup.specs.declared.SupAnswer.{SupAnswer}
@@ -46,10 +48,22 @@ one letters side code =
     (pos 1 ∷ pos 0 ∷ pos 0 ∷ pos 18 ∷ pos 0 ∷ pos 1 ∷ pos 1 ∷ pos 1 ∷ pos 1 ∷ pos letters ∷ pos 0 ∷ pos 4 ∷ [])
     code [] (pos 0 ∷ pos 0 ∷ pos side ∷ pos 0 ∷ pos 0 ∷ pos side ∷ pos 0 ∷ pos 0 ∷ [])
 
--- the tally's 17 before 21; 21 before 22; 22 before 14; 1,000,000 m2 by 1,000 m2 finds room
+-- the tally's 17 before 21; 21 before 22; 22 before 14; a triangle of 2 m2 finds room
 sides : (supOf (header 1) 1 (one 1 20000001 (text "7")) (text "2026") 0 ≡ Refused (Wide 0))
     × (supOf (header 1) 1 (one 12 2000 (text "123456789012")) (text "2026") 0 ≡ BadDate)
     × (supOf (header 1) 1 (one 12 2000 (text "123456789012")) today 0 ≡ CodeTooLong 0)
     × (supOf (header 1) 1 (one 1 2000 (text "7")) today 345 ≡ Wrote 345)
 unfolding computed
 sides = (refl, refl, refl, refl)
+
+-- a tally of one road and one parcel, by their doubled areas
+abbrev tallied : ℕ → ℕ → List ℤ
+tallied road parcel = replicate 8 (pos 0) ++ (pos 1 ∷ pos road ∷ replicate 10 (pos 0)) ++ (pos 1 ∷ pos parcel ∷ pos 0 ∷ pos 0 ∷ [])
+
+-- 22 before 18 of TOTALE before 23 before 14; the limit itself is no 18
+totals : (datedSup (header 1) 1 (one 12 2000 (text "123456789012")) today (tallied limit limit) 0 ≡ CodeTooLong 0)
+    × (datedSup (header 1) 1 (one 1 2000 (text "7")) today (tallied 1 limit) 0 ≡ PastTotal)
+    × (datedSup (header 1) 1 (one 1 2000 (text "7")) today (tallied 0 limit) 0 ≡ WideFigure 9)
+    × (datedSup (header 1) 1 (one 1 2000 (text "7")) today (tallied 0 2000000) 0 ≡ NoRoom 345)
+unfolding computed
+totals = (refl, refl, refl, refl)
