@@ -46,8 +46,8 @@ abbrev pub parcels : List ℕ → ℕ → List ℤ → Tables
 parcels code k island =
     tablesOf (borderRow 11 0 5 ++ (borderRow 1 1 (5 + k) ++ borderRow (length code) 0 5)) (text "Z999_0001009" ++ code) (k ∷ []) (rectangle 4000 4000 ++ (rectangle 3000 3000 ++ (island ++ rectangle 2000 3000)))
 
-abbrev pub plain : Tables
-plain = parcels (text "10") 5 (rectangle 1000 1000)
+abbrev pub twoParcels : Tables
+twoParcels = parcels (text "10") 5 (rectangle 1000 1000)
 
 abbrev pub longCoded : Tables
 longCoded = parcels (text "123456789012") 5 (rectangle 1000 1000)
@@ -67,19 +67,19 @@ month13 = text "20261315"
 abbrev pub file : List ℕ
 file = text "Z999_000100  20261115\r\nN.FABBRIC           0\r\nN.PARTIC            2\r\nN.STRADE            0\r\nN.ACQUE             0\r\nN.SVIL-ALL          0\r\nFABBRIC             0\r\n10                  6\r\n9                   8\r\nPARTIC             14\r\nSTRADE              0\r\nACQUE               0\r\nSVIL-ALL            0\r\nTOTALE             14\r\nCONFINE            16\r\nSBILANCIO          -2\r\n"
 
-spelt : sheetSup header 3 plain today ≡ file
+spelt : sheetSup header 3 twoParcels today ≡ file
 unfolding sheetSup computed
 spelt = refl
 
-spare : supOf header 3 plain today 400 ≡ Wrote 368
+spare : supOf header 3 twoParcels today 400 ≡ Wrote 368
 unfolding computed
 spare = refl
 
-enough : supOf header 3 plain today 368 ≡ Wrote 368
+enough : supOf header 3 twoParcels today 368 ≡ Wrote 368
 unfolding computed
 enough = refl
 
-short : supOf header 3 plain today 367 ≡ NoRoom 368
+short : supOf header 3 twoParcels today 367 ≡ NoRoom 368
 unfolding computed
 short = refl
 
@@ -134,7 +134,7 @@ module _ (κs : Lfts 6) (a : ArgsD sup-text.signature κs) (r : ResD sup-text.si
     refused : (x : SupAnswer) → ((s l : List ℕ) → supOutput x s l ≡ l) → ((room : ℕ) → supOf h 3 t day room ≡ x) → Refuses x
     refused x u f = let y = answer (length lent) refl (f (length lent)) in (y, post .1 ∙ rw y (u _ lent))
 
-  module _ (p : a .0 ≡ header) (d : Tabled 3 plain (a .1)) (q : date ≡ today) where
+  module _ (p : a .0 ≡ header) (d : Tabled 3 twoParcels (a .1)) (q : date ≡ today) where
     pub sup-answers : length lent ≡ 400 → r ≡ Wrote 368
     sup-answers l = answer p d q 400 l spare
 
@@ -197,7 +197,7 @@ module _ (κs : Lfts 7) (a : ArgsD cxf-sup-write.signature κs) (r : ResD cxf-su
     cxf-refused : (x : SupAnswer) → ((s l : List ℕ) → supOutput x s l ≡ l) → ((room : ℕ) → supOf h′ 3 t day room ≡ x) → RefusesCxf (supTold x)
     cxf-refused x u f = (cxf-answer (length cxfLent) refl (f (length cxfLent)), cxf-output (length cxfLent) refl (f (length cxfLent)) ∙ u _ cxfLent)
 
-  module _ (p : Headed header) (d : Tabled 3 plain (a .1 .1 .1)) (q : cxfDate ≡ today) where
+  module _ (p : Headed header) (d : Tabled 3 twoParcels (a .1 .1 .1)) (q : cxfDate ≡ today) where
     pub cxf-sup-answers : length cxfLent ≡ 400 → r ≡ record { number = 0; row = 0; line = 0; length = 368 }
     cxf-sup-answers l = cxf-answer in-C p d q 400 l spare
 
@@ -214,8 +214,8 @@ module _ (κs : Lfts 7) (a : ArgsD cxf-sup-write.signature κs) (r : ResD cxf-su
   cxf-sup-bad-header p d q = cxf-refused no-kind-in-C p d q (Refused (Sheet BadHeader)) (λ s l. refl) headed
 
   -- a name of 12 bytes is no name
-  pub cxf-sup-long-name : Headed longName → Tabled 3 plain (a .1 .1 .1) → cxfDate ≡ today → RefusesCxf (record { number = 6; row = 0; line = 0; length = 0 })
-  cxf-sup-long-name p d q = cxf-refused long-name-in-C p d q (Refused (Sheet BadHeader)) (λ s l. refl) (no-header 3 plain today)
+  pub cxf-sup-long-name : Headed longName → Tabled 3 twoParcels (a .1 .1 .1) → cxfDate ≡ today → RefusesCxf (record { number = 6; row = 0; line = 0; length = 0 })
+  cxf-sup-long-name p d q = cxf-refused long-name-in-C p d q (Refused (Sheet BadHeader)) (λ s l. refl) (no-header 3 twoParcels today)
 
   pub cxf-sup-too-wide : Headed header → Tabled 3 wideRinged (a .1 .1 .1) → cxfDate ≡ month13 → RefusesCxf (record { number = 17; row = 1; line = 0; length = 0 })
   cxf-sup-too-wide p d q = cxf-refused in-C p d q (Refused (Wide 1)) (λ s l. refl) ringed
