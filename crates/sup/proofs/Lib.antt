@@ -1,5 +1,7 @@
 -- The laws of a SUP file's text, and the ways through the code.
 pub mod SupLaws
+pub mod SourceLaws
+pub mod WroteLaws
 mod RoundWays
 mod LineWays
 mod TotalWays
