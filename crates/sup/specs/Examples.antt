@@ -1,9 +1,8 @@
 -- The text of SUP files, computed: document 02, T-01. Assumes nothing.
 use Prim.Native.Nat.{ℕ}
 use mathlib.Core.Path.{_≡_, refl}
-use mathlib.Core.List.{List, [], _∷_, _++_}
+use mathlib.Core.List.{List, [], _∷_}
 use mathlib.Core.Bool.{true, false}
-use lib.ListN.{length, replicate}
 use lib.IntN.{ℤ, pos, negℤ}
 use Rattle.laws.specs.Text.{text}
 use Rattle.heading.specs.declared.Header.{Header}
