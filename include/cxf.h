@@ -265,7 +265,7 @@ cxf_written cxf_write(CXF_SHEET, uint8_t *out, size_t out_len);
 
 /* ---- borders and texts ----------------------------------------------------------------------------------------------- */
 
-/* The classes of a border. */
+/* The classes of a border. CXF_OTHER comes in sheets of kind 3 alone: eleven letters that are not the sheet's name. */
 enum { CXF_CONFINE = 1, CXF_OTHER = 2, CXF_ROAD = 3, CXF_WATER = 4, CXF_BUILDING = 5, CXF_PARCEL = 6 };
 
 typedef struct {

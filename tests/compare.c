@@ -32,7 +32,7 @@ static const char *const NAMES[ENTRIES] = {
 #define NUMBERS 24
 static uint64_t given[ENTRIES][2][NUMBERS]; /* by mode where there is one: 0 loose, 1 exact */
 static uint64_t listing_says[NUMBERS];
-static uint64_t classes[7], rings_simple, pairs_self, pairs_next, pairs_ends, pairs_other, rights, centroids, both_texts, lists_whole;
+static uint64_t classes[7], eleven[2][7], rings_simple, pairs_self, pairs_next, pairs_ends, pairs_other, rights, centroids, both_texts, lists_whole;
 static uint64_t whole_files, rewritten;
 static uint64_t sup_kinds[4], sup_listed_most, sup_equal_codes, sup_minus, sup_wide[9], sup_wide_listed, sup_past[2];
 static uint64_t answers, differences, shown_most = 1;
@@ -494,7 +494,9 @@ static void try_border(const tables *t, uint64_t row) {
     arg("row", row);
     const cxf_border theirs = cxf_border_at(LENT(t), row), mine = ref_border_at(OWN(t), row);
     judge(of_border(theirs), of_border(mine), sheet_altered(t));
-    if (mine.number == 0) classes[mine.class_of]++;
+    if (mine.number != 0) return;
+    classes[mine.class_of]++;
+    if (mine.letters == 11) eleven[t->kind == 3][mine.class_of]++;
 }
 
 static void try_text(const tables *t, uint64_t row) {
@@ -1019,7 +1021,11 @@ static void print_counts(void) {
         if (listing_says[n] > 0) printf("  %d:%llu", n, (unsigned long long)listing_says[n]);
     printf("\n  classes 1 to 6:");
     for (int c = 1; c <= 6; c++) printf(" %llu", (unsigned long long)classes[c]);
-    printf("; texts: surface rights %llu, centroids %llu, both %llu\n", (unsigned long long)rights, (unsigned long long)centroids,
+    printf("; of eleven letters, in kinds 1 and 2:");
+    for (int c = 1; c <= 6; c++) printf(" %llu", (unsigned long long)eleven[0][c]);
+    printf(", in kind 3:");
+    for (int c = 1; c <= 6; c++) printf(" %llu", (unsigned long long)eleven[1][c]);
+    printf("\n  texts: surface rights %llu, centroids %llu, both %llu\n", (unsigned long long)rights, (unsigned long long)centroids,
            (unsigned long long)both_texts);
     printf("  rings: simple %llu; first faulty pair an edge itself %llu, with the next %llu, of edge 0 with a later one %llu, other %llu\n",
            (unsigned long long)rings_simple, (unsigned long long)pairs_self, (unsigned long long)pairs_next, (unsigned long long)pairs_ends,

@@ -1,5 +1,5 @@
-/* Answers that the papers themselves give: document 01's marked examples and listing, and the specification's own
-   examples, padded. They hold the reference to something that was not written with it. */
+/* Answers that the papers themselves give: document 01's marked examples and listing, T-02's letters, and the
+   specification's own examples, padded. They hold the reference to something that was not written with it. */
 #include "examples.h"
 #include "reference.h"
 
@@ -107,6 +107,7 @@ static void refused(const interface *i, const char *what, const char *records, u
 
 #define HEAD "MAPPA,Z999_000100,    1000.000,"
 #define HEAD2 "MAPPA FONDIARIO,Z999_000100,    1000.000,"
+#define HEAD3 "QUADRO D'UNIONE,Z999_0001QU,    1000.000,"
 #define PLACE "       0.000,       0.000,       0.000,       0.000,       0.000,"
 #define RING_OF_4 "       0.000,       0.000,       0.001,       0.000,       0.000,       0.001,       0.000,       0.000,"
 
@@ -192,7 +193,7 @@ static void specification(const interface *i) {
                memcmp(h.rows, rows, sizeof rows) == 0 && h.r.letters == 27 &&
                memcmp(h.letters, "A019_004100Corricioni(731)5", 27) == 0 && h.r.points == 10 && h.points[0] == 14941747 &&
                h.points[1] == -29983615 && h.points[12] == 15181145 && h.points[19] == -29700213);
-    expect(i, "the specification's border", i->border_at(THE_SHEET(&h), 0).class_of == 2);
+    expect(i, "the specification's border, in a map of kind 1", i->border_at(THE_SHEET(&h), 0).class_of == 6);
     expect(i, "the specification's surface right", i->text_at(THE_SHEET(&h), 2).surface_right == 1);
 }
 
@@ -206,6 +207,33 @@ static void listing(const interface *i) {
     expect(i, "the listing", l.number == 0 && l.length == strlen(text) && memcmp(out, text, strlen(text)) == 0);
     l = i->listing(src, n, out, strlen(text) - 1);
     expect(i, "the listing with no room", l.number == 14 && l.length == strlen(text));
+}
+
+/* T-02: "OTHER holds only for header kind 3. In kinds 1 and 2 such letters go on to the later rules." Sides of 1 m, 2 m and
+   3 m: doubled areas 2,000,000, 8,000,000 and 18,000,000. */
+#define BORDER(letters, side) \
+    "BORDO," letters ",18,0.000,0.000,0.000,0.000,0.000,0,5,0.000,0.000," side ",0.000," side "," side ",0.000," side ",0.000,0.000,"
+#define ELEVEN BORDER("12345678901", "1.000") BORDER("1234567890+", "2.000") BORDER("S1234567890", "3.000")
+
+static void of_eleven(const interface *i, const char *what, const char *records, const uint64_t classes[3], const char *text) {
+    held h;
+    uint8_t src[2000], out[1000];
+    read_into(i, records, 0, &h);
+    for (uint64_t row = 0; row < 3; row++) expect(i, what, i->border_at(THE_SHEET(&h), row).class_of == classes[row]);
+    const cxf_listed l = i->listing(src, file_of(records, src), out, sizeof out);
+    expect(i, what, l.number == 0 && l.length == strlen(text) && memcmp(out, text, strlen(text)) == 0);
+}
+
+static void eleven_letters(const interface *i) {
+    of_eleven(i, "eleven letters in kind 1", HEAD ELEVEN "EOF,", (const uint64_t[]){6, 5, 6},
+              "MAP 1 Z999_000100 1000000\nCONFINE 0 0 0 0\nOTHER 0 0 0 0\nROAD 0 0 0 0\nWATER 0 0 0 0\nBUILDING 1 8000000 0 0\n"
+              "PARCEL 2 20000000 0 0\nROWS 3\n");
+    of_eleven(i, "eleven letters in kind 2", HEAD2 ELEVEN "EOF,", (const uint64_t[]){6, 5, 3},
+              "MAP 2 Z999_000100 1000000\nCONFINE 0 0 0 0\nOTHER 0 0 0 0\nROAD 1 18000000 0 0\nWATER 0 0 0 0\nBUILDING 1 8000000 0 0\n"
+              "PARCEL 1 2000000 0 0\nROWS 3\n");
+    of_eleven(i, "eleven letters in kind 3", HEAD3 ELEVEN "EOF,", (const uint64_t[]){2, 2, 2},
+              "MAP 3 Z999_0001QU 1000000\nCONFINE 0 0 0 0\nOTHER 3 28000000 0 0\nROAD 0 0 0 0\nWATER 0 0 0 0\nBUILDING 0 0 0 0\n"
+              "PARCEL 0 0 0 0\nROWS 3\n");
 }
 
 static void tiles(const interface *i) {
@@ -238,6 +266,7 @@ uint64_t examples(void) {
         files(&sides[k]);
         specification(&sides[k]);
         listing(&sides[k]);
+        eleven_letters(&sides[k]);
         tiles(&sides[k]);
         records(&sides[k]);
     }

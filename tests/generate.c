@@ -244,7 +244,7 @@ static void make_name(rng *g, uint8_t *name, uint64_t kind) {
 static size_t make_letters(rng *g, const tables *t, uint8_t out[255]) {
     static const char *const words[] = {
         "STRADA", "ACQUA", "STRADA+", "ACQUA1", "strada", "STRAD", "S7", "S7+", "S", "A", "A12", "A1+", "7+", "+", "++", "7 +",
-        "7", "123", "X0001", "(7)", "()", "(", ")", "( )", "(731", "731)", "((7))", ")7(", "(a) b", "EOF", "BORDO", "TESTO\\",
+        "12345678901", "1234567890+", "S1234567890", "A123456789+", "STRADA 1234", "7", "123", "X0001", "(7)", "()", "(", ")", "( )", "(731", "731)", "((7))", ")7(", "(a) b", "EOF", "BORDO", "TESTO\\",
         "Via  Roma  12", "ALLA", "SVIA", "\\", "~", "!", "0.000", "   4x",
     };
     size_t n = 0;
@@ -613,16 +613,18 @@ static int64_t end_total(rng *g) {
     return (one_in(g, 2) ? above : under) + off;
 }
 
-/* Letters of a PARCEL: few codes, so that many are equal; codes that begin each other; blanks and signs inside. */
+/* Letters of a PARCEL: few codes, so that many are equal; codes that begin each other; blanks and signs inside; not 11 of
+   them in kind 3. */
 static size_t parcel_code(rng *g, const tables *t, uint8_t out[255]) {
     static const uint8_t alphabet[] = {'0', '1', ' ', '!', '/', 'A', 'S', 'a', '~', '+'};
-    static const char *const chain = "1000000000";
+    static const char *const chain = "10000000000";
+    const size_t most = t->kind == 3 ? 10 : 11;
     size_t n = 0;
     switch (below(g, 6)) {
     case 0: n = (size_t)snprintf((char *)out, 16, "%d", (int)below(g, 12)); break;
     case 1: n = (size_t)snprintf((char *)out, 16, "%d", (int)below(g, 2000)); break;
     case 2:
-        n = 1 + below(g, 10);
+        n = 1 + below(g, most);
         memcpy(out, chain, n);
         break;
     case 3: /* all but one of the letters of the name */
@@ -630,7 +632,7 @@ static size_t parcel_code(rng *g, const tables *t, uint8_t out[255]) {
         memcpy(out, t->name, n);
         break;
     default:
-        n = 1 + below(g, one_in(g, 6) ? 10 : 3);
+        n = 1 + below(g, one_in(g, 6) ? most : 3);
         for (size_t i = 0; i < n; i++) out[i] = PICK(g, alphabet);
         break;
     }
@@ -639,7 +641,7 @@ static size_t parcel_code(rng *g, const tables *t, uint8_t out[255]) {
     return n;
 }
 
-/* Letters of an OTHER border: 11, and not the name. */
+/* Letters of an OTHER border: 11, and not the name. In kinds 1 and 2 they are of any later class. */
 static size_t other_code_letters(rng *g, const tables *t, uint8_t out[255]) {
     static const char *const words[] = {"STRADA 1234", "ACQUA123456", "1234567890+", "S1234567890", "~~~~~~~~~~~", "!!!!!!!!!!!"};
     if (one_in(g, 4)) {
@@ -658,7 +660,7 @@ typedef enum { CONFINE, OTHER, ROAD, WATER, BUILDING, PARCEL, CLASSES } class;
 static size_t class_letters(rng *g, const tables *t, class c, uint8_t out[255]) {
     static const char *const roads[] = {"STRADA", "S", "S7", "S7+", "STRADA DEL MULINO"};
     static const char *const waters[] = {"ACQUA", "A", "A12", "A1+", "ACQUA DI FOSSO"};
-    static const char *const buildings[] = {"7+", "+", "1000000000+", "12345678901+", "1 +"}; /* one of 11 letters is OTHER */
+    static const char *const buildings[] = {"7+", "+", "1000000000+", "12345678901+", "1 +"}; /* in kind 3 one of 11 letters is OTHER */
     const char *word = NULL;
     switch (c) {
     case CONFINE: memcpy(out, t->name, 11); return 11;

@@ -695,12 +695,12 @@ static refusal judge_border(const sheet *s, uint64_t row) {
     return r;
 }
 
-/* "First rule that holds, in this order" */
+/* "First rule that holds, in this order"; "OTHER holds only for header kind 3" (T-02) */
 static uint64_t class_of(const sheet *s, uint64_t row, spot at) {
     const size_t n = (size_t)row_of(s, row)[LETTERS];
     const uint8_t *t = s->letters + at.letters;
     if (n == NAME_LENGTH && memcmp(t, s->name, n) == 0) return 1;                                  /* CONFINE */
-    if (n == NAME_LENGTH) return 2;                                                                /* OTHER */
+    if (s->kind == QUADRO && n == NAME_LENGTH) return 2;                                           /* OTHER */
     if ((n == 6 && memcmp(t, "STRADA", 6) == 0) || (s->kind == FONDIARIO && t[0] == 'S')) return 3; /* ROAD */
     if ((n == 5 && memcmp(t, "ACQUA", 5) == 0) || (s->kind == FONDIARIO && t[0] == 'A')) return 4;  /* WATER */
     if (t[n - 1] == '+') return 5;                                                                 /* BUILDING */

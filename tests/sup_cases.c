@@ -1,4 +1,4 @@
-/* sup_cases SIDE [SHEET DATE]: SUP files worked by hand (document 02, T-01), asked of the reference, or of the library where
+/* sup_cases SIDE [SHEET DATE]: SUP files worked by hand (document 02, T-01 and T-02), asked of the reference, or of the library where
    SIDE says so. The arithmetic stands at each case; sup_cases.out has the answers, worked out from it and not by a
    program. With a sheet and a date only that sheet's SUP file is printed.
    D is a doubled area in square millimetres, F = floor((D + 1,000,000) / 2,000,000) the figure in square metres, so that
@@ -190,10 +190,23 @@ static void lists(void) {
     metres("S7", 5), metres("A7+", 3), metres("7", 6);
     show("some of the same letters in kind 1");
 
-    /* Eleven letters that are not the name are OTHER (before T-02): in no line and no total. */
+    /* T-02: eleven letters are of the class that their other marks say, and a parcel is listed. 9 + 4 + 3 = 16; the building
+       of 5 is no part of TOTALE. 14 + 3 lines are 391 bytes. */
     sheet(1, "Z999_000100");
-    metres("12345678901", 9), metres("1234567890", 4), metres("1234567890+", 5);
+    metres("12345678901", 9), metres("1234567890", 4), metres("1234567890+", 5), metres("S1234567890", 3);
     show("eleven letters in kind 1");
+
+    /* In kind 2 `S` makes a road and `A` a water, before the final `+`; the name is CONFINE still, and letters that differ
+       from it in the last are a parcel's. Parcels 8 + 1 = 9, and 9 + 3 + 2 = 14 is CONFINE's. 14 + 2 lines are 368 bytes. */
+    sheet(2, "Z999_000100");
+    metres("12345678901", 8), metres("S1234567890", 3), metres("A123456789+", 2), metres("1234567890+", 5), metres("Z999_000101", 1);
+    metres("Z999_000100", 14);
+    show("eleven letters in kind 2");
+
+    /* In kind 3 they are OTHER even with a final `+` or a beginning `S`: 9 + 5 + 3 = 17, twice, and no building. */
+    sheet(3, "Z999_0001QU");
+    metres("12345678901", 9), metres("1234567890+", 5), metres("S1234567890", 3);
+    show("eleven letters in kind 3");
 
     /* Kind 3 lists OTHER: D = 999,999 (0) before 1,000,000 (1), then 30 less 4. Their sum: 1,999,999 + 52,000,000 =
        53,999,999; 54,999,999 / 2,000,000 is below 27.5, so 27, twice. All else stays its own class's: 2 parcels of 8 + 1, a
@@ -217,7 +230,7 @@ static void dates(void) {
 }
 
 static void codes(void) {
-    /* Rows 0 and 1 are OTHER and BUILDING; row 3 is the first parcel of over 11 letters. */
+    /* Row 0 is a parcel of 11 letters, which pass, and row 1 a building; row 3 is the first parcel of over 11 letters. */
     sheet(1, "Z999_000100");
     metres("12345678901", 1), metres("12345678901+", 1), metres("1", 1), metres("123456789012", 1), metres("1234567890123", 1);
     show("a listed code of 12 letters");

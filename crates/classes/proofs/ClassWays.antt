@@ -9,7 +9,7 @@ use borrow.Author.Tests.{eq-eqb, ne-eqb, le-leb, lt-leb, not-true, not-false}
 use Rattle.laws.specs.Lists.{same}
 use Rattle.laws.specs.Text.{text}
 use Rattle.laws.proofs.Choice.{and-false}
-use Rattle.classes.specs.Classes.{byte, beginsWith, endsIn, beginsInKind2, isRoad, isWater, classOf, isSurface}
+use Rattle.classes.specs.Classes.{byte, beginsWith, endsIn, beginsInKind2, isRoad, isWater, isOther, classOf, isSurface}
 use Rattle.classes.specs.declared.Class.the-variants.{Confine, Other, Road, Water, Building, Parcel}
 
 -- ---- the first letter, and the last
@@ -78,6 +78,24 @@ pub ruleset road-ways = (road-word, road-mark)
 
 pub ruleset water-ways = (water-word, water-mark)
 
+-- ---- letters as long as the name, in kind 3
+
+module _ (kind : ℕ) (s : List ℕ) where
+  pub other-kind : (kind ≡ 3 → ⊥) → false ≡ isOther kind s
+  unfolding isOther
+  other-kind f = rw (ne-eqb kind 3 f)
+
+  module _ (e : kind ≡ 3) where
+    pub other-long : length s ≡ 11 → true ≡ isOther kind s
+    unfolding isOther
+    other-long h = rw (eq-eqb kind 3 e, eq-eqb (length s) 11 h)
+
+    pub other-not : (length s ≡ 11 → ⊥) → false ≡ isOther kind s
+    unfolding isOther
+    other-not f = rw (eq-eqb kind 3 e, ne-eqb (length s) 11 f)
+
+pub ruleset other-ways = (other-kind, other-long, other-not)
+
 -- ---- the class
 
 module _ (kind : ℕ) (name s : List ℕ) (a : Bool) (p : a ≡ same s name) where
@@ -85,29 +103,29 @@ module _ (kind : ℕ) (name s : List ℕ) (a : Bool) (p : a ≡ same s name) whe
   unfolding classOf
   class-confine t = rw (← p, t)
 
-  module _ (t : a ≡ false) where
-    pub class-other : length s ≡ 11 → Other ≡ classOf kind name s
+  module _ (t : a ≡ false) (l : Bool) (m : l ≡ isOther kind s) where
+    pub class-other : l ≡ true → Other ≡ classOf kind name s
     unfolding classOf
-    class-other e = rw (← p, t, eq-eqb (length s) 11 e)
+    class-other f = rw (← p, t, ← m, f)
 
-    module _ (f : length s ≡ 11 → ⊥) (b : Bool) (q : b ≡ isRoad kind s) where
+    module _ (f : l ≡ false) (b : Bool) (q : b ≡ isRoad kind s) where
       pub class-road : b ≡ true → Road ≡ classOf kind name s
       unfolding classOf
-      class-road u = rw (← p, t, ne-eqb (length s) 11 f, ← q, u)
+      class-road u = rw (← p, t, ← m, f, ← q, u)
 
       module _ (u : b ≡ false) (d : Bool) (o : d ≡ isWater kind s) where
         pub class-water : d ≡ true → Water ≡ classOf kind name s
         unfolding classOf
-        class-water v = rw (← p, t, ne-eqb (length s) 11 f, ← q, u, ← o, v)
+        class-water v = rw (← p, t, ← m, f, ← q, u, ← o, v)
 
         module _ (v : d ≡ false) (e : Bool) (w : e ≡ endsIn (byte "+") s) where
           pub class-building : e ≡ true → Building ≡ classOf kind name s
           unfolding classOf
-          class-building x = rw (← p, t, ne-eqb (length s) 11 f, ← q, u, ← o, v, ← w, x)
+          class-building x = rw (← p, t, ← m, f, ← q, u, ← o, v, ← w, x)
 
           pub class-parcel : e ≡ false → Parcel ≡ classOf kind name s
           unfolding classOf
-          class-parcel x = rw (← p, t, ne-eqb (length s) 11 f, ← q, u, ← o, v, ← w, x)
+          class-parcel x = rw (← p, t, ← m, f, ← q, u, ← o, v, ← w, x)
 
 pub ruleset class-ways = (class-confine, class-other, class-road, class-water, class-building, class-parcel)
 

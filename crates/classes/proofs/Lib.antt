@@ -1,2 +1,3 @@
--- The ways through the functions.
+-- The ways through the functions, and the laws of OTHER.
 pub mod ClassWays
+pub mod ClassLaws

@@ -1,5 +1,5 @@
--- The class of a border by its letters, and letters that say a surface right: document 01, "Border classes". Assumes nothing: these
--- are definitions.
+-- The class of a border by its letters, and letters that say a surface right: document 01, "Border classes", as document 02's T-02 mends
+-- it. Assumes nothing: these are definitions.
 use Prim.Native.Nat.{ℕ, _-_}
 use Prim.Native.String.{String}
 use mathlib.Core.List.{List}
@@ -33,13 +33,18 @@ isRoad kind s = same s (text "STRADA") || beginsInKind2 (byte "S") kind s
 unfoldable pub isWater : ℕ → List ℕ → Bool
 isWater kind s = same s (text "ACQUA") || beginsInKind2 (byte "A") kind s
 
+-- "OTHER holds only for header kind 3": letters of length 11
+unfoldable pub isOther : ℕ → List ℕ → Bool
+isOther kind s = eqb kind 3 && eqb (length s) 11
+
 -- ---- the class
 
--- first rule that holds: letters equal the sheet name, any other letters of length 11, a road, a water, ending in `+`
+-- first rule that holds: letters equal the sheet name, in kind 3 any other letters of length 11, a road, a water, ending in `+`. "In kinds 1
+-- and 2 such letters go on to the later rules"
 unfoldable pub classOf : ℕ → List ℕ → List ℕ → Class
 classOf kind name s =
     cond (same s name) Confine
-    (cond (eqb (length s) 11) Other (cond (isRoad kind s) Road (cond (isWater kind s) Water (cond (endsIn (byte "+") s) Building Parcel))))
+    (cond (isOther kind s) Other (cond (isRoad kind s) Road (cond (isWater kind s) Water (cond (endsIn (byte "+") s) Building Parcel))))
 
 -- a class's place in this order, from 0
 abbrev pub indexOf : Class → ℕ

@@ -1,7 +1,7 @@
-// Border classes (document 01, "Border classes"): the class of a border by its letters, and letters that say a surface right.
+// Border classes (document 01, "Border classes"; document 02, T-02): the class of a border by its letters, and letters that say a surface right.
 // All of it is proved, and no public function has a `requires`.
 ghost use mathlib.Core.Path.{_≡_};
-ghost use Rattle.classes.specs.Classes.{beginsWith, endsIn, beginsInKind2, isRoad, isWater, classOf, indexOf, isSurface};
+ghost use Rattle.classes.specs.Classes.{beginsWith, endsIn, beginsInKind2, isRoad, isWater, isOther, classOf, indexOf, isSurface};
 use heading::Header;
 use record::is_same;
 
@@ -67,6 +67,16 @@ fn is_water(kind: usize, s: &[u8]) -> bool
     begins_in_kind2(b'A', kind, s)
 }
 
+// Letters as long as a sheet's name, in kind 3.
+fn is_other(kind: usize, s: &[u8]) -> bool
+    ensures { λ r. ⌜ r ≡ isOther kind (now (s .entry)) ⌝ }
+{
+    if kind != 3 {
+        return false;
+    }
+    if s.len() == NAME_LETTERS { true } else { false }
+}
+
 // The class of a border with these letters: the first rule that holds.
 pub fn class_of(header: Header, s: &[u8]) -> Class
     ensures { λ r. ⌜ r ≡ classOf (header .kind) (header .name) (now (s .entry)) ⌝ }
@@ -75,10 +85,10 @@ pub fn class_of(header: Header, s: &[u8]) -> Class
     if is_same(s, &name) {
         return Class::Confine;
     }
-    if s.len() == NAME_LETTERS {
+    let kind = header.kind;
+    if is_other(kind, s) {
         return Class::Other;
     }
-    let kind = header.kind;
     if is_road(kind, s) {
         return Class::Road;
     }

@@ -33,7 +33,7 @@ use Rattle.area.specs.declared.Areas.the-variants as Areas
 use Rattle.area.specs.BorderRings.{totalFrom, areasOf, netOf}
 use Rattle.classes.specs.declared.Class.{Class}
 use Rattle.classes.specs.declared.Class.the-variants.{Building, Road, Parcel}
-use Rattle.classes.specs.Classes.{beginsWith, endsIn, beginsInKind2, isRoad, isWater, classOf, isSurface}
+use Rattle.classes.specs.Classes.{beginsWith, endsIn, beginsInKind2, isRoad, isWater, isOther, classOf, isSurface}
 
 -- what is asked
 data Question : Type 0 where
@@ -90,7 +90,7 @@ ofAreas Areas.Wide = []
 ofAreas Areas.Missing = []
 
 answer : Question → Answer
-unfolding realOf realSigned realAt realIs isNeat isToken thousandths signed signs signOf lean ended value unled run integerOf integerAt integerIs verticesOf islandOf areaOf narrow held near near-first all-near signed-sum edge-term east north verdictOf searched first-edge second-edge least faulty-pair edges-meet boxes-overlap beside-line spans-overlap one-side neighbours-overlap equal-ends side dot areasOf totalFrom sum classOf isRoad isWater beginsInKind2 beginsWith endsIn same isSurface
+unfolding realOf realSigned realAt realIs isNeat isToken thousandths signed signs signOf lean ended value unled run integerOf integerAt integerIs verticesOf islandOf areaOf narrow held near near-first all-near signed-sum edge-term east north verdictOf searched first-edge second-edge least faulty-pair edges-meet boxes-overlap beside-line spans-overlap one-side neighbours-overlap equal-ends side dot areasOf totalFrom sum classOf isOther isRoad isWater beginsInKind2 beginsWith endsIn same isSurface
 answer (real mode s) = ofDecimal (realOf mode (text s))
 answer (integer mode s) = ofWhole (integerOf mode (text s))
 answer (vertices n) = ofStep (verticesOf 1 1 n)

@@ -60,6 +60,14 @@ input-most : (listingOf (replicate 8192 65) ≡ text "REFUSED 2 1 0\n") × (list
 unfolding computed
 input-most = (refl, refl)
 
+-- document 02, T-02: a border of eleven letters is a parcel on a map, and OTHER in a union sheet
+eleven-letters : (listingOf (text "MAPPA\nZ999_000100\n1000.000\nBORDO\n12345678901\n18\n0.000\n1.000\n1.000\n1.000\n1.000\n0\n4\n0.000\n0.000\n0.009\n0.000\n0.000\n0.005\n0.000\n0.000\nEOF")
+    ≡ text "MAP 1 Z999_000100 1000000\nCONFINE 0 0 0 0\nOTHER 0 0 0 0\nROAD 0 0 0 0\nWATER 0 0 0 0\nBUILDING 0 0 0 0\nPARCEL 1 45 0 0\nROWS 1\n")
+    × (listingOf (text "QUADRO D'UNIONE\nZ999_0001QU\n1000.000\nBORDO\n12345678901\n18\n0.000\n1.000\n1.000\n1.000\n1.000\n0\n4\n0.000\n0.000\n0.009\n0.000\n0.000\n0.005\n0.000\n0.000\nEOF")
+    ≡ text "MAP 3 Z999_0001QU 1000000\nCONFINE 0 0 0 0\nOTHER 1 45 0 0\nROAD 0 0 0 0\nWATER 0 0 0 0\nBUILDING 0 0 0 0\nPARCEL 0 0 0 0\nROWS 1\n")
+unfolding computed
+eleven-letters = (refl, refl)
+
 -- an empty sheet; a ring that is too wide gives its row and 0
 no-rows : listingOf (text "MAPPA\nZ999_000100\n1000.000\nEOF") ≡ text "MAP 1 Z999_000100 1000000\nCONFINE 0 0 0 0\nOTHER 0 0 0 0\nROAD 0 0 0 0\nWATER 0 0 0 0\nBUILDING 0 0 0 0\nPARCEL 0 0 0 0\nROWS 0\n"
 unfolding computed

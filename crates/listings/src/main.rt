@@ -1,5 +1,6 @@
-// Runs the listing on several inputs, which stand in its file `stdin` with a byte 0 between them: a sheet with every class of border
-// and an island, a refusal of each sort that loose mode and a tally have, exactly 8,192 bytes and one more.
+// Runs the listing on several inputs, which stand in its file `stdin` with a byte 0 between them: sheets with every class of border
+// and islands, eleven letters in each kind of sheet, a refusal of each sort that loose mode and a tally have, exactly 8,192 bytes and
+// one more.
 ghost use Prim.Native.Nat.{_≤_};
 ghost use lib.ListN.{length};
 use libc::STDIN_FILENO;

@@ -8,8 +8,7 @@ use native.Mathlib.Omega.{arith}
 use lib.ListN.{length}
 use lib.Dec.{eqb, ltb}
 use lib.IntN.{ℤ}
-use borrow.Author.Tests.{ltb-true, ltb-false, le-ltb, eqb-true}
-use Rattle.laws.specs.Lists.{same}
+use borrow.Author.Tests.{ltb-true, ltb-false, le-ltb}
 use Rattle.laws.proofs.Choice.{false≢true}
 use Rattle.heading.specs.declared.Header.{Header}
 use Rattle.record.specs.declared.Mode.the-variants.{Loose}
@@ -18,8 +17,10 @@ use Rattle.made.specs.declared.Verdict.the-variants.{Fine}
 use Rattle.made.specs.Made.{tablesOf, kindOf, lettersOf, judgeRows}
 use Rattle.row.specs.declared.Stand.{Stand}
 use Rattle.row.specs.Walk.{firstStand, standAfter, standOf, leftAt}
+use Rattle.classes.specs.declared.Class.{Class}
 use Rattle.classes.specs.declared.Class.the-variants.{Confine, Other, Road, Water, Building, Parcel}
-use Rattle.classes.specs.Classes.{byte, endsIn, isRoad, isWater, classOf}
+use Rattle.classes.specs.Classes.{classOf}
+use Rattle.classes.proofs.ClassLaws.{other-iff}
 use Rattle.border.specs.Borders.{borderOf}
 use Rattle.order.specs.declared.LongCode.the-variants.{Nowhere, Row}
 use Rattle.order.specs.Sorting.{EachOf, EachOf.each-nil, EachOf.each-on}
@@ -105,17 +106,16 @@ module _ (h : Header) (count : ℕ) (t : Tables) (m : Small t) (f : judgeRows Lo
 
 -- ---- a union sheet lists codes of 11 letters
 
+listed-other : (c : Class) → listsClass 3 c ≡ true → c ≡ Other
+listed-other Confine e = absurd (false≢true e)
+listed-other Other e = refl
+listed-other Road e = absurd (false≢true e)
+listed-other Water e = absurd (false≢true e)
+listed-other Building e = absurd (false≢true e)
+listed-other Parcel e = absurd (false≢true e)
+
 other-eleven : (name s : List ℕ) → listsClass 3 (classOf 3 name s) ≡ true → length s ≡ 11
-unfolding classOf
-other-eleven name s = go (same s name) (eqb (length s) 11) (isRoad 3 s) (isWater 3 s) (endsIn (byte "+") s) refl
-  where
-    go : (a b c d e : Bool) → eqb (length s) 11 ≡ b → listsClass 3 (cond a Confine (cond b Other (cond c Road (cond d Water (cond e Building Parcel))))) ≡ true → length s ≡ 11
-    go true b c d e q f = absurd (false≢true f)
-    go false true c d e q f = eqb-true (length s) 11 q
-    go false false true d e q f = absurd (false≢true f)
-    go false false false true e q f = absurd (false≢true f)
-    go false false false false true q f = absurd (false≢true f)
-    go false false false false false q f = absurd (false≢true f)
+other-eleven name s e = other-iff 3 name s .0 (listed-other (classOf 3 name s) e) .1
 
 union-short : (h : Header) (t : Tables) → h .kind ≡ 3 → isLong h t ≡ false
 unfolding isLong isInSup borderOf

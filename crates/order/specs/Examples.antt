@@ -75,19 +75,19 @@ sheet =
 abbrev rowsOf : List Stand → List ℕ
 rowsOf s = map (λ (d : Stand). d .row / rowWidth) s
 
--- `12A`, `12`, a text, `12`, the building `7+`, `12` with an island that is larger, `9`, `12`, eleven letters
-listed-rows : rowsOf (supBorders (header 1) 9 sheet) ≡ 0 ∷ 1 ∷ 3 ∷ 5 ∷ 6 ∷ 7 ∷ []
+-- `12A`, `12`, a text, `12`, the building `7+`, `12` with an island that is larger, `9`, `12`, a parcel of eleven letters (T-02)
+listed-rows : rowsOf (supBorders (header 1) 9 sheet) ≡ 0 ∷ 1 ∷ 3 ∷ 5 ∷ 6 ∷ 7 ∷ 8 ∷ []
 unfolding computed
 listed-rows = refl
 
 -- equal codes by net, the net below 0 first; row 3 and row 7 are equal in both
-in-order : rowsOf (supInOrder (header 1) 9 sheet) ≡ 5 ∷ 3 ∷ 7 ∷ 1 ∷ 0 ∷ 6 ∷ []
+in-order : rowsOf (supInOrder (header 1) 9 sheet) ≡ 5 ∷ 3 ∷ 7 ∷ 1 ∷ 8 ∷ 0 ∷ 6 ∷ []
 unfolding computed
 in-order = refl
 
 -- a window past row 3, and one from the first on
-past-row : (rowsOf (windowOf (header 1) 9 sheet (Past (record { row = 36; letters = 7; islands = 0; points = 20 }))) ≡ 7 ∷ 1 ∷ 0 ∷ 6 ∷ [])
-    × (rowsOf (windowOf (header 1) 9 sheet First) ≡ 5 ∷ 3 ∷ 7 ∷ 1 ∷ 0 ∷ 6 ∷ [])
+past-row : (rowsOf (windowOf (header 1) 9 sheet (Past (record { row = 36; letters = 7; islands = 0; points = 20 }))) ≡ 7 ∷ 1 ∷ 8 ∷ 0 ∷ 6 ∷ [])
+    × (rowsOf (windowOf (header 1) 9 sheet First) ≡ 5 ∷ 3 ∷ 7 ∷ 1 ∷ 8 ∷ 0 ∷ 6 ∷ [])
 unfolding computed
 past-row = (refl, refl)
 
@@ -99,10 +99,11 @@ union =
     tablesOf (bordered 11 0 5 ++ bordered 1 0 5 ++ bordered 11 0 5 ++ bordered 11 0 5) (text "B23456789017A2345678901B2345678901") []
     (square 2 ++ square 1 ++ square 3 ++ square 1)
 
--- OTHER in place of parcels
-in-union : (rowsOf (supInOrder (header 3) 4 union) ≡ 2 ∷ 3 ∷ 0 ∷ []) × (rowsOf (supInOrder (header 1) 4 union) ≡ 1 ∷ [])
+-- OTHER in place of parcels; in kind 1 the same letters are parcels, in kind 2 those from `A` a water
+in-union : (rowsOf (supInOrder (header 3) 4 union) ≡ 2 ∷ 3 ∷ 0 ∷ []) × (rowsOf (supInOrder (header 1) 4 union) ≡ 1 ∷ 2 ∷ 3 ∷ 0 ∷ [])
+    × (rowsOf (supInOrder (header 2) 4 union) ≡ 1 ∷ 3 ∷ 0 ∷ [])
 unfolding computed
-in-union = (refl, refl)
+in-union = (refl, refl, refl)
 
 -- no rows; a text alone; the sheet's own border
 nothing : (supInOrder (header 1) 0 sheet ≡ []) × (supInOrder (header 1) 1 (tablesOf (labelled 1 18) (text "7") [] []) ≡ [])
@@ -112,7 +113,7 @@ nothing = (refl, refl, refl)
 
 -- ---- codes that are too long
 
--- a text and a building of 12 letters, a border of 11, then parcels of 12 and of 13
+-- a text and a building of 12 letters, a parcel of 11, then parcels of 12 and of 13
 abbrev long-codes : Tables
 long-codes =
     tablesOf (labelled 12 18 ++ bordered 12 0 5 ++ bordered 11 0 5 ++ bordered 12 0 5 ++ bordered 13 0 5)

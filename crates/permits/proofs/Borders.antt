@@ -1,4 +1,4 @@
--- What the contracts of `border_at`, `text_at`, `cxf_border_at` and `cxf_text_at` permit (document 01, "Border classes"): on each sheet one answer. Assumes nothing.
+-- What the contracts of `border_at`, `text_at`, `cxf_border_at` and `cxf_text_at` permit (document 01, "Border classes"; document 02, T-02): on each sheet one answer. Assumes nothing.
 use Prim.Native.Nat.{ℕ}
 use mathlib.Core.Path.{_≡_, refl, _∙_, ap}
 use mathlib.Core.Bool.{true, false}
@@ -32,7 +32,7 @@ use Rattle.cabi.proofs.cxf_border_at as cxf-border-at
 use Rattle.cabi.proofs.cxf_border_at.Reads as cxf-border-reads
 use Rattle.cabi.proofs.cxf_text_at as cxf-text-at
 use Rattle.cabi.proofs.cxf_text_at.Reads as cxf-text-reads
-use Rattle.permits.proofs.SmallSheets.{Tabled, header, noKind, longName, in-C, no-kind-in-C, long-name-in-C, small, faulty}
+use Rattle.permits.proofs.SmallSheets.{Tabled, header, noKind, longName, in-C, no-kind-in-C, long-name-in-C, small, faulty, eleven}
 
 -- ---- border_at
 
@@ -43,6 +43,14 @@ parcelRow = record { class = Parcel; size = pos 18; angle = pos 90; x = pos 1; y
 parcel-is : borderAt header 4 small 1 ≡ Found.Is parcelRow
 unfolding computed
 parcel-is = refl
+
+-- eleven letters are no border of a union
+abbrev elevenRow : Border
+elevenRow = record { class = Parcel; size = pos 18; angle = pos 0; x = pos 7; y = pos 8; x2 = pos 9; y2 = pos 10; letters = 11; islands = 0; vertices = 5 }
+
+eleven-is : borderAt header 1 eleven 0 ≡ Found.Is elevenRow
+unfolding computed
+eleven-is = refl
 
 text-is-none : borderAt header 4 small 0 ≡ Found.Missing
 unfolding computed
@@ -70,6 +78,9 @@ module _ (κs : Lfts 4) (a : ArgsD border-at.signature κs) (r : ResD border-at.
 
   pub border-answers : OnlyBorder header 4 small 1 (Found.Is parcelRow)
   border-answers = only-border parcel-is
+
+  pub border-eleven : OnlyBorder header 1 eleven 0 (Found.Is elevenRow)
+  border-eleven = only-border eleven-is
 
   pub border-no-border : OnlyBorder header 4 small 0 Found.Missing
   border-no-border = only-border text-is-none
@@ -99,6 +110,9 @@ module _ (κs : Lfts 5) (a : ArgsD cxf-border-at.signature κs) (r : ResD cxf-bo
 
   pub cxf-border-answers : OnlyCxfBorder header 4 small 1 (record { number = 0; row = 0; class = 6; size = pos 18; angle = pos 90; x = pos 1; y = pos 2; x2 = pos 3; y2 = negsuc 3; letters = 1; islands = 1; vertices = 9 })
   cxf-border-answers = only-cxf-border in-C parcel-is
+
+  pub cxf-border-eleven : OnlyCxfBorder header 1 eleven 0 (record { number = 0; row = 0; class = 6; size = pos 18; angle = pos 0; x = pos 7; y = pos 8; x2 = pos 9; y2 = pos 10; letters = 11; islands = 0; vertices = 5 })
+  cxf-border-eleven = only-cxf-border in-C eleven-is
 
   pub cxf-border-no-border : OnlyCxfBorder header 4 small 0 (noBorder 19 0)
   cxf-border-no-border = only-cxf-border in-C text-is-none

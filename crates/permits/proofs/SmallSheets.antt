@@ -83,3 +83,8 @@ wide = sheet 20000001
 -- row 3 has no points
 abbrev pub faulty : Tables
 faulty = withPoints (parcel 2)
+
+-- ---- a sheet of one row: a parcel of eleven letters
+
+abbrev pub eleven : Tables
+eleven = tablesOf (pos 1 ∷ pos 0 ∷ pos 0 ∷ pos 18 ∷ pos 0 ∷ pos 7 ∷ pos 8 ∷ pos 9 ∷ pos 10 ∷ pos 11 ∷ pos 0 ∷ pos 5 ∷ []) (text "12345678901") [] building

@@ -10,6 +10,7 @@ pub mod OwnLaws
 pub mod UsedLaws
 pub mod TallyJoin
 pub mod CountLaws
+pub mod OtherLaws
 pub mod JoinedTallies
 pub mod RunningLaws
 pub mod LentLaws

@@ -134,6 +134,15 @@ classed : tallyOf (header 1) 2 (tablesOf (lettered 11 ++ lettered 2) (text "Z999
 unfolding computed
 classed = refl
 
+-- T-02: `12345678901` and `1234567890+` are a parcel and a building in kind 1, both OTHER in kind 3
+abbrev eleven : Tables
+eleven = tablesOf (lettered 11 ++ lettered 11) (text "123456789011234567890+") [] (ring 10 ++ ring 7)
+
+eleven-letters : (tallyOf (header 1) 2 eleven ≡ takenWith (tallyOn (replicate 16 (pos 0) ++ pos 1 ∷ pos 49 ∷ pos 0 ∷ pos 0 ∷ pos 1 ∷ pos 100 ∷ pos 0 ∷ pos 0 ∷ [])) None)
+    × (tallyOf (record { kind = 3; name = text "Z999_0001QU"; scale = pos 1000 }) 2 eleven ≡ takenWith (tallyOn (replicate 4 (pos 0) ++ pos 2 ∷ pos 149 ∷ replicate 18 (pos 0))) None)
+unfolding computed
+eleven-letters = (refl, refl)
+
 -- refused, all is 0: 17 with its row, 15 with its row, 6
 whole-refused : (tallyOf (header 1) 3 (sheet 10 20000001) ≡ takenWith emptyTally (Wide 2)) × (tallyOf (header 1) 4 (sheet 20000001 7) ≡ takenWith emptyTally (Sheet (Verdict.Faulty 3)))
     × (tallyOf (header 4) 3 (sheet 10 7) ≡ takenWith emptyTally (Sheet Verdict.BadHeader))

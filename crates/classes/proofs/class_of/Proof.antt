@@ -13,6 +13,9 @@ is-same-requires c κs = search needs
 returns : tie.Need-returns
 returns c = search (class-ways, needs)
 
+is-other-requires : tie.Need-is-other-requires
+is-other-requires c κs = search needs
+
 returns-2 : tie.Need-returns-2
 returns-2 c = search (class-ways, needs)
 
@@ -44,6 +47,7 @@ class-of-spec =
     slice-aggregate-is-same
     is-same-requires
     returns
+    is-other-requires
     returns-2
     is-road-requires
     returns-3
