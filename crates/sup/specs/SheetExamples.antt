@@ -119,6 +119,16 @@ codes-text : sheetSup (header 1) 12 manyCodes today
 unfolding computed
 codes-text = refl
 
+-- T-02: on a map a parcel of eleven letters is listed and counted; with a final `+` it is a building, with `S` in front in kind 2 a road
+abbrev elevens : Tables
+elevens = ofMetres (text "12345678901") 5 then ofMetres (text "1234567890+") 2 then ofMetres (text "S1234567890") 3
+
+eleven-text : (sheetSup (header 1) 3 elevens today
+    ≡ text "Z999_000100  20261115\r\nN.FABBRIC           1\r\nN.PARTIC            2\r\nN.STRADE            0\r\nN.ACQUE             0\r\nN.SVIL-ALL          0\r\nFABBRIC             2\r\n12345678901         5\r\nS1234567890         3\r\nPARTIC              8\r\nSTRADE              0\r\nACQUE               0\r\nSVIL-ALL            0\r\nTOTALE              8\r\nCONFINE             0\r\nSBILANCIO           8\r\n")
+    × (supOf (header 2) 3 elevens today 345 ≡ Wrote 345)
+unfolding computed
+eleven-text = (refl, refl)
+
 -- kind 3 lists OTHER: D = 999,999 before 1,000,000, then 30 less 4; all else stays its own class's
 abbrev unionHeader : Header
 unionHeader = record { kind = 3; name = text "Z999_0001QU"; scale = pos 1000000 }
