@@ -1,9 +1,10 @@
 -- The laws of a border's areas: how large they are, that a well made border has them, that they depend on its own points alone, and
 -- not on where the sheet lies. Assumes nothing.
-use mathlib.Core.Path.{_≡_, refl}
+use mathlib.Core.Path.{_≡_, refl, subst}
 use mathlib.Core.List.{List, [], _∷_, _++_}
 use mathlib.Core.Bool.{Bool, true, false}
 use Prim.Native.Nat.{ℕ, _+_, _-_, _*_, _≤_}
+use native.Mathlib.Nat.{zero-add}
 use native.Mathlib.Omega.{arith}
 use lib.Dec.{leb}
 use lib.ListN.{length}
@@ -134,6 +135,59 @@ areas-there t e k q =
     let i = islandsOf t in
     both-there (areaOf (t .points) 0 (v - sum i)) (totalFrom (t .points) (v - sum i) i) (area-there (t .points) 0 (v - sum i) (omega arith) (omega arith) (omega arith))
     (total-there (t .points) (v - sum i) i (c .islands) (omega arith) (omega arith)) (rw (le-leb v most a) at q)
+
+-- ---- a border that has them has its rings in the table
+
+-- every one of rings of these sizes, one behind the other
+abbrev pub AllHeld : List ℤ → ℕ → List ℕ → Type 0
+AllHeld ps from [] = Unit {0}
+AllHeld ps from (n ∷ ns) = (held (length ps) from n ≡ true) × AllHeld ps (from + n) ns
+
+abbrev HeldWhere : Type 0 → Area → Type 0
+HeldWhere q (Doubled d) = q
+HeldWhere q Wide = Unit {0}
+HeldWhere q Missing = Unit {0}
+
+plus-held : (p q : Type 0) (x y : Area) → HeldWhere p x → HeldWhere q y → HeldWhere (p × q) (areasTogether x y)
+plus-held p q (Doubled a) (Doubled b) h k = (h, k)
+plus-held p q (Doubled a) Wide h k = tt
+plus-held p q (Doubled a) Missing h k = tt
+plus-held p q Wide y h k = tt
+plus-held p q Missing y h k = tt
+
+area-held : (ps : List ℤ) (from n : ℕ) → HeldWhere (held (length ps) from n ≡ true) (areaOf ps from n)
+unfolding areaOf
+area-held ps from n =
+    cond-elim (HeldWhere (held (length ps) from n ≡ true)) (held (length ps) from n) _ _
+    (λ h. cond-elim (HeldWhere (held (length ps) from n ≡ true)) (narrow ps from n) _ _ (λ _. h) (λ _. tt)) (λ _. tt)
+
+total-held : (ps : List ℤ) (from : ℕ) (ns : List ℕ) → HeldWhere (AllHeld ps from ns) (totalFrom ps from ns)
+unfolding totalFrom
+total-held ps from [] = tt
+total-held ps from (n ∷ ns) =
+    plus-held (held (length ps) from n ≡ true) (AllHeld ps (from + n) ns) (areaOf ps from n) (totalFrom ps (from + n) ns) (area-held ps from n) (total-held ps (from + n) ns)
+
+abbrev AnyHeld : Type 0 → Areas → Type 0
+AnyHeld q (Of outer inner) = q
+AnyHeld q AnyWide = Unit {0}
+AnyHeld q AnyMissing = Unit {0}
+
+both-held : (p q : Type 0) (x y : Area) → HeldWhere p x → HeldWhere q y → AnyHeld (p × q) (ofRings x y)
+both-held p q (Doubled a) (Doubled b) h k = (h, k)
+both-held p q (Doubled a) Wide h k = tt
+both-held p q (Doubled a) Missing h k = tt
+both-held p q Wide y h k = tt
+both-held p q Missing y h k = tt
+
+pub areas-held : (v : ℕ) (islands : List ℕ) (ps : List ℤ) (outer inner : ℤ) → areasOf v islands ps ≡ Of outer inner → AllHeld ps 0 ((v - sum islands) ∷ islands)
+unfolding areasOf
+areas-held v islands ps outer inner e =
+    subst (AnyHeld (AllHeld ps 0 ((v - sum islands) ∷ islands))) e
+    (cond-elim (AnyHeld (AllHeld ps 0 ((v - sum islands) ∷ islands))) (leb v most) _ _
+    (λ h. rw (zero-add (v - sum islands))
+    (both-held (held (length ps) 0 (v - sum islands) ≡ true) (AllHeld ps (v - sum islands) islands) (areaOf ps 0 (v - sum islands)) (totalFrom ps (v - sum islands) islands)
+    (area-held ps 0 (v - sum islands)) (total-held ps (v - sum islands) islands)))
+    (λ h. tt))
 
 -- ---- they depend on the border's own points alone
 

@@ -4,4 +4,4 @@ pub mod QuestionLaws
 pub mod RefusedLaws
 pub mod UsedLaws
 mod AreaWays
-mod QuestionWays
+pub mod QuestionWays

@@ -3,6 +3,7 @@ pub mod WordLaws
 pub mod OddLaws
 pub mod NearLaws
 pub mod HoldLaws
+pub mod CellLaws
 pub mod CornerLaws
 pub mod SameLaws
 mod CentreWays

@@ -65,7 +65,7 @@ pub fn wide(n: u16) -> usize
 }
 
 // A count; a number below 0 counts nothing.
-fn count_of(z: i64) -> usize
+pub fn count_of(z: i64) -> usize
     ensures { λ r. ⌜ r ≡ natOf z ⌝ }
 {
     if z < 0 {

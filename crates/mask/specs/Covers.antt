@@ -1,9 +1,13 @@
 -- Which centres lie inside a border (document 02, T-03): "inside by the even-odd rule over all rings". Assumes nothing: these are definitions.
+use mathlib.Core.Path.{_≡_}
 use mathlib.Core.Bool.{Bool, true, _&&_}
 use mathlib.Core.List.{List, [], _∷_}
-use Prim.Native.Nat.{ℕ, _+_, _-_}
+use Prim.Native.Nat.{ℕ, _+_, _-_, _<_}
+use lib.ListN.{length, getD}
+use lib.Bits.{bitXor}
 use lib.IntN.{ℤ}
 use Rattle.grid.specs.Inside.{centre-x, centre-y, oneIf, isOdd, crossings, in-ring}
+use Rattle.grid.specs.Words.{gridSide}
 use Rattle.grid.specs.Cells.{ringCells}
 
 -- how many edges count of rings of these sizes, one behind the other from vertex `from` on; a ring of n vertices has n - 1
@@ -26,7 +30,14 @@ unfoldable pub rings-round : List ℤ → ℕ → List ℕ → ℤ → ℤ → �
 rings-round ps from [] x y = 0
 rings-round ps from (n ∷ ns) x y = oneIf (in-ring ps from n x y) + rings-round ps (from + n) ns x y
 
--- ---- for a private contract: rings of these sizes can all be traced
+-- ---- for private contracts
+
+-- rings of these sizes can all be traced
 unfoldable pub all-traced : List ℤ → ℕ → List ℕ → ℤ → ℤ → ℕ → Bool
 all-traced ps from [] cx cy s = true
 all-traced ps from (n ∷ ns) cx cy s = ringCells ps from n cx cy s .traced && all-traced ps (from + n) ns cx cy s
+
+-- each of the 64 rows is xored by the other's
+pub record TurnedOver (before cells after : List ℕ) : Type 0 where
+  pub sized : length after ≡ length before
+  pub each : (r : ℕ) → r < gridSide → getD after r 0 ≡ bitXor (getD before r 0) (getD cells r 0)

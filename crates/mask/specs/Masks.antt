@@ -3,14 +3,13 @@ use Prim.Native.Nat.{ℕ}
 use mathlib.Core.List.{List}
 use mathlib.Core.Bool.{Bool, cond, _&&_}
 use lib.Dec.{eqb}
-use lib.IntN.{ℤ, pos, natAbs}
-use lib.Signed.{leZ}
+use lib.IntN.{ℤ}
 use lib.ListN.{replicate}
 use Rattle.record.specs.Refusals.{tooWide, noSuch, offTile}
 use Rattle.kinds.specs.Kinds.{verticesPlace}
 use Rattle.heading.specs.declared.Header.{Header}
 use Rattle.sheet.specs.Tables.{Tables}
-use Rattle.made.specs.Made.{countAt, kindOf, islandsOf, ringSizes}
+use Rattle.made.specs.Made.{natOf, countAt, kindOf, islandsOf, ringSizes}
 use Rattle.row.specs.declared.Sought.{Sought}
 use Rattle.row.specs.declared.Sought.the-variants.{At as Stood, Missing as NoRow, Refused as NoSheet}
 use Rattle.row.specs.Walk.{leftAt}
@@ -19,7 +18,7 @@ use Rattle.area.specs.declared.Areas.{Areas}
 use Rattle.area.specs.declared.Areas.the-variants.{Of, Wide as AnyWide, Missing as AnyMissing}
 use Rattle.area.specs.BorderRings.{areasOf}
 use Rattle.grid.specs.Words.{gridSide, rowWords, allCellsSet}
-use Rattle.grid.specs.Cells.{mostSide, grid-real, near-from}
+use Rattle.grid.specs.Cells.{isCellSide, grid-real, near-from}
 use Rattle.mask.specs.declared.MaskAnswer.{MaskAnswer}
 use Rattle.mask.specs.declared.MaskAnswer.the-variants.{Drawn, BadSide, Wide, OffGrid, Missing, Refused}
 use Rattle.mask.specs.declared.Mask.{Mask}
@@ -44,22 +43,22 @@ afterAreas m AnyWide = undrawn Wide
 afterAreas m AnyMissing = undrawn Missing
 
 -- a border: 26 "for a cell side outside 1 to 10,000", then 17, then 20
-unfoldable pub maskOf : ℕ → List ℕ → List ℤ → ℤ → ℤ → ℤ → Mask
-maskOf v islands ps cx cy side =
-    cond (leZ (pos 1) side && leZ side (pos mostSide)) (afterAreas (borderMask v islands ps cx cy (natAbs side)) (areasOf v islands ps)) (undrawn BadSide)
+unfoldable pub maskOf : ℕ → List ℕ → List ℤ → ℤ → ℤ → ℕ → Mask
+maskOf v islands ps cx cy s = cond (isCellSide s) (afterAreas (borderMask v islands ps cx cy s) (areasOf v islands ps)) (undrawn BadSide)
 
 -- the first row of what is left: 19 where it is no border
-unfoldable pub maskOfRow : Tables → ℤ → ℤ → ℤ → Mask
-maskOfRow t cx cy side = cond (eqb (kindOf t) 1) (maskOf (countAt t verticesPlace) (islandsOf t) (t .points) cx cy side) (undrawn Missing)
+unfoldable pub maskOfRow : Tables → ℤ → ℤ → ℕ → Mask
+maskOfRow t cx cy s = cond (eqb (kindOf t) 1) (maskOf (countAt t verticesPlace) (islandsOf t) (t .points) cx cy s) (undrawn Missing)
 
 -- a row of the sheet: the header (6), then 15, then 19
-abbrev pub maskFound : Tables → ℤ → ℤ → ℤ → Sought → Mask
-maskFound t cx cy side (Stood d) = maskOfRow (leftAt t d) cx cy side
-maskFound t cx cy side NoRow = undrawn Missing
-maskFound t cx cy side (NoSheet v) = undrawn (Refused v)
+abbrev pub maskFound : ℤ → ℤ → ℕ → Tables → Sought → Mask
+maskFound cx cy s t (Stood d) = maskOfRow (leftAt t d) cx cy s
+maskFound cx cy s t NoRow = undrawn Missing
+maskFound cx cy s t (NoSheet v) = undrawn (Refused v)
 
+-- a side below 0 is as good as 0
 unfoldable pub maskAt : Header → ℕ → Tables → ℕ → ℤ → ℤ → ℤ → Mask
-maskAt h count t row cx cy side = maskFound t cx cy side (soughtOf h count t row)
+maskAt h count t row cx cy side = maskFound cx cy (natOf side) t (soughtOf h count t row)
 
 -- ---- the paper's number and values: 15 alone returns a row; where it is refused no cell is covered
 

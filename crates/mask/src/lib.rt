@@ -1,26 +1,26 @@
 // Label masks (document 02, T-03): which cells of a grid of 64 rows of 64 have their centre inside a border of a sheet. A package above the sheet
 // library, for masks only. All is proved, and no public function has a `requires`. A ring's cells are crate `grid`'s; a border's are its rings' turned over each other.
 ghost use mathlib.Core.Path.{_≡_};
-ghost use mathlib.Core.Bool.{true};
+ghost use mathlib.Core.Bool.{true, _&&_};
 ghost use mathlib.Core.List.{[], _∷_};
 ghost use Prim.Native.Nat.{_≤_};
 ghost use lib.ListN.{length};
 ghost use lib.Count.{ones};
-ghost use Rattle.made.specs.Made.{tablesOf};
+ghost use Rattle.made.specs.Made.{tablesOf, ringSizes};
 ghost use Rattle.row.specs.Walk.{cellIn};
 ghost use Rattle.grid.specs.Inside.{ring-covers};
 ghost use Rattle.grid.specs.Words.{gridSide, setBits};
-ghost use Rattle.grid.specs.Cells.{untraced};
-ghost use Rattle.grid.specs.Trace.{RowsHold, Xored};
-ghost use Rattle.mask.specs.Covers.{covers, all-traced, borderCells};
+ghost use Rattle.grid.specs.Cells.{grid-real, near-from};
+ghost use Rattle.grid.specs.Trace.{RowsHold};
+ghost use Rattle.mask.specs.Covers.{covers, all-traced, TurnedOver};
 ghost use Rattle.mask.specs.Masks.{undrawn, borderMask, maskOf, maskOfRow, maskAt};
 use area::Areas;
 use area::areas_of;
-use grid::RingCells;
 use grid::ring_cells;
 use heading::Header;
 use made::Verdict;
 use made::count_at;
+use made::count_of;
 use made::outer_of;
 use made::wide;
 use row::Sought;
@@ -34,7 +34,10 @@ const ISLANDS_PLACE: usize = 10;
 const VERTICES_PLACE: usize = 11;
 
 // The longest side of a cell.
-const MOST_SIDE: i64 = 10_000;
+const MOST_SIDE: usize = 10_000;
+
+// Rows of a grid.
+const SIDE: usize = 64;
 
 pub enum MaskAnswer {
     // How many cells are covered.
@@ -63,8 +66,135 @@ fn turn_over(rows: &mut [u64], cells: &[u64])
     ensures { λ r. ⌜ TurnedOver (now (rows .entry)) (now (cells .entry)) (now (rows .exit)) ⌝ }
 {
     let mut r = 0;
-    while r < rows.len() {
+    while r < SIDE {
         rows[r] = rows[r] ^ cells[r];
         r += 1;
+    }
+}
+
+// Turns over the cells of rings of these sizes, one behind the other from vertex `from` on, in rows that hold the outer ring's, and says whether all could
+// be traced; where they could not, the rows are of no use.
+fn turn_islands(rows: &mut [u64], points: &[i64], from: usize, sizes: &[u16], cx: i64, cy: i64, cell: usize) -> bool
+    requires { ⌜ RowsHold (ring-covers (now points) 0 from cx cy cell) (now rows) ⌝ }
+    ensures { λ ok. ⌜ (ok ≡ all-traced (now (points .entry)) from (now (sizes .entry)) cx cy cell) × (ok ≡ true → RowsHold (covers (now (points .entry)) (from ∷ now (sizes .entry)) cx cy cell) (now (rows .exit))) ⌝ }
+{
+    let mut at = from;
+    let mut i = 0;
+    while i < sizes.len() {
+        let n = wide(sizes[i]);
+        let ring = ring_cells(points, at, n, cx, cy, cell);
+        if !ring.traced {
+            return false;
+        }
+        turn_over(rows, &ring.rows);
+        at += n;
+        i += 1;
+    }
+    true
+}
+
+// Set bits of one row.
+fn ones_of(w: u64) -> usize
+    ensures { λ r. ⌜ (r ≡ ones w) × (r ≤ gridSide) ⌝ }
+{
+    u64::count_ones(w) as usize
+}
+
+// Set bits of all rows.
+fn covered_in(rows: &[u64]) -> usize
+    requires { ⌜ length (now rows) ≤ gridSide ⌝ }
+    ensures { λ r. ⌜ r ≡ setBits (now (rows .entry)) ⌝ }
+{
+    let mut n: usize = 0;
+    let mut i = 0;
+    while i < rows.len() {
+        n += ones_of(rows[i]);
+        i += 1;
+    }
+    n
+}
+
+fn blank_of(answer: MaskAnswer) -> Mask
+    ensures { λ r. ⌜ r ≡ undrawn answer ⌝ }
+{
+    let rows = [0u64; 64];
+    Mask { answer, rows }
+}
+
+// A border whose rings can be traced where the grid and all of its vertices lie where they may.
+fn draw_border(v: usize, islands: &[u16], points: &[i64], cx: i64, cy: i64, cell: usize) -> Mask
+    requires { ⌜ all-traced (now points) 0 (ringSizes v (now islands)) cx cy cell ≡ (grid-real cx cy cell && near-from (now points) cx cy 0 v) ⌝ }
+    ensures { λ r. ⌜ r ≡ borderMask v (now (islands .entry)) (now (points .entry)) cx cy cell ⌝ }
+{
+    let n = outer_of(v, islands);
+    let outer = ring_cells(points, 0, n, cx, cy, cell);
+    if !outer.traced {
+        return blank_of(MaskAnswer::OffGrid);
+    }
+    let mut rows = outer.rows;
+    if !turn_islands(&mut rows, points, n, islands, cx, cy, cell) {
+        return blank_of(MaskAnswer::OffGrid);
+    }
+    let covered = covered_in(&rows);
+    Mask {
+        answer: MaskAnswer::Drawn(covered),
+        rows,
+    }
+}
+
+// The mask of a border of v vertices, whose first stands first in `points`: the grid's north-west corner is (cx, cy), its cells are `cell` mm wide and high.
+pub fn mask_border(v: usize, islands: &[u16], points: &[i64], cx: i64, cy: i64, cell: usize) -> Mask
+    ensures { λ r. ⌜ r ≡ maskOf v (now (islands .entry)) (now (points .entry)) cx cy cell ⌝ }
+{
+    if cell < 1 {
+        return blank_of(MaskAnswer::BadSide);
+    }
+    if MOST_SIDE < cell {
+        return blank_of(MaskAnswer::BadSide);
+    }
+    match areas_of(v, islands, points) {
+        Areas::Missing => blank_of(MaskAnswer::Missing),
+        Areas::Wide => blank_of(MaskAnswer::Wide),
+        Areas::Of { .. } => draw_border(v, islands, points, cx, cy, cell),
+    }
+}
+
+// The mask of the first row.
+fn mask_of_row(rows: &[i64], islands: &[u16], points: &[i64], cx: i64, cy: i64, cell: usize) -> Mask
+    requires { ⌜ cellIn (now rows) 10 ≤ length (now islands) ⌝ }
+    ensures { λ r. ⌜ r ≡ maskOfRow (tablesOf (now (rows .entry)) [] (now (islands .entry)) (now (points .entry))) cx cy cell ⌝ }
+{
+    if count_at(rows, 0) != BORDER {
+        return blank_of(MaskAnswer::Missing);
+    }
+    let i = count_at(rows, ISLANDS_PLACE);
+    let v = count_at(rows, VERTICES_PLACE);
+    mask_border(v, &islands[..i], points, cx, cy, cell)
+}
+
+// The mask of a border of the sheet: the grid's north-west corner is (cx, cy), its cells are `side` mm wide and high.
+pub fn mask_of(
+    header: Header,
+    count: usize,
+    rows: &[i64],
+    letters: &[u8],
+    islands: &[u16],
+    points: &[i64],
+    row: usize,
+    cx: i64,
+    cy: i64,
+    side: i64,
+) -> Mask
+    ensures { λ r. ⌜ r ≡ maskAt header count (tablesOf (now (rows .entry)) (now (letters .entry)) (now (islands .entry)) (now (points .entry))) row cx cy side ⌝ }
+{
+    match seek(header, count, rows, letters, islands, points, row) {
+        Sought::Refused(v) => blank_of(MaskAnswer::Refused(v)),
+        Sought::Missing => blank_of(MaskAnswer::Missing),
+        Sought::At(s) => {
+            let r = s.row;
+            let i = s.islands;
+            let p = s.points;
+            mask_of_row(&rows[r..], &islands[i..], &points[p..], cx, cy, count_of(side))
+        }
     }
 }

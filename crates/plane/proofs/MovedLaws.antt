@@ -17,13 +17,13 @@ diff-moved a b d =
     eq-parts ((a +ℤ d) -ℤ (b +ℤ d)) (a -ℤ b) (omega (arith, num a, num b, num d, sum a d, sum b d, diff a b, diff (a +ℤ d) (b +ℤ d)))
 
 module _ (dx dy : ℤ) where
-  length-moved : (ps : List ℤ) → length (moved dx dy ps) ≡ length ps
+  pub length-moved : (ps : List ℤ) → length (moved dx dy ps) ≡ length ps
   unfolding moved
   length-moved [] = refl
   length-moved (x ∷ []) = refl
   length-moved (x ∷ y ∷ ps) = ap (λ (n : ℕ). suc (suc n)) (length-moved ps)
 
-  x-moved : (ps : List ℤ) (v : ℕ) → 2 * v + 1 < length ps → x-at (moved dx dy ps) v ≡ x-at ps v +ℤ dx
+  pub x-moved : (ps : List ℤ) (v : ℕ) → 2 * v + 1 < length ps → x-at (moved dx dy ps) v ≡ x-at ps v +ℤ dx
   unfolding moved
   x-moved [] v h = let z : ⊥ = omega arith in absurd z
   x-moved (x ∷ []) v h = let z : ⊥ = omega arith in absurd z
@@ -32,7 +32,7 @@ module _ (dx dy : ℤ) where
       let e : 2 * suc v ≡ suc (suc (2 * v)) = omega arith in
       rw e (x-moved ps v (omega arith))
 
-  y-moved : (ps : List ℤ) (v : ℕ) → 2 * v + 1 < length ps → y-at (moved dx dy ps) v ≡ y-at ps v +ℤ dy
+  pub y-moved : (ps : List ℤ) (v : ℕ) → 2 * v + 1 < length ps → y-at (moved dx dy ps) v ≡ y-at ps v +ℤ dy
   unfolding moved
   y-moved [] v h = let z : ⊥ = omega arith in absurd z
   y-moved (x ∷ []) v h = let z : ⊥ = omega arith in absurd z

@@ -1,0 +1,6 @@
+-- The laws of the definitions of crate `mask`, and the ways through its code; the functions' proofs stand in folders of their names.
+pub mod CoverLaws
+pub mod RefusedLaws
+mod CountWays
+mod TurnWays
+mod MaskWays
