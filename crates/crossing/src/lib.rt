@@ -7,11 +7,14 @@ ghost use Prim.Native.Nat.{ℕ, _+_, _*_, _-_, _≤_, _<_};
 ghost use lib.ListN.{length};
 ghost use lib.IntN.{ℤ, _+ℤ_, _-ℤ_, _*ℤ_};
 ghost use lib.Signed.{ltZ};
-ghost use Rattle.laws.specs.Whole.{Within, lowZ, highZ};
+ghost use Rattle.laws.specs.Whole.{Within};
 ghost use Rattle.plane.specs.Rings.{all-near};
 ghost use Rattle.crossing.specs.Edges.{span, Close, point-at, side, dot, equal-ends, neighbours-overlap, spans-overlap, beside-line, boxes-overlap, edges-meet};
 ghost use Rattle.crossing.specs.Search.{faulty-pair, FirstFault, verdictOf};
 ghost use Rattle.crossing.specs.Runs.{along, SideRun, Skip, span-meets};
+use plane::higher;
+use plane::is_narrow;
+use plane::lower;
 
 pub struct Point {
     pub x: i64,
@@ -109,18 +112,6 @@ fn beside_line(a: Point, b: Point, c: Point, d: Point) -> bool
         return t < 0;
     }
     false
-}
-
-fn lower(a: i64, b: i64) -> i64
-    ensures { λ r. ⌜ r ≡ lowZ a b ⌝ }
-{
-    if a < b { a } else { b }
-}
-
-fn higher(a: i64, b: i64) -> i64
-    ensures { λ r. ⌜ r ≡ highZ a b ⌝ }
-{
-    if a < b { b } else { a }
 }
 
 // Whether the spans from a to b and from c to d, ends counted, share a number.
@@ -306,7 +297,7 @@ pub fn first_fault(points: &[i64], from: usize, count: usize) -> RingVerdict
     if !plane::is_ring(points, from, count) {
         return RingVerdict::Missing;
     }
-    if !plane::is_narrow(points, from, count) {
+    if !is_narrow(points, from, count) {
         return RingVerdict::Wide;
     }
     let found = search(points, from, count - 1);

@@ -10,10 +10,10 @@ use lib.Signed.{ltZ, leZ, nonNeg, mag}
 use lib.Pow.{pow-pos, ones-split, high, ones-lt}
 use mir.Syntax.{w64}
 use mir.Val.{SFits, Fits, toZ, ofZ}
-use mir.Facts.{toZ-ofZ, fits-natAbs}
+use mir.Facts.{toZ-ofZ, toZ-pos, fits-natAbs}
 use borrow.Author.Tests.{lt-ltb, le-ltb, ltb-true, ltb-false}
 use Rattle.laws.specs.Whole.{Within}
-use Rattle.laws.proofs.Parts.{ints, num, diff, lt-true, lt-false}
+use Rattle.laws.proofs.Parts.{ints, num, diff, lt-true, lt-false, le-yes, le-no}
 use Rattle.laws.proofs.Bounds.{within-sub, within-add, within-mul, within-le, within-fits}
 use Rattle.laws.proofs.Bits.{diff-bits, ask-diff, holds-diff, back}
 use Rattle.laws.proofs.Choice.{false≢true}
@@ -71,23 +71,18 @@ module _ (step bound : ℕ) (h : 0 < step) where
         splits = λ c d. let m : (2 * c + 1) * step ≤ 127 * step = mul-le-mul (omega arith) (le-refl step) in lt-ltb (centreAt step c) bound (omega arith) ∙ sym (lt-ltb c 64 d);
       }
 
-  pub before-first : bound ≤ step → CentresBefore step (pos bound) 0
-  before-first l =
-      record {
-        most = omega arith;
-        splits = λ c d. let m : 1 * step ≤ (2 * c + 1) * step = mul-le-mul (omega arith) (le-refl step) in le-ltb (centreAt step c) bound (omega arith) ∙ sym (le-ltb c 0 (omega arith));
-      }
-
-pub ruleset before-ways = (before-some, before-all, before-first)
+pub ruleset before-ways = (before-some, before-all)
 
 -- ---- a bound of either sign
 
-lt-neg : (n : ℕ) (b : ℤ) → ltZ b (pos 0) ≡ true → ltZ (pos n) b ≡ false
-lt-neg n (pos b) e = let z : b < 0 = ltb-true b 0 e in let y : ⊥ = omega arith in absurd y
-lt-neg n (negsuc b) e = refl
-
-pub before-none : (step : ℕ) (bound : ℤ) → ltZ bound (pos 0) ≡ true → CentresBefore step bound 0
-before-none step bound e = record { most = omega arith; splits = λ c d. lt-neg (centreAt step c) bound e ∙ sym (le-ltb c 0 (omega arith)) }
+-- none lies before a bound that is no further than the first
+before-none : (step : ℕ) (bound : ℤ) → leZ bound (pos step) ≡ true → CentresBefore step bound 0
+before-none step bound e =
+    record {
+      most = omega arith;
+      splits = λ c d. let m : 1 * step ≤ (2 * c + 1) * step = mul-le-mul (omega arith) (le-refl step) in
+          lt-false (pos (centreAt step c)) bound (omega (arith, le-yes bound (pos step) e)) ∙ sym (le-ltb c 0 (omega arith));
+    }
 
 pub is-pos : (z : ℤ) → ltZ z (pos 0) ≡ false → z ≡ pos (natAbs z)
 is-pos (pos n) e = refl
@@ -117,21 +112,25 @@ west-all k h l =
 
 -- ---- the signed leaves
 
-module _ (step : ℕ) (bound : ℤ) (f : SFits w64 bound) (t : ltZ (toZ w64 (ofZ w64 bound)) (pos 0) ≡ false) where
-  above : ltZ bound (pos 0) ≡ false
-  above = rw (toZ-ofZ f) at t
+module _ (step : ℕ) (bound : ℤ) (f : SFits w64 bound) (g : step ≤ 1600000000000) where
+  first-reads : leZ (toZ w64 (ofZ w64 bound)) (toZ w64 step) ≡ leZ bound (pos step)
+  first-reads = rw (toZ-ofZ f, toZ-pos w64 {n = step} (omega arith))
 
-  pub centres-cast : T (nonNeg (toZ w64 (ofZ w64 bound))) × Fits w64 (natAbs (toZ w64 (ofZ w64 bound)))
-  centres-cast = rw (toZ-ofZ f) (cast-asks bound above f)
+  pub centres-none : leZ (toZ w64 (ofZ w64 bound)) (toZ w64 step) ≡ true → CentresBefore step bound 0
+  centres-none t = before-none step bound (sym first-reads ∙ t)
 
-  pub centres-bound : {m : ℕ} → Within m bound → natAbs (toZ w64 (ofZ w64 bound)) ≤ m
-  centres-bound {m} w = rw (toZ-ofZ f) (w .within)
+  module _ (t : leZ (toZ w64 (ofZ w64 bound)) (toZ w64 step) ≡ false) where
+    above : ltZ bound (pos 0) ≡ false
+    above = lt-false bound (pos 0) (omega (arith, le-no bound (pos step) (sym first-reads ∙ t)))
 
-  pub centres-are : (k : ℕ) → CentresBefore step (pos (natAbs (toZ w64 (ofZ w64 bound)))) k → CentresBefore step bound k
-  centres-are k b = subst (λ (z : ℤ). CentresBefore step z k) (sym (is-pos bound above)) (rw (toZ-ofZ f) at b)
+    pub centres-cast : T (nonNeg (toZ w64 (ofZ w64 bound))) × Fits w64 (natAbs (toZ w64 (ofZ w64 bound)))
+    centres-cast = rw (toZ-ofZ f) (cast-asks bound above f)
 
-pub centres-none : (step : ℕ) (bound : ℤ) → SFits w64 bound → ltZ (toZ w64 (ofZ w64 bound)) (pos 0) ≡ true → CentresBefore step bound 0
-centres-none step bound f t = before-none step bound (rw (toZ-ofZ f) at t)
+    pub centres-bound : {m : ℕ} → Within m bound → natAbs (toZ w64 (ofZ w64 bound)) ≤ m
+    centres-bound {m} w = rw (toZ-ofZ f) (w .within)
+
+    pub centres-are : (k : ℕ) → CentresBefore step (pos (natAbs (toZ w64 (ofZ w64 bound)))) k → CentresBefore step bound k
+    centres-are k b = subst (λ (z : ℤ). CentresBefore step z k) (sym (is-pos bound above)) (rw (toZ-ofZ f) at b)
 
 -- how far two heights lie apart, the first north of the second
 module _ (n s : ℤ) (wn : Within 80000000 n) (ws : Within 80000000 s) (l : ltZ n s ≡ true) where

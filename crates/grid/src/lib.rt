@@ -40,9 +40,6 @@ fn centres_to(step: usize, bound: usize) -> usize
     requires { ⌜ (0 < step) × (step ≤ 1600000000000) × (bound ≤ 4611686018427387903) ⌝ }
     ensures { λ r. ⌜ CentresBefore step (pos bound) r ⌝ }
 {
-    if bound <= step {
-        return 0;
-    }
     if 127 * step < bound {
         return SIDE;
     }
@@ -54,7 +51,7 @@ fn centres_before(step: usize, bound: i64) -> usize
     requires { ⌜ (0 < step) × (step ≤ 1600000000000) × Within 4611686018427387903 bound ⌝ }
     ensures { λ r. ⌜ CentresBefore step bound r ⌝ }
 {
-    if bound < 0 {
+    if bound <= step as i64 {
         return 0;
     }
     centres_to(step, bound as usize)

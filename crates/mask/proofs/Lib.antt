@@ -4,5 +4,6 @@ pub mod RefusedLaws
 pub mod SameLaws
 pub mod UsedLaws
 mod CountWays
+mod WidthWays
 mod TurnWays
 mod MaskWays

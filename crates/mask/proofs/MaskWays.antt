@@ -40,8 +40,12 @@ use Rattle.grid.proofs.NearLaws.{near-split}
 use Rattle.grid.proofs.CellLaws.{traced-where, traced-cells}
 use Rattle.mask.specs.declared.MaskAnswer.the-variants.{Drawn, BadSide, Wide, OffGrid, Missing, Refused}
 use Rattle.mask.specs.declared.Mask.{Mask}
+use Rattle.mask.specs.declared.Widths.{Widths}
+use Rattle.mask.specs.declared.Widths.the-variants.{Fine, Wide as TooWide, Missing as NoRing}
 use Rattle.mask.specs.Covers.{covers, all-traced}
-use Rattle.mask.specs.Masks.{undrawn, borderMask, maskOf, maskOfRow, maskAt}
+use Rattle.mask.specs.Width.{widthsOf}
+use Rattle.mask.proofs.WidthWays.{has-areas}
+use Rattle.mask.specs.Masks.{undrawn, afterAreas, borderMask, maskOf, maskOfRow, maskAt}
 
 abbrev bits : ℤ → ℤ
 bits z = toZ w64 (ofZ w64 z)
@@ -116,6 +120,19 @@ module _ (ps : List ℤ) (cx cy : ℤ) (s : ℕ) (c : isCellSide s ≡ true) whe
 
 -- ---- a border
 
+after-fine : (m : Mask) (x : Areas) → Fine ≡ widthsOf x → m ≡ afterAreas m x
+after-fine m x e = has-areas x e (m ≡ afterAreas m x) (λ outer inner q. rw q)
+
+after-wide : (m : Mask) (x : Areas) → TooWide ≡ widthsOf x → undrawn Wide ≡ afterAreas m x
+after-wide m (Of outer inner) e = absurd (let z : _≡_ {A = ℕ} 0 1 = cc in omega arith)
+after-wide m AnyWide e = refl
+after-wide m AnyMissing e = absurd (let z : _≡_ {A = ℕ} 0 1 = cc in omega arith)
+
+after-missing : (m : Mask) (x : Areas) → NoRing ≡ widthsOf x → undrawn Missing ≡ afterAreas m x
+after-missing m (Of outer inner) e = absurd (let z : _≡_ {A = ℕ} 0 1 = cc in omega arith)
+after-missing m AnyWide e = absurd (let z : _≡_ {A = ℕ} 0 1 = cc in omega arith)
+after-missing m AnyMissing e = refl
+
 module _ (v : ℕ) (islands : List ℕ) (ps : List ℤ) (cx cy : ℤ) (s : ℕ) where
   pub side-low : s < 1 → (r : Mask) → r ≡ undrawn BadSide → r ≡ maskOf v islands ps cx cy s
   unfolding maskOf isCellSide
@@ -126,26 +143,28 @@ module _ (v : ℕ) (islands : List ℕ) (ps : List ℤ) (cx cy : ℤ) (s : ℕ) 
     unfolding maskOf isCellSide
     side-high h r e = rw (le-leb 1 s l, lt-leb s mostSide h) e
 
-    module _ (h : s ≤ mostSide) (x : Areas) (ex : x ≡ areasOf v islands ps) where
+    module _ (h : s ≤ mostSide) (x : Widths) (ex : x ≡ widthsOf (areasOf v islands ps)) where
       is-side : isCellSide s ≡ true
       unfolding isCellSide
       is-side = rw (le-leb 1 s l, le-leb s mostSide h)
 
-      pub mask-missing : x ≡ AnyMissing → (r : Mask) → r ≡ undrawn Missing → r ≡ maskOf v islands ps cx cy s
+      pub mask-missing : x ≡ NoRing → (r : Mask) → r ≡ undrawn Missing → r ≡ maskOf v islands ps cx cy s
       unfolding maskOf
-      mask-missing m r e = rw (is-side, ← ex, m) e
+      mask-missing m r e = rw is-side (e ∙ after-missing (borderMask v islands ps cx cy s) (areasOf v islands ps) (sym m ∙ ex))
 
-      pub mask-wide : x ≡ AnyWide → (r : Mask) → r ≡ undrawn Wide → r ≡ maskOf v islands ps cx cy s
+      pub mask-wide : x ≡ TooWide → (r : Mask) → r ≡ undrawn Wide → r ≡ maskOf v islands ps cx cy s
       unfolding maskOf
-      mask-wide m r e = rw (is-side, ← ex, m) e
+      mask-wide m r e = rw is-side (e ∙ after-wide (borderMask v islands ps cx cy s) (areasOf v islands ps) (sym m ∙ ex))
 
-      module _ (outer inner : ℤ) (m : x ≡ Of outer inner) where
+      module _ (m : x ≡ Fine) where
         pub mask-asks : (bx by : ℤ) → all-traced ps 0 (ringSizes v islands) bx by s ≡ (grid-real bx by s && near-from ps bx by 0 v)
-        mask-asks bx by = border-traced ps bx by s is-side v islands (areas-held v islands ps outer inner (sym ex ∙ m))
+        mask-asks bx by =
+            has-areas (areasOf v islands ps) (sym m ∙ ex) (all-traced ps 0 (ringSizes v islands) bx by s ≡ (grid-real bx by s && near-from ps bx by 0 v))
+            (λ outer inner q. border-traced ps bx by s is-side v islands (areas-held v islands ps outer inner q))
 
         pub mask-drawn : SFits w64 cx → SFits w64 cy → (r : Mask) → r ≡ borderMask v islands ps (bits cx) (bits cy) s → r ≡ maskOf v islands ps cx cy s
         unfolding maskOf
-        mask-drawn f g r e = rw (is-side, ← ex, m) (rw (toZ-ofZ f, toZ-ofZ g) at e)
+        mask-drawn f g r e = rw is-side ((rw (toZ-ofZ f, toZ-ofZ g) at e) ∙ after-fine (borderMask v islands ps cx cy s) (areasOf v islands ps) (sym m ∙ ex))
 
 -- ---- the first row
 

@@ -4,3 +4,5 @@ pub mod Masks
 pub mod Examples
 -- For laws: a border whose rings are begun elsewhere or turned round.
 pub mod Redrawn
+-- For private contracts alone.
+pub mod Width

@@ -6,16 +6,17 @@ ghost use mathlib.Core.List.{[], _∷_};
 ghost use Prim.Native.Nat.{_≤_};
 ghost use lib.ListN.{length};
 ghost use lib.Count.{ones};
+ghost use Rattle.plane.specs.Areas.{areaOf};
 ghost use Rattle.made.specs.Made.{tablesOf, ringSizes};
 ghost use Rattle.row.specs.Walk.{cellIn};
+ghost use Rattle.area.specs.BorderRings.{totalFrom, areasOf};
 ghost use Rattle.grid.specs.Inside.{ring-covers};
 ghost use Rattle.grid.specs.Words.{gridSide, setBits};
 ghost use Rattle.grid.specs.Cells.{grid-real, near-from};
 ghost use Rattle.grid.specs.Trace.{RowsHold};
 ghost use Rattle.mask.specs.Covers.{covers, all-traced, TurnedOver};
+ghost use Rattle.mask.specs.Width.{widthOf, widthsOf};
 ghost use Rattle.mask.specs.Masks.{undrawn, borderMask, maskOf, maskOfRow, maskAt};
-use area::Areas;
-use area::areas_of;
 use grid::ring_cells;
 use heading::Header;
 use made::Verdict;
@@ -23,6 +24,8 @@ use made::count_at;
 use made::count_of;
 use made::outer_of;
 use made::wide;
+use plane::is_narrow;
+use plane::is_ring;
 use row::Sought;
 use row::seek;
 
@@ -32,6 +35,9 @@ const BORDER: usize = 1;
 const ISLANDS_PLACE: usize = 10;
 
 const VERTICES_PLACE: usize = 11;
+
+// The most vertices that a sheet gives a border.
+const MOST: usize = 9999;
 
 // The longest side of a cell.
 const MOST_SIDE: usize = 10_000;
@@ -54,10 +60,65 @@ pub enum MaskAnswer {
     Refused(Verdict),
 }
 
+// Whether a ring's area, or a border's, would be answered: what refuses it, without the area.
+enum Widths {
+    Fine,
+    Wide,
+    Missing,
+}
+
 // The northern row first, west in the highest bit; all 0 where it is refused.
 pub struct Mask {
     pub answer: MaskAnswer,
     pub rows: [u64; 64],
+}
+
+// Whether the table holds the ring of n vertices from vertex `from` on, and whether it is too wide: what its area would answer.
+fn width_of(points: &[i64], from: usize, n: usize) -> Widths
+    ensures { λ r. ⌜ r ≡ widthOf (areaOf (now (points .entry)) from n) ⌝ }
+{
+    if !is_ring(points, from, n) {
+        return Widths::Missing;
+    }
+    if !is_narrow(points, from, n) {
+        return Widths::Wide;
+    }
+    Widths::Fine
+}
+
+// The same of rings of these sizes, one behind the other: the first refusal.
+fn widths_from(points: &[i64], from: usize, sizes: &[u16]) -> Widths
+    ensures { λ r. ⌜ r ≡ widthOf (totalFrom (now (points .entry)) from (now (sizes .entry))) ⌝ }
+{
+    let mut at = from;
+    let mut i = 0;
+    while i < sizes.len() {
+        let n = wide(sizes[i]);
+        match width_of(points, at, n) {
+            Widths::Missing => return Widths::Missing,
+            Widths::Wide => return Widths::Wide,
+            Widths::Fine => {
+                at += n;
+                i += 1;
+            }
+        }
+    }
+    Widths::Fine
+}
+
+// The same of a border of v vertices, whose first stands first in `points`.
+fn widths_of(v: usize, islands: &[u16], points: &[i64]) -> Widths
+    ensures { λ r. ⌜ r ≡ widthsOf (areasOf v (now (islands .entry)) (now (points .entry))) ⌝ }
+{
+    if MOST < v {
+        return Widths::Missing;
+    }
+    let n = outer_of(v, islands);
+    match width_of(points, 0, n) {
+        Widths::Missing => Widths::Missing,
+        Widths::Wide => Widths::Wide,
+        Widths::Fine => widths_from(points, n, islands),
+    }
 }
 
 // Turns over each cell of `rows` that `cells` has.
@@ -152,10 +213,10 @@ pub fn mask_border(v: usize, islands: &[u16], points: &[i64], cx: i64, cy: i64, 
     if MOST_SIDE < cell {
         return blank_of(MaskAnswer::BadSide);
     }
-    match areas_of(v, islands, points) {
-        Areas::Missing => blank_of(MaskAnswer::Missing),
-        Areas::Wide => blank_of(MaskAnswer::Wide),
-        Areas::Of { .. } => draw_border(v, islands, points, cx, cy, cell),
+    match widths_of(v, islands, points) {
+        Widths::Missing => blank_of(MaskAnswer::Missing),
+        Widths::Wide => blank_of(MaskAnswer::Wide),
+        Widths::Fine => draw_border(v, islands, points, cx, cy, cell),
     }
 }
 

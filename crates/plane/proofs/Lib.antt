@@ -3,6 +3,7 @@ mod Apart
 pub mod RingLaws
 pub mod AreaLaws
 mod AreaWays
+mod FrameWays
 pub mod AlikeLaws
 pub mod MovedLaws
 pub mod OwnLaws

@@ -6,6 +6,7 @@ use mathlib.Core.Bool.{Bool, true, false, _&&_}
 use Prim.Native.Nat.{ℕ, zero, suc, _+_, _*_, _≤_, _<_}
 use native.Mathlib.Nat.{eq-or-lt-of-le, le-of-suc-le-suc, not-suc-le-zero}
 use native.Mathlib.Numerals.{add-one}
+use native.Mathlib.Omega.{arith}
 use lib.Dec.{leb}
 use lib.ListN.{length}
 use lib.IntN.{ℤ}
@@ -62,6 +63,11 @@ module _ (ps : List ℤ) (from : ℕ) where
   near-each (suc n) e k h =
       ⊎-elim (λ q. subst (λ (j : ℕ). near-first ps from j ≡ true) (sym q) (and-right (all-near ps from n) (near-first ps from n) e))
       (λ l. near-each n (and-left (all-near ps from n) (near-first ps from n) e) k l) (eq-or-lt-of-le (le-of-suc-le-suc h))
+
+  pub near-all : (n : ℕ) → ((k : ℕ) → k < n → near-first ps from k ≡ true) → all-near ps from n ≡ true
+  unfolding all-near
+  near-all zero f = refl
+  near-all (suc n) f = and-both (all-near ps from n) (near-first ps from n) (near-all n (λ k h. f k (omega arith))) (f n (omega arith))
 
   -- one that is too far is enough
   pub near-not : (n k : ℕ) → k < n → near-first ps from k ≡ false → all-near ps from n ≡ false

@@ -3,3 +3,5 @@ pub mod Rings
 pub mod Areas
 pub mod Moved
 pub mod Examples
+-- For a private contract alone.
+pub mod Frames

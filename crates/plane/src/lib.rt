@@ -6,8 +6,9 @@ ghost use mathlib.Core.Bool.{Bool, true};
 ghost use Prim.Native.Nat.{ℕ, _+_, _*_, _-_, _≤_, _<_};
 ghost use lib.ListN.{length};
 ghost use lib.IntN.{ℤ, pos, natAbs, _-ℤ_, _*ℤ_};
-ghost use Rattle.laws.specs.Whole.{Within};
-ghost use Rattle.plane.specs.Rings.{reach, x-at, y-at, held, near, near-first, all-near, narrow};
+ghost use Rattle.laws.specs.Whole.{Within, lowZ, highZ};
+ghost use Rattle.plane.specs.Rings.{reach, x-at, y-at, held, near, narrow};
+ghost use Rattle.plane.specs.Frames.{Least, Greatest};
 ghost use Rattle.plane.specs.Areas.{sum-limit, areaOf};
 
 // How far a vertex may lie from its ring's first, in x and in y.
@@ -23,6 +24,13 @@ pub enum Area {
     Wide,
     // The table holds no such ring.
     Missing,
+}
+
+struct Frame {
+    west: i64,
+    east: i64,
+    south: i64,
+    north: i64,
 }
 
 // Whether a and b are at most REACH apart. Their difference is only taken where it fits.
@@ -56,15 +64,17 @@ fn y_of(points: &[i64], v: usize) -> i64
     points[2 * v + 1]
 }
 
-// Whether vertex k of the ring is near its first.
-fn is_near(points: &[i64], from: usize, k: usize) -> bool
-    requires { ⌜ 2 * (from + k) + 1 < length (now points) ⌝ }
-    ensures { λ r. ⌜ r ≡ near-first (now (points .entry)) from k ⌝ }
+// The lower and the higher of two numbers.
+pub fn lower(a: i64, b: i64) -> i64
+    ensures { λ r. ⌜ r ≡ lowZ a b ⌝ }
 {
-    if within_reach(x_of(points, from), x_of(points, from + k)) {
-        return within_reach(y_of(points, from), y_of(points, from + k));
-    }
-    false
+    if a < b { a } else { b }
+}
+
+pub fn higher(a: i64, b: i64) -> i64
+    ensures { λ r. ⌜ r ≡ highZ a b ⌝ }
+{
+    if a < b { b } else { a }
 }
 
 // Whether the table holds a ring of `count` vertices from vertex `from` on: 1 to 9999 of them.
@@ -84,21 +94,53 @@ pub fn is_ring(points: &[i64], from: usize, count: usize) -> bool
     count <= room - from
 }
 
-// Whether the table holds such a ring, and each vertex of it is near its first: refusal 17 where the second fails.
+// The least and the greatest x and y of a ring that the table holds.
+fn frame_of(points: &[i64], from: usize, count: usize) -> Frame
+    requires { ⌜ held (length (now points)) from count ≡ true ⌝ }
+    ensures { λ r. ⌜ Least (λ k. x-at (now (points .entry)) (from + k)) count (r .west) × Greatest (λ k. x-at (now (points .entry)) (from + k)) count (r .east) × Least (λ k. y-at (now (points .entry)) (from + k)) count (r .south) × Greatest (λ k. y-at (now (points .entry)) (from + k)) count (r .north) ⌝ }
+{
+    let mut west = x_of(points, from);
+    let mut east = x_of(points, from);
+    let mut south = y_of(points, from);
+    let mut north = y_of(points, from);
+    let mut k = 1;
+    while k < count {
+        let x = x_of(points, from + k);
+        let y = y_of(points, from + k);
+        west = lower(west, x);
+        east = higher(east, x);
+        south = lower(south, y);
+        north = higher(north, y);
+        k += 1;
+    }
+    Frame {
+        west,
+        east,
+        south,
+        north,
+    }
+}
+
+// Whether the table holds such a ring, and each vertex of it is near its first: refusal 17 where the second fails. Its frame tells.
 pub fn is_narrow(points: &[i64], from: usize, count: usize) -> bool
     ensures { λ r. ⌜ r ≡ narrow (now (points .entry)) from count ⌝ }
 {
     if !is_ring(points, from, count) {
         return false;
     }
-    let mut k = 0;
-    while k < count {
-        if !is_near(points, from, k) {
-            return false;
-        }
-        k += 1;
+    let frame = frame_of(points, from, count);
+    let x = x_of(points, from);
+    let y = y_of(points, from);
+    if !within_reach(x, frame.west) {
+        return false;
     }
-    true
+    if !within_reach(x, frame.east) {
+        return false;
+    }
+    if !within_reach(y, frame.south) {
+        return false;
+    }
+    within_reach(y, frame.north)
 }
 
 // How far b lies from a that is near it.

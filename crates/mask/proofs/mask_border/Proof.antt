@@ -4,7 +4,7 @@ use Rattle.mask.proofs.mask_border.Statement.{statement}
 use Rattle.mask.proofs.mask_border.Tie as tie
 use Rattle.mask.proofs.mask_border.Reads as reads
 use Rattle.mask.proofs.mask_border.Lts as lts
-use Rattle.area.proofs.areas_of.Reads as areas-of-reads
+use Rattle.area.proofs.areas_of.Reads as widths-of-reads
 use Rattle.mask.proofs.blank_of.Reads as blank-of-reads
 use Rattle.mask.proofs.draw_border.Reads as draw-border-reads
 
@@ -25,8 +25,8 @@ returns-2 : tie.Need-returns-2
 returns-2 c = side-high _ _ _ _ _ _ (c .before .before .if1 .left) (c .before .if2 .taken) _ (c .blank-of2 .ensures)
 
 -- src/lib.rt:155:11
-areas-of-requires : tie.Need-areas-of-requires
-areas-of-requires c κs = search needs
+widths-of-requires : tie.Need-widths-of-requires
+widths-of-requires c κs = search needs
 
 -- src/lib.rt:156:36
 enum-told : tie.Need-enum-told
@@ -50,19 +50,19 @@ enum-told-3 c = search needs
 
 -- src/lib.rt:158:29
 draw-border-requires : tie.Need-draw-border-requires
-draw-border-requires c κs = let s = c .before .before .before .before .before .before in mask-asks _ _ _ (s .args .cx) (s .args .cy) _ (c .before .before .before .before .if1 .left) (c .before .before .before .if2 .left) _ (c .before .before .areas-of .ensures) _ _ (c .enum-told3 .given .1) _ _
+draw-border-requires c κs = let s = c .before .before .before .before .before .before in mask-asks _ _ _ (s .args .cx) (s .args .cy) _ (c .before .before .before .before .if1 .left) (c .before .before .before .if2 .left) _ (c .before .before .widths-of .ensures) (c .enum-told3 .given .1) _ _
 
 -- src/lib.rt:146:1
 returns-3 : tie.Need-returns-3
-returns-3 c = mask-missing _ _ _ _ _ _ (c .before .before .before .before .before .if1 .left) (c .before .before .before .before .if2 .left) _ (c .before .before .before .areas-of .ensures) (c .before .enum-told .given .1) _ (c .blank-of3 .ensures)
+returns-3 c = mask-missing _ _ _ _ _ _ (c .before .before .before .before .before .if1 .left) (c .before .before .before .before .if2 .left) _ (c .before .before .before .widths-of .ensures) (c .before .enum-told .given .1) _ (c .blank-of3 .ensures)
 
 -- src/lib.rt:146:1
 returns-4 : tie.Need-returns-4
-returns-4 c = mask-wide _ _ _ _ _ _ (c .before .before .before .before .before .if1 .left) (c .before .before .before .before .if2 .left) _ (c .before .before .before .areas-of .ensures) (c .before .enum-told2 .given .1) _ (c .blank-of4 .ensures)
+returns-4 c = mask-wide _ _ _ _ _ _ (c .before .before .before .before .before .if1 .left) (c .before .before .before .before .if2 .left) _ (c .before .before .before .widths-of .ensures) (c .before .enum-told2 .given .1) _ (c .blank-of4 .ensures)
 
 -- src/lib.rt:146:1
 returns-5 : tie.Need-returns-5
-returns-5 c = let s = c .before .before .before .before .before .before .before in mask-drawn _ _ _ _ _ _ (c .before .before .before .before .before .if1 .left) (c .before .before .before .before .if2 .left) _ (c .before .before .before .areas-of .ensures) _ _ (c .before .enum-told3 .given .1) (s .fits .cx) (s .fits .cy) _ (c .draw-border .ensures)
+returns-5 c = let s = c .before .before .before .before .before .before .before in mask-drawn _ _ _ _ _ _ (c .before .before .before .before .before .if1 .left) (c .before .before .before .before .if2 .left) _ (c .before .before .before .widths-of .ensures) (c .before .enum-told3 .given .1) (s .fits .cx) (s .fits .cy) _ (c .draw-border .ensures)
 
 pub mask-border-spec : {M : Type 1} → statement M
 mask-border-spec =
@@ -72,7 +72,7 @@ mask-border-spec =
     returns
     blank-of-requires-2
     returns-2
-    areas-of-requires
+    widths-of-requires
     enum-told
     blank-of-requires-3
     enum-told-2

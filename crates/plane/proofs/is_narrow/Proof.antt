@@ -1,77 +1,85 @@
--- `plane::is_narrow` meets its contract. The loop's invariant: the ring is held, and the vertices passed are near its first.
-use mathlib.Core.Path.{_≡_, sym, _∙_}
-use mathlib.Core.Bool.{true}
-use Prim.Native.Nat.{_≤_, _+_, _*_, _-_}
+use mathlib.Core.Path.{sym, _∙_}
 use native.Mathlib.Omega.{arith}
-use lib.ListN.{length}
-use borrow.Author.Needs.{needs}
 use borrow.Author.Tests.{not-true, not-false}
-use Rattle.plane.specs.Rings.{held, all-near}
-use Rattle.plane.proofs.RingLaws.{held-has, near-none, near-more, narrow-is, narrow-not-held, narrow-far}
+use Rattle.plane.proofs.RingLaws.{held-has, narrow-not-held}
+use Rattle.plane.proofs.FrameWays.{frame-west, frame-east, frame-south, frame-north}
+use borrow.Author.Needs.{needs}
 use Rattle.plane.proofs.is_narrow.Statement.{statement}
 use Rattle.plane.proofs.is_narrow.Tie as tie
+use Rattle.plane.proofs.is_narrow.Reads as reads
+use Rattle.plane.proofs.is_narrow.Lts as lts
+use Rattle.plane.proofs.frame_of.Reads as frame-of-reads
+use Rattle.plane.proofs.is_ring.Reads as is-ring-reads
+use Rattle.plane.proofs.within_reach.Reads as within-reach-reads
+use Rattle.plane.proofs.x_of.Reads as x-of-reads
+use Rattle.plane.proofs.y_of.Reads as y-of-reads
 
-abbrev Inv-loop : tie.InvT-loop
-Inv-loop points from count k₀ k =
-    (k ≤ count) × (2 * (from + count) ≤ length points) × (held (length points) from count ≡ true) × (all-near points from k ≡ true)
-
-abbrev μ-loop : tie.MeasureT-loop
-μ-loop points from count k₀ k = count - k
-
-is-ring-requires : tie.Need-is-ring-requires Inv-loop μ-loop
+-- src/lib.rt:128:9
+is-ring-requires : tie.Need-is-ring-requires
 is-ring-requires c κs = search needs
 
-returns : tie.Need-returns Inv-loop μ-loop
-returns c =
-    let s = c .before .before in
-    narrow-not-held (s .args .points .now) (s .args .from) (s .args .count) (sym (c .before .is-ring .ensures) ∙ not-true _ (c .if1 .taken))
+-- src/lib.rt:129:9
+returns : tie.Need-returns
+returns c = let s = c .before .before in narrow-not-held (s .args .points .now) (s .args .from) (s .args .count) (sym (c .before .is-ring .ensures) ∙ not-true _ (c .if1 .taken))
 
-loop-holds : tie.Need-loop-holds Inv-loop μ-loop
-loop-holds c =
-    let s = c .before .before in
-    let h : held (length (s .args .points .now)) (s .args .from) (s .args .count) ≡ true = sym (c .before .is-ring .ensures) ∙ not-false _ (c .if1 .left) in
-    (omega arith, held-has (length (s .args .points .now)) (s .args .from) (s .args .count) h .2, h, near-none (s .args .points .now) (s .args .from))
+-- src/lib.rt:131:9
+frame-of-requires : tie.Need-frame-of-requires
+frame-of-requires c κs = (sym (c .before .is-ring .ensures) ∙ not-false _ (c .if1 .left))
 
-is-near-requires : tie.Need-is-near-requires Inv-loop μ-loop
-is-near-requires c κs = omega arith
+-- src/lib.rt:132:9
+x-of-requires : tie.Need-x-of-requires
+x-of-requires c κs = let h = held-has _ _ _ (sym (c .before .before .is-ring .ensures) ∙ not-false _ (c .before .if1 .left)) in omega (arith, h .0, h .2)
 
-returns-2 : tie.Need-returns-2 Inv-loop μ-loop
-returns-2 c =
-    let s = c .before .before .before .before .before .before in
-    narrow-far (s .args .points .now) (s .args .from) (s .args .count) (c .before .before .before .loop .k) (c .before .before .loop-test .taken)
-    (sym (c .before .is-near .ensures) ∙ not-true _ (c .if2 .taken))
+-- src/lib.rt:133:9
+y-of-requires : tie.Need-y-of-requires
+y-of-requires c κs = let h = held-has _ _ _ (sym (c .before .before .before .is-ring .ensures) ∙ not-false _ (c .before .before .if1 .left)) in omega (arith, h .0, h .2)
 
-add-k : tie.Need-add-k Inv-loop μ-loop
-add-k c = omega arith
+-- src/lib.rt:134:9
+within-reach-requires : tie.Need-within-reach-requires
+within-reach-requires c κs = search needs
 
-loop-less : tie.Need-loop-less Inv-loop μ-loop
-loop-less c = omega arith
+-- src/lib.rt:135:9
+returns-2 : tie.Need-returns-2
+returns-2 c = frame-west _ _ _ _ _ _ _ (c .before .before .before .before .before .frame-of .ensures .0) (c .before .before .before .before .before .frame-of .ensures .1) (c .before .before .before .before .before .frame-of .ensures .2) (c .before .before .before .before .before .frame-of .ensures .3) (sym (c .before .before .before .before .before .before .before .is-ring .ensures) ∙ not-false _ (c .before .before .before .before .before .before .if1 .left)) _ _ (c .before .before .before .before .x-of .ensures) (c .before .before .before .y-of .ensures) (c .before .before .before .before .x-of .ok) (c .before .before .before .y-of .ok) (c .before .before .struct-told .given .0 .1) (c .before .before .struct-told .given .1 .0 .1) (c .before .before .struct-told .given .1 .1 .0 .1) (c .before .before .struct-told .given .1 .1 .1 .0 .1) _ (c .before .within-reach .ensures) (c .if2 .taken)
 
-loop-again : tie.Need-loop-again Inv-loop μ-loop
-loop-again c =
-    let s = c .before .before .before .before .before .before in
-    let l = c .before .before .before .loop in
-    (omega arith, omega arith, l .inv .2, near-more (s .args .points .now) (s .args .from) (l .k) (l .inv .3) (sym (c .before .is-near .ensures) ∙ not-false _ (c .if2 .left)))
+-- src/lib.rt:137:9
+within-reach-requires-2 : tie.Need-within-reach-requires-2
+within-reach-requires-2 c κs = search needs
 
-returns-3 : tie.Need-returns-3 Inv-loop μ-loop
-returns-3 c =
-    let s = c .before .before .before .before in
-    let l = c .before .loop in
-    let e : l .k ≡ s .args .count = omega arith in
-    narrow-is (s .args .points .now) (s .args .from) (s .args .count) (l .inv .2) (rw (← e) (l .inv .3))
+-- src/lib.rt:138:9
+returns-3 : tie.Need-returns-3
+returns-3 c = frame-east _ _ _ _ _ _ _ (c .before .before .before .before .before .before .before .before .frame-of .ensures .0) (c .before .before .before .before .before .before .before .before .frame-of .ensures .1) (c .before .before .before .before .before .before .before .before .frame-of .ensures .2) (c .before .before .before .before .before .before .before .before .frame-of .ensures .3) (sym (c .before .before .before .before .before .before .before .before .before .before .is-ring .ensures) ∙ not-false _ (c .before .before .before .before .before .before .before .before .before .if1 .left)) _ _ (c .before .before .before .before .before .before .before .x-of .ensures) (c .before .before .before .before .before .before .y-of .ensures) (c .before .before .before .before .before .before .before .x-of .ok) (c .before .before .before .before .before .before .y-of .ok) (c .before .before .before .before .before .struct-told .given .0 .1) (c .before .before .before .before .before .struct-told .given .1 .0 .1) (c .before .before .before .before .before .struct-told .given .1 .1 .0 .1) (c .before .before .before .before .before .struct-told .given .1 .1 .1 .0 .1) _ (c .before .before .before .before .within-reach .ensures) (c .before .before .before .if2 .left) _ (c .before .within-reach2 .ensures) (c .if3 .taken)
+
+-- src/lib.rt:140:9
+within-reach-requires-3 : tie.Need-within-reach-requires-3
+within-reach-requires-3 c κs = search needs
+
+-- src/lib.rt:141:9
+returns-4 : tie.Need-returns-4
+returns-4 c = frame-south _ _ _ _ _ _ _ (c .before .before .before .before .before .before .before .before .before .before .before .frame-of .ensures .0) (c .before .before .before .before .before .before .before .before .before .before .before .frame-of .ensures .1) (c .before .before .before .before .before .before .before .before .before .before .before .frame-of .ensures .2) (c .before .before .before .before .before .before .before .before .before .before .before .frame-of .ensures .3) (sym (c .before .before .before .before .before .before .before .before .before .before .before .before .before .is-ring .ensures) ∙ not-false _ (c .before .before .before .before .before .before .before .before .before .before .before .before .if1 .left)) _ _ (c .before .before .before .before .before .before .before .before .before .before .x-of .ensures) (c .before .before .before .before .before .before .before .before .before .y-of .ensures) (c .before .before .before .before .before .before .before .before .before .before .x-of .ok) (c .before .before .before .before .before .before .before .before .before .y-of .ok) (c .before .before .before .before .before .before .before .before .struct-told .given .0 .1) (c .before .before .before .before .before .before .before .before .struct-told .given .1 .0 .1) (c .before .before .before .before .before .before .before .before .struct-told .given .1 .1 .0 .1) (c .before .before .before .before .before .before .before .before .struct-told .given .1 .1 .1 .0 .1) _ (c .before .before .before .before .before .before .before .within-reach .ensures) (c .before .before .before .before .before .before .if2 .left) _ (c .before .before .before .before .within-reach2 .ensures) (c .before .before .before .if3 .left) _ (c .before .within-reach3 .ensures) (c .if4 .taken)
+
+-- src/lib.rt:143:5
+within-reach-requires-4 : tie.Need-within-reach-requires-4
+within-reach-requires-4 c κs = search needs
+
+-- src/lib.rt:125:1
+returns-5 : tie.Need-returns-5
+returns-5 c = frame-north _ _ _ _ _ _ _ (c .before .before .before .before .before .before .before .before .before .before .before .before .before .frame-of .ensures .0) (c .before .before .before .before .before .before .before .before .before .before .before .before .before .frame-of .ensures .1) (c .before .before .before .before .before .before .before .before .before .before .before .before .before .frame-of .ensures .2) (c .before .before .before .before .before .before .before .before .before .before .before .before .before .frame-of .ensures .3) (sym (c .before .before .before .before .before .before .before .before .before .before .before .before .before .before .before .is-ring .ensures) ∙ not-false _ (c .before .before .before .before .before .before .before .before .before .before .before .before .before .before .if1 .left)) _ _ (c .before .before .before .before .before .before .before .before .before .before .before .before .x-of .ensures) (c .before .before .before .before .before .before .before .before .before .before .before .y-of .ensures) (c .before .before .before .before .before .before .before .before .before .before .before .before .x-of .ok) (c .before .before .before .before .before .before .before .before .before .before .before .y-of .ok) (c .before .before .before .before .before .before .before .before .before .before .struct-told .given .0 .1) (c .before .before .before .before .before .before .before .before .before .before .struct-told .given .1 .0 .1) (c .before .before .before .before .before .before .before .before .before .before .struct-told .given .1 .1 .0 .1) (c .before .before .before .before .before .before .before .before .before .before .struct-told .given .1 .1 .1 .0 .1) _ (c .before .before .before .before .before .before .before .before .before .within-reach .ensures) (c .before .before .before .before .before .before .before .before .if2 .left) _ (c .before .before .before .before .before .before .within-reach2 .ensures) (c .before .before .before .before .before .if3 .left) _ (c .before .before .before .within-reach3 .ensures) (c .before .before .if4 .left) _ (c .within-reach4 .ensures)
 
 pub is-narrow-spec : {M : Type 1} → statement M
 is-narrow-spec =
     tie.close
     (tie.spec
-    Inv-loop
-    μ-loop
     is-ring-requires
     returns
-    loop-holds
-    is-near-requires
+    frame-of-requires
+    x-of-requires
+    y-of-requires
+    within-reach-requires
     returns-2
-    add-k
-    loop-less
-    loop-again
-    returns-3)
+    within-reach-requires-2
+    returns-3
+    within-reach-requires-3
+    returns-4
+    within-reach-requires-4
+    returns-5)
