@@ -1,5 +1,5 @@
 -- The cells of a ring that was traced, and when it is. Assumes nothing.
-use mathlib.Core.Path.{_≡_, refl, sym, _∙_, ap}
+use mathlib.Core.Path.{_≡_, refl, sym, _∙_}
 use mathlib.Core.Bool.{Bool, true, false, cond, _&&_}
 use mathlib.Core.List.{List}
 use Prim.Native.Nat.{ℕ}
@@ -7,7 +7,6 @@ use lib.ListN.{length}
 use lib.IntN.{ℤ}
 use Rattle.laws.proofs.Choice.{false≢true, and-left, and-right}
 use Rattle.plane.specs.Rings.{held}
-use Rattle.grid.specs.declared.RingCells.{RingCells}
 use Rattle.grid.specs.Inside.{ring-covers}
 use Rattle.grid.specs.Words.{gridSide, rowWords}
 use Rattle.grid.specs.Cells.{isCellSide, grid-real, near-from, laid, tracedAs, untraced, ringCells}

@@ -1,7 +1,7 @@
 -- Which centres of a row lie before a bound: oneIf division tells. Assumes nothing.
 use mathlib.Core.Path.{_≡_, refl, sym, _∙_, ap, subst}
 use mathlib.Core.Bool.{Bool, true, false}
-use Prim.Native.Nat.{ℕ, zero, suc, _+_, _-_, _*_, _/_, _^_, _≤_, _<_}
+use Prim.Native.Nat.{ℕ, suc, _+_, _-_, _*_, _/_, _^_, _≤_, _<_}
 use native.Mathlib.Nat.{le-div-iff-mul-le, lt-of-le-of-lt, le-refl, le-trans, mul-le-mul, mul-pos}
 use native.Mathlib.Omega.{arith}
 use lib.Dec.{T, ltb, lit<, lit≤}

@@ -13,7 +13,7 @@ use mir.Val.{SFits, toZ, ofZ}
 use mir.Facts.{toZ-ofZ, toZ-pos}
 use borrow.Author.Tests.{not-true, not-false, leb-true, le-leb, lt-leb}
 use Rattle.laws.specs.Whole.{Within}
-use Rattle.laws.proofs.Choice.{and-left, and-right, and-false}
+use Rattle.laws.proofs.Choice.{and-left, and-right}
 use Rattle.laws.proofs.Chains.{and-on, and-off}
 use Rattle.laws.proofs.Parts.{ints, num, sum, diff}
 use Rattle.laws.proofs.Bounds.{within-add, within-sub, within-fits, within-lit}

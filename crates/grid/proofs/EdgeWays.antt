@@ -1,10 +1,10 @@
 -- One edge of a ring: between rows that lie no further south than its ends, it turns over the cells that the rule gives. Assumes nothing.
 use mathlib.Core.Path.{_≡_, refl, sym, _∙_, ap}
-use mathlib.Core.Bool.{Bool, true, false, cond, _&&_}
+use mathlib.Core.Bool.{Bool, true, false, _&&_}
 use mathlib.Core.List.{List}
-use Prim.Native.Nat.{ℕ, _+_, _*_, _^_, _≤_, _<_}
+use Prim.Native.Nat.{ℕ, _+_, _^_, _<_}
 use native.Mathlib.Omega.{arith}
-use lib.Dec.{ltb, lit<}
+use lib.Dec.{lit<}
 use lib.ListN.{getD}
 use lib.Bits.{bitXor}
 use lib.IntN.{ℤ, pos, natAbs, _+ℤ_, _-ℤ_}
@@ -19,7 +19,7 @@ use Rattle.laws.proofs.Parts.{num, diff, lt-yes, lt-true, lt-false, le-yes, le-
 use Rattle.laws.proofs.Bounds.{within-add}
 use Rattle.laws.proofs.Bits.{back, diff-bits, ask-diff, holds-diff, ask-add, holds-add}
 use Rattle.plane.specs.Rings.{x-at, y-at}
-use Rattle.grid.specs.Inside.{twice, centreAt, centre-x, centre-y, counts, edge-counts}
+use Rattle.grid.specs.Inside.{twice, centreAt, centre-x, centre-y, edge-counts}
 use Rattle.grid.specs.Words.{gridSide}
 use Rattle.grid.specs.Cells.{farthest, by-corner, near-corner}
 use Rattle.grid.specs.Trace.{eastward, southward, RowsTo, west-of-edge, Xored}

@@ -1,5 +1,5 @@
 -- The numbers of a row: cell by cell they are xored and counted. Assumes nothing.
-use mathlib.Core.Path.{_≡_, refl, sym, _∙_, ap, ap₂, subst}
+use mathlib.Core.Path.{_≡_, refl, sym, _∙_, ap, ap₂}
 use mathlib.Core.Bool.{Bool, true, false}
 use mathlib.Core.List.{List, [], _∷_, _++_}
 use Prim.Native.Nat.{ℕ, zero, suc, _+_, _-_, _*_, _/_, _%_, _^_, _≤_, _<_}
@@ -8,10 +8,10 @@ use native.Mathlib.Numerals.{one-add}
 use lib.Arith.{digits-div, digits-mod}
 use native.Mathlib.Omega.{arith}
 use lib.Dec.{ltb, lit<}
-use lib.Pow.{pow-pos, pow-mono, shr-shr}
+use lib.Pow.{shr-shr}
 use lib.Bits.{bitXor, xor-block}
 use lib.Count.{ones, ones-cat}
-use borrow.Author.Tests.{lt-ltb, le-ltb, ltb-true, ltb-false}
+use borrow.Author.Tests.{lt-ltb, ltb-true, ltb-false}
 use Rattle.grid.specs.Inside.{oneIf}
 use Rattle.grid.specs.Words.{gridSide, rowWord, rowWords, differs, cellsSet, allCellsSet, setBits}
 

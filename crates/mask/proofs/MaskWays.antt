@@ -12,12 +12,10 @@ use mir.Val.{SFits, toZ, ofZ}
 use mir.Facts.{toZ-ofZ}
 use borrow.Author.Tests.{not-true, not-false, le-leb, lt-leb, eq-eqb, ne-eqb}
 use Rattle.laws.specs.Lists.{tail}
-use Rattle.laws.proofs.Choice.{true≢false}
 use Rattle.laws.proofs.ListLaws.{rest-is}
 use Rattle.kinds.specs.Kinds.{islandsPlace, verticesPlace}
 use Rattle.heading.specs.declared.Header.{Header}
 use Rattle.sheet.specs.Tables.{Tables}
-use Rattle.plane.specs.Rings.{held}
 use Rattle.plane.proofs.RingLaws.{held-has}
 use Rattle.made.specs.declared.Verdict.{Verdict}
 use Rattle.made.specs.Made.{sum, ringSizes, tablesOf, natOf}

@@ -26,7 +26,7 @@ use Rattle.grid.specs.Cells.{isCellSide, grid-real, near-from}
 use Rattle.grid.proofs.WordLaws.{words-set}
 use Rattle.mask.specs.declared.Mask.{Mask}
 use Rattle.mask.specs.declared.MaskAnswer.{MaskAnswer}
-use Rattle.mask.specs.declared.MaskAnswer.the-variants.{Drawn, BadSide, Wide, OffGrid, Missing, Refused}
+use Rattle.mask.specs.declared.MaskAnswer.the-variants.{BadSide, Wide, OffGrid, Missing, Refused}
 use Rattle.mask.specs.Covers.{covers}
 use Rattle.mask.specs.Masks.{undrawn, drawn, afterAreas, borderMask, maskOf, maskOfRow, maskFound, maskAt, numberOf, rowOf, coveredOf}
 

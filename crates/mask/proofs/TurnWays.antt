@@ -1,8 +1,8 @@
 -- Rows turned over by a ring's, and by one ring after another. Assumes nothing.
-use mathlib.Core.Path.{_≡_, refl, sym, _∙_, ap, ap₂}
+use mathlib.Core.Path.{_≡_, refl, sym, _∙_, ap}
 use mathlib.Core.Bool.{Bool, true, false, not, _&&_}
 use mathlib.Core.List.{List, [], _∷_, _++_}
-use Prim.Native.Nat.{ℕ, zero, suc, _+_, _-_, _*_, _≤_, _<_}
+use Prim.Native.Nat.{ℕ, _+_, _-_, _*_, _≤_, _<_}
 use native.Mathlib.Nat.{add-assoc, add-zero, zero-add}
 use native.Mathlib.Numerals.{add-one}
 use native.Mathlib.Omega.{arith}
@@ -15,14 +15,13 @@ use mir.Syntax.{w64}
 use mir.Val.{SFits, toZ, ofZ}
 use mir.Facts.{toZ-ofZ}
 use borrow.Author.Tests.{eqb-true, eqb-false, not-true, not-false}
-use Rattle.laws.proofs.Choice.{false≢true, and-left}
+use Rattle.laws.proofs.Choice.{false≢true}
 use Rattle.laws.proofs.ListLaws.{left, left-none}
-use Rattle.plane.specs.Rings.{held}
 use Rattle.plane.proofs.RingLaws.{held-has}
 use Rattle.made.specs.Made.{sum}
 use Rattle.grid.specs.declared.RingCells.{RingCells}
 use Rattle.grid.specs.Inside.{centre-x, centre-y, isOdd, crossings, in-ring, ring-covers}
-use Rattle.grid.specs.Words.{gridSide, rowWords, differs}
+use Rattle.grid.specs.Words.{gridSide, rowWords}
 use Rattle.grid.specs.Cells.{ringCells}
 use Rattle.grid.specs.Trace.{Xored, RowsHold}
 use Rattle.grid.proofs.OddLaws.{odd-add}

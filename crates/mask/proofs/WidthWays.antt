@@ -1,10 +1,9 @@
 -- What refuses a ring's area, and a border's, found without it. Assumes nothing.
-use mathlib.Core.Path.{_≡_, refl, sym, _∙_, ap}
+use mathlib.Core.Path.{_≡_, refl, sym, _∙_}
 use mathlib.Core.Bool.{Bool, true, false, not, cond}
 use mathlib.Core.List.{List}
 use Prim.Native.Nat.{ℕ, _+_, _-_, _*_, _≤_, _<_}
 use native.Mathlib.Omega.{arith}
-use lib.Dec.{leb}
 use lib.ListN.{length, getD, drop}
 use lib.IntN.{ℤ, pos, natAbs}
 use borrow.Author.Tests.{not-true, not-false, le-leb, lt-leb}

@@ -1,13 +1,12 @@
 -- A ring's frame: found vertex by vertex, and near its first vertex exactly where all of them are. Assumes nothing.
 use mathlib.Core.Path.{_≡_, refl, sym, _∙_, subst}
 use mathlib.Core.Logic.{⊎-elim}
-use mathlib.Core.Bool.{Bool, true, false, not, cond, _&&_}
+use mathlib.Core.Bool.{Bool, true, false, not, cond}
 use mathlib.Core.List.{List}
-use Prim.Native.Nat.{ℕ, _+_, _*_, _^_, _≤_, _<_}
-use native.Mathlib.Nat.{add-zero, eq-or-lt-of-le, le-of-suc-le-suc}
+use Prim.Native.Nat.{ℕ, _+_, _^_, _≤_, _<_}
+use native.Mathlib.Nat.{eq-or-lt-of-le, le-of-suc-le-suc}
 use native.Mathlib.Numerals.{add-one}
 use native.Mathlib.Omega.{arith}
-use lib.Dec.{leb}
 use lib.ListN.{length}
 use lib.IntN.{ℤ, natAbs, _-ℤ_}
 use lib.Signed.{ltZ, leZ, mag}
@@ -19,9 +18,9 @@ use Rattle.laws.proofs.Choice.{and-both}
 use Rattle.laws.proofs.Chains.{and-off, and-off-second}
 use Rattle.laws.proofs.Parts.{P, N, num, diff, lt-yes, lt-no, le-yes, le-true}
 use Rattle.laws.proofs.Bits.{back}
-use Rattle.plane.specs.Rings.{reach, x-at, y-at, held, near, near-first, all-near, narrow}
+use Rattle.plane.specs.Rings.{reach, x-at, y-at, held, near, near-first, narrow}
 use Rattle.plane.specs.Frames.{Least, Greatest}
-use Rattle.plane.proofs.RingLaws.{held-has, narrow-is, narrow-far, near-all}
+use Rattle.plane.proofs.RingLaws.{narrow-is, narrow-far, near-all}
 
 -- ---- found number by number
 

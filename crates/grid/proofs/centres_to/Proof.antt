@@ -1,9 +1,8 @@
+-- `grid::centres_to` meets its contract. Assumes nothing.
 use Rattle.grid.proofs.CentreWays.{before-ways}
 use borrow.Author.Needs.{needs}
 use Rattle.grid.proofs.centres_to.Statement.{statement}
 use Rattle.grid.proofs.centres_to.Tie as tie
-use Rattle.grid.proofs.centres_to.Reads as reads
-use Rattle.grid.proofs.centres_to.Lts as lts
 
 mul-if1 : tie.Need-mul-if1
 mul-if1 c = search needs
@@ -11,23 +10,18 @@ mul-if1 c = search needs
 returns : tie.Need-returns
 returns c = search (before-ways, needs)
 
--- src/lib.rt:49:15
 sub-result : tie.Need-sub-result
 sub-result c = search needs
 
--- src/lib.rt:49:6
 add-result : tie.Need-add-result
 add-result c = search needs
 
--- src/lib.rt:49:29
 mul-result : tie.Need-mul-result
 mul-result c = search needs
 
--- src/lib.rt:49:5
 div-result : tie.Need-div-result
 div-result c = search needs
 
--- src/lib.rt:39:1
 returns-2 : tie.Need-returns-2
 returns-2 c = search (before-ways, needs)
 

@@ -1,6 +1,6 @@
 -- `grid::height` meets its contract. Assumes nothing.
 use native.Mathlib.Omega.{arith}
-use Prim.Native.Nat.{ℕ, _+_, _*_, _≤_}
+use Prim.Native.Nat.{_+_, _*_, _≤_}
 use native.Mathlib.Nat.{mul-le-mul}
 use mir.Facts.{toZ-pos}
 use mir.Syntax.{w64}

@@ -1,22 +1,17 @@
+-- `grid::is_by` meets its contract. Assumes nothing.
 use Rattle.grid.proofs.CheckWays.{by-low-fits, by-high-fits, by-below, by-above}
 use Rattle.grid.proofs.is_by.Statement.{statement}
 use Rattle.grid.proofs.is_by.Tie as tie
-use Rattle.grid.proofs.is_by.Reads as reads
-use Rattle.grid.proofs.is_by.Lts as lts
 
--- src/lib.rt:194:12
 sub-if1 : tie.Need-sub-if1
 sub-if1 c = by-low-fits _ _ (c .fits .c) (c .fits .z) (c .pre)
 
--- src/lib.rt:195:9
 returns : tie.Need-returns
 returns c = let s = c .before in by-below _ _ (s .fits .c) (s .fits .z) (s .pre) (c .if1 .taken)
 
--- src/lib.rt:197:10
 add-result : tie.Need-add-result
 add-result c = let s = c .before in by-high-fits _ _ (s .fits .c) (s .fits .z) (s .pre)
 
--- src/lib.rt:190:1
 returns-2 : tie.Need-returns-2
 returns-2 c = let s = c .before in by-above _ _ (s .fits .c) (s .fits .z) (s .pre) (c .if1 .left)
 

@@ -4,51 +4,39 @@ use borrow.Author.Needs.{needs}
 use Rattle.grid.proofs.is_grid.Statement.{statement}
 use Rattle.grid.proofs.is_grid.Tie as tie
 
--- src/lib.rt:339:9
 is-real-requires : tie.Need-is-real-requires
 is-real-requires c κs = search needs
 
--- src/lib.rt:340:9
 returns : tie.Need-returns
 returns c = let s = c .before .before in grid-west _ _ _ (s .fits .cx) (s .fits .cy) (s .pre) _ (c .before .is-real .ensures) (c .if1 .taken)
 
--- src/lib.rt:342:9
 is-real-requires-2 : tie.Need-is-real-requires-2
 is-real-requires-2 c κs = search needs
 
--- src/lib.rt:343:9
 returns-2 : tie.Need-returns-2
 returns-2 c = let s = c .before .before .before .before in grid-north _ _ _ (s .fits .cx) (s .fits .cy) (s .pre) _ (c .before .before .before .is-real .ensures) (c .before .before .if1 .left) _ (c .before .is-real2 .ensures) (c .if2 .taken)
 
--- src/lib.rt:345:14
 mul-d : tie.Need-mul-d
 mul-d c = search needs
 
--- src/lib.rt:345:13
 cast-d : tie.Need-cast-d
 cast-d c = search needs
 
--- src/lib.rt:346:17
 add-is-real : tie.Need-add-is-real
 add-is-real c = let s = c .before .before .before .before in grid-east-fits _ _ _ (s .fits .cx) (s .fits .cy) (s .pre) _ (c .before .before .before .is-real .ensures) (c .before .before .if1 .left) _ (c .before .is-real2 .ensures) (c .if2 .left)
 
--- src/lib.rt:346:9
 is-real-requires-3 : tie.Need-is-real-requires-3
 is-real-requires-3 c κs = search needs
 
--- src/lib.rt:347:9
 returns-3 : tie.Need-returns-3
 returns-3 c = let s = c .before .before .before .before .before .before in grid-east _ _ _ (s .fits .cx) (s .fits .cy) (s .pre) _ (c .before .before .before .before .before .is-real .ensures) (c .before .before .before .before .if1 .left) _ (c .before .before .before .is-real2 .ensures) (c .before .before .if2 .left) _ (c .before .is-real3 .ensures) (c .if3 .taken)
 
--- src/lib.rt:349:13
 sub-is-real : tie.Need-sub-is-real
 sub-is-real c = let s = c .before .before .before .before .before .before in grid-south-fits _ _ _ (s .fits .cx) (s .fits .cy) (s .pre) _ (c .before .before .before .before .before .is-real .ensures) (c .before .before .before .before .if1 .left) _ (c .before .before .before .is-real2 .ensures) (c .before .before .if2 .left)
 
--- src/lib.rt:349:5
 is-real-requires-4 : tie.Need-is-real-requires-4
 is-real-requires-4 c κs = search needs
 
--- src/lib.rt:335:1
 returns-4 : tie.Need-returns-4
 returns-4 c = let s = c .before .before .before .before .before .before .before in grid-south _ _ _ (s .fits .cx) (s .fits .cy) (s .pre) _ (c .before .before .before .before .before .before .is-real .ensures) (c .before .before .before .before .before .if1 .left) _ (c .before .before .before .before .is-real2 .ensures) (c .before .before .before .if2 .left) _ (c .before .before .is-real3 .ensures) (c .before .if3 .left) _ (c .is-real4 .ensures)
 

@@ -1,21 +1,15 @@
+-- `grid::rows_at` meets its contract. Assumes nothing.
 use Rattle.grid.proofs.EdgeWays.{south-within, rows-south}
 use borrow.Author.Needs.{needs}
 use Rattle.grid.proofs.rows_at.Statement.{statement}
 use Rattle.grid.proofs.rows_at.Tie as tie
-use Rattle.grid.proofs.rows_at.Reads as reads
-use Rattle.grid.proofs.rows_at.Lts as lts
-use Rattle.grid.proofs.rows_to.Reads as rows-to-reads
-use Rattle.grid.proofs.south_of.Reads as south-of-reads
 
--- src/lib.rt:216:19
 south-of-requires : tie.Need-south-of-requires
 south-of-requires c κs = search needs
 
--- src/lib.rt:216:5
 rows-to-requires : tie.Need-rows-to-requires
 rows-to-requires c κs = let s = c .before in (south-within (s .args .points .now) _ (s .fits .cy) (s .args .v) _ (c .south-of .ensures) (c .south-of .ok) (s .pre .1), s .pre .2, s .pre .3)
 
--- src/lib.rt:212:1
 returns : tie.Need-returns
 returns c = let s = c .before .before in rows-south (s .args .points .now) _ (s .fits .cy) (s .args .v) _ (c .before .south-of .ensures) (c .before .south-of .ok) _ _ (c .rows-to .ensures)
 

@@ -1,29 +1,21 @@
+-- `grid::south_of` meets its contract. Assumes nothing.
 use Rattle.grid.proofs.EdgeWays.{read-by-up, south-is}
 use borrow.Author.Needs.{needs}
 use Rattle.grid.proofs.south_of.Statement.{statement}
 use Rattle.grid.proofs.south_of.Tie as tie
-use Rattle.grid.proofs.south_of.Reads as reads
-use Rattle.grid.proofs.south_of.Lts as lts
-use Rattle.grid.proofs.number_at.Reads as number-at-reads
-use Rattle.grid.proofs.past.Reads as past-reads
 
--- src/lib.rt:160:28
 mul-number-at : tie.Need-mul-number-at
 mul-number-at c = search needs
 
--- src/lib.rt:160:28
 add-number-at : tie.Need-add-number-at
 add-number-at c = search needs
 
--- src/lib.rt:160:10
 number-at-requires : tie.Need-number-at-requires
 number-at-requires c κs = search needs
 
--- src/lib.rt:160:5
 past-requires : tie.Need-past-requires
 past-requires c κs = read-by-up _ _ _ (c .before .fits .cy) (c .number-at .ensures) (c .number-at .ok) (c .before .pre .1)
 
--- src/lib.rt:156:1
 returns : tie.Need-returns
 returns c = south-is _ _ _ (c .before .before .fits .cy) (c .before .number-at .ensures) (c .before .number-at .ok) _ (c .past .ok) (c .past .ensures)
 

@@ -1,3 +1,4 @@
+-- `mask::turn_islands` meets its contract: the loop's invariant is `Islanding`. Assumes nothing.
 use mathlib.Core.Path.{sym, _∙_}
 use Prim.Native.Nat.{_-_}
 use native.Mathlib.Omega.{arith}
@@ -8,11 +9,6 @@ use borrow.Author.Needs.{needs}
 use Rattle.mask.proofs.TurnWays.{Islanding, islands-room, islands-sized, islands-on, turn-start, turn-off, turn-all}
 use Rattle.mask.proofs.turn_islands.Statement.{statement}
 use Rattle.mask.proofs.turn_islands.Tie as tie
-use Rattle.mask.proofs.turn_islands.Reads as reads
-use Rattle.mask.proofs.turn_islands.Lts as lts
-use Rattle.grid.proofs.ring_cells.Reads as ring-cells-reads
-use Rattle.made.proofs.wide.Reads as wide-reads
-use Rattle.mask.proofs.turn_over.Reads as turn-over-reads
 
 abbrev Inv-loop : tie.InvT-loop
 Inv-loop rows₀ points from sizes cx cy cell at₀ i₀ rows at i = Islanding rows points from sizes (toZ w64 cx) (toZ w64 cy) cell at i
@@ -20,59 +16,45 @@ Inv-loop rows₀ points from sizes cx cy cell at₀ i₀ rows at i = Islanding r
 abbrev μ-loop : tie.MeasureT-loop
 μ-loop rows₀ points from sizes cx cy cell at₀ i₀ rows at i = length sizes - i
 
--- src/lib.rt:83:5
 loop-holds : tie.Need-loop-holds Inv-loop μ-loop
 loop-holds c = let s = c .before .before in turn-start _ _ _ _ _ _ (s .fits .cx) (s .fits .cy) _ (s .pre)
 
--- src/lib.rt:84:22
 mul-wide : tie.Need-mul-wide Inv-loop μ-loop
 mul-wide c = search needs
 
--- src/lib.rt:84:22
 shared-slice-read-wide : tie.Need-shared-slice-read-wide Inv-loop μ-loop
 shared-slice-read-wide c = search needs
 
--- src/lib.rt:84:13
 wide-requires : tie.Need-wide-requires Inv-loop μ-loop
 wide-requires c κs = search needs
 
--- src/lib.rt:85:20
 ring-cells-requires : tie.Need-ring-cells-requires Inv-loop μ-loop
 ring-cells-requires c κs = search needs
 
--- src/lib.rt:87:13
 same-length : tie.Need-same-length Inv-loop μ-loop
 same-length c = c .before .before .before .before .before .loop .inv .holds .sized ∙ sym (c .before .before .before .before .before .before .before .before .pre .sized)
 
--- src/lib.rt:87:13
 returns : tie.Need-returns Inv-loop μ-loop
 returns c = let s = c .before .before .before .before .before .before .before .before in turn-off _ _ _ _ _ _ (s .fits .cx) (s .fits .cy) _ _ _ (c .before .before .before .before .before .loop .inv) (c .before .before .before .before .loop-test .taken) _ (c .before .before .wide .ensures) _ (c .before .ring-cells .ensures) (c .if1 .taken)
 
--- src/lib.rt:89:9
 turn-over-requires : tie.Need-turn-over-requires Inv-loop μ-loop
 turn-over-requires c κs = (c .before .before .before .before .before .before .before .before .before .loop .inv .holds .sized, islands-sized _ _ _ _ _ _ _ _ _ (c .before .before .before .before .before .before .before .before .before .loop .inv) (c .before .before .before .before .before .before .before .before .loop-test .taken) _ (c .before .before .before .before .before .before .wide .ensures) _ (c .before .before .before .before .before .ring-cells .ensures) (c .before .before .before .before .if1 .left))
 
--- src/lib.rt:90:9
 add-at : tie.Need-add-at Inv-loop μ-loop
 add-at c = omega (arith, islands-room _ _ _ _ _ _ _ _ _ (c .before .before .before .before .before .before .before .before .before .before .before .before .loop .inv) (c .before .before .before .before .before .before .before .before .before .before .before .loop-test .taken) _ (c .before .before .before .before .before .before .before .before .before .wide .ensures) _ (c .before .before .before .before .before .before .before .before .ring-cells .ensures) (c .before .before .before .before .before .before .before .if1 .left))
 
--- src/lib.rt:91:9
 add-i : tie.Need-add-i Inv-loop μ-loop
 add-i c = search needs
 
--- src/lib.rt:83:5
 loop-less : tie.Need-loop-less Inv-loop μ-loop
 loop-less c = let h = c .before .before .before .before .before .before .before .before .before .before .before .loop-test .taken in omega arith
 
--- src/lib.rt:83:5
 loop-again : tie.Need-loop-again Inv-loop μ-loop
 loop-again c = islands-on _ _ _ _ _ _ _ _ _ (c .before .before .before .before .before .before .before .before .before .before .before .before .loop .inv) (c .before .before .before .before .before .before .before .before .before .before .before .loop-test .taken) _ (c .before .before .before .before .before .before .before .before .before .wide .ensures) _ (c .before .before .before .before .before .before .before .before .ring-cells .ensures) (c .before .before .before .before .before .before .before .if1 .left) _ (c .before .before .turn-over .ensures)
 
--- src/lib.rt:77:1
 same-length-2 : tie.Need-same-length-2 Inv-loop μ-loop
 same-length-2 c = c .before .loop .inv .holds .sized ∙ sym (c .before .before .before .before .pre .sized)
 
--- src/lib.rt:77:1
 returns-2 : tie.Need-returns-2 Inv-loop μ-loop
 returns-2 c = let s = c .before .before .before .before in turn-all _ _ _ _ _ _ (s .fits .cx) (s .fits .cy) _ _ _ (c .before .loop .inv) (c .loop-test .left)
 

@@ -1,50 +1,36 @@
+-- `mask::widths_of` meets its contract. Assumes nothing.
 use Rattle.mask.proofs.WidthWays.{border-many, outer-missing, outer-wide, outer-fine}
 use borrow.Author.Needs.{needs}
 use Rattle.mask.proofs.widths_of.Statement.{statement}
 use Rattle.mask.proofs.widths_of.Tie as tie
-use Rattle.mask.proofs.widths_of.Reads as reads
-use Rattle.mask.proofs.widths_of.Lts as lts
-use Rattle.made.proofs.outer_of.Reads as outer-of-reads
-use Rattle.mask.proofs.width_of.Reads as width-of-reads
-use Rattle.mask.proofs.widths_from.Reads as widths-from-reads
 
--- src/lib.rt:114:9
 returns : tie.Need-returns
 returns c = let s = c .before .before in border-many _ (s .args .islands .now) (s .args .points .now) (c .if1 .taken)
 
--- src/lib.rt:116:9
 outer-of-requires : tie.Need-outer-of-requires
 outer-of-requires c κs = search needs
 
--- src/lib.rt:117:11
 width-of-requires : tie.Need-width-of-requires
 width-of-requires c κs = search needs
 
--- src/lib.rt:118:28
 enum-told : tie.Need-enum-told
 enum-told c = search needs
 
--- src/lib.rt:119:25
 enum-told-2 : tie.Need-enum-told-2
 enum-told-2 c = search needs
 
--- src/lib.rt:120:25
 enum-told-3 : tie.Need-enum-told-3
 enum-told-3 c = search needs
 
--- src/lib.rt:120:25
 widths-from-requires : tie.Need-widths-from-requires
 widths-from-requires c κs = search needs
 
--- src/lib.rt:110:1
 returns-2 : tie.Need-returns-2
 returns-2 c = let s = c .before .before .before .before .before .before in outer-missing _ (s .args .islands .now) _ (c .before .before .before .before .if1 .left) _ (c .before .before .before .outer-of .ensures) _ (c .before .before .width-of .ensures) (c .enum-told .given .1)
 
--- src/lib.rt:110:1
 returns-3 : tie.Need-returns-3
 returns-3 c = let s = c .before .before .before .before .before .before in outer-wide _ (s .args .islands .now) _ (c .before .before .before .before .if1 .left) _ (c .before .before .before .outer-of .ensures) _ (c .before .before .width-of .ensures) (c .enum-told2 .given .1)
 
--- src/lib.rt:110:1
 returns-4 : tie.Need-returns-4
 returns-4 c = let s = c .before .before .before .before .before .before .before in outer-fine _ (s .args .islands .now) _ (c .before .before .before .before .before .if1 .left) _ (c .before .before .before .before .outer-of .ensures) _ (c .before .before .before .width-of .ensures) (c .before .enum-told3 .given .1) _ (c .widths-from .ensures)
 
