@@ -40,6 +40,9 @@ enum {
     CXF_FIGURES = 24,            /* figures of a tally */
     CXF_REACH = 20000000,        /* millimetres from a ring's first vertex, in x and in y, for areas and ring check */
     CXF_TILE_MOST = 16777215,    /* millimetres from a tile's corner, to the east and to the south */
+    CXF_MASK_SIDE = 64,          /* rows of a mask, and cells of a row */
+    CXF_CELL_MOST = 10000,       /* millimetres of a cell's side, from 1 on */
+    CXF_MASK_REACH = 40000000,   /* millimetres from a mask's corner to a vertex of its border, in x and in y */
     CXF_LISTING_MOST = 640,      /* bytes of a listing's text */
     CXF_LISTING_FILE_MOST = 8192 /* bytes of a file that is listed */
 };
@@ -79,10 +82,11 @@ enum {
     CXF_TOO_WIDE = 17,  /* a ring with a vertex more than 20,000,000 mm from its first, in x or in y */
     CXF_TOO_LARGE = 18, /* a figure of a tally, or TOTALE of a SUP file, beyond 9,000,000,000,000,000,000 */
     CXF_NO_SUCH = 19,   /* no such row, border or ring */
-    CXF_OFF_TILE = 20,  /* outside the tile frame */
+    CXF_OFF_TILE = 20,  /* outside the tile frame; a mask's grid that leaves the real range, or a vertex more than 40,000,000 mm from its corner */
     CXF_BAD_DATE = 21,  /* a SUP file's date that is not eight digits, with a month 01 to 12 and a day 01 to 31 */
     CXF_LONG_CODE = 22, /* a SUP file would list a border whose code has more than 11 letters: the answer names the row */
-    CXF_WIDE_FIGURE = 23 /* a figure of a SUP file has more than 10 characters: the answer names the line */
+    CXF_WIDE_FIGURE = 23, /* a figure of a SUP file has more than 10 characters: the answer names the line */
+    CXF_BAD_SIDE = 26   /* a mask's cell side that is not 1 to 10,000 mm */
 };
 
 /* The same in a sentence, for a message. */
@@ -107,10 +111,11 @@ static inline const char *cxf_refusal_text(uint64_t number)
     case CXF_TOO_WIDE: return "A ring has a vertex more than 20,000,000 mm from its first.";
     case CXF_TOO_LARGE: return "A figure of a tally, or the total of a SUP file, is beyond 9,000,000,000,000,000,000.";
     case CXF_NO_SUCH: return "There is no such row, border or ring.";
-    case CXF_OFF_TILE: return "The point lies outside the tile.";
+    case CXF_OFF_TILE: return "The point lies outside the tile, or the border too far from the mask's corner.";
     case CXF_BAD_DATE: return "The date of a SUP file is not eight digits with a month and a day.";
     case CXF_LONG_CODE: return "The code of a border that a SUP file lists has more than 11 letters.";
     case CXF_WIDE_FIGURE: return "A figure of a SUP file has more than 10 characters.";
+    case CXF_BAD_SIDE: return "The side of a mask's cells is not 1 to 10,000 mm.";
     default: return "This is not a refusal of this interface.";
     }
 }
@@ -353,6 +358,22 @@ typedef struct {
 
 /* A point from a tile's north-west corner, all in millimetres. */
 cxf_tile cxf_tile_point(int64_t corner_x, int64_t corner_y, int64_t x, int64_t y);
+
+/* ---- masks ----------------------------------------------------------------------------------------------------------- */
+
+typedef struct {
+    uint64_t number, row;
+    uint64_t rows[CXF_MASK_SIDE]; /* the northern row first; in a row the western cell is the highest bit */
+    uint64_t covered;             /* how many cells are set */
+} cxf_mask;
+
+/* Which cells of a grid of 64 rows of 64 have their centre inside a border, by the even-odd rule over all of its rings: a courtyard
+   is not set. The grid's north-west corner is given in millimetres, and the side of its cells, 1 to 10,000 mm. A centre is inside
+   where an odd number of edges have one end north of it and the other not, and cross its height strictly east of it. Refused are,
+   in this order: the header (6), the rows (15), a row that is no border (19), the side (26), a ring that is too wide (17), and then,
+   with 20, a grid whose corners are not all within the real range, or a vertex of the border more than CXF_MASK_REACH from the
+   corner. Refused, all rows and covered are 0. */
+cxf_mask cxf_mask_of(CXF_SHEET, uint64_t row, int64_t corner_x, int64_t corner_y, int64_t cell);
 
 /* ---- records and numbers --------------------------------------------------------------------------------------------- */
 

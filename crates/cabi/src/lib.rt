@@ -17,6 +17,7 @@ ghost use Rattle.ring.specs.RingCheck.{ringCheckAt};
 ghost use Rattle.tally.specs.Take.{takenOf, tallyOf};
 ghost use Rattle.sup.specs.Answer.{sheetSup, supOf, supOutput};
 ghost use Rattle.tile.specs.Tiles.{tileOf};
+ghost use Rattle.mask.specs.Masks.{maskAt};
 ghost use Rattle.listing.specs.Listing.{listingOf};
 ghost use Rattle.listing.specs.Listed.{listedOf, listedIn};
 ghost use Rattle.told.specs.Asked.{modeOf, isKeywordDue, headerOf};
@@ -24,12 +25,14 @@ ghost use Rattle.told.specs.Told.{interfaceNumber, readTold, writeTold, recordT
 ghost use Rattle.told.specs.Answers.{borderTold, textTold, areaTold, ringTold};
 ghost use Rattle.told.specs.Tallies.{tallyIn, tallyTold, takeTold};
 ghost use Rattle.told.specs.SupFiles.{supTold};
+ghost use Rattle.told.specs.Masks.{maskTold};
 use area::net_area;
 use area::ring_area;
 use border::border_at;
 use border::text_at;
 use listing::Listed;
 use listing::list_text;
+use mask::mask_of;
 use number::Decimal;
 use number::Whole;
 use number::integer;
@@ -53,6 +56,8 @@ use told::CxfRecord;
 use told::CxfTile;
 use told::CxfWritten;
 use told::header_of;
+use told::masks::CxfMask;
+use told::masks::mask_told;
 use told::mode_of;
 use told::question::CxfArea;
 use told::question::CxfBorder;
@@ -169,6 +174,28 @@ pub extern "C" fn cxf_real(content: &[u8], mode: usize) -> CxfNumber
             value: 0,
         },
     }
+}
+
+// The mask of a row's border on a grid of 64 rows of 64 cells.
+#[no_mangle]
+pub extern "C" fn cxf_mask_of(
+    kind: usize,
+    name: &[u8],
+    scale: i64,
+    count: usize,
+    rows: &[i64],
+    letters: &[u8],
+    islands: &[u16],
+    points: &[i64],
+    row: usize,
+    cx: i64,
+    cy: i64,
+    cell: i64,
+) -> CxfMask
+    ensures { λ r. ⌜ r ≡ maskTold (maskAt (headerOf kind (now (name .entry)) scale) count (tablesOf (now (rows .entry)) (now (letters .entry)) (now (islands .entry)) (now (points .entry))) row cx cy cell) ⌝ }
+{
+    let header = header_of(kind, name, scale);
+    mask_told(mask_of(header, count, rows, letters, islands, points, row, cx, cy, cell))
 }
 
 #[no_mangle]

@@ -14,3 +14,4 @@ pub mod Tallies
 pub mod RunningTallies
 pub mod Interfaces
 pub mod SupFiles
+pub mod Masks

@@ -1,6 +1,7 @@
--- To read beside `include/cxf.h`: what a caller in C asks, and the library's answers as its structs. (`noBorder` and `noRing` of `Answers` and `supLaid` of `SupFiles` serve private contracts.)
+-- To read beside `include/cxf.h`: what a caller in C asks, and the library's answers as its structs. (`noBorder` and `noRing` of `Answers`, `supLaid` of `SupFiles`, `figuresLaid` and `figuresOf` of `Masks` serve private contracts.)
 pub mod Asked
 pub mod Told
 pub mod Answers
 pub mod Tallies
 pub mod SupFiles
+pub mod Masks

@@ -1,0 +1,66 @@
+// The answer of a mask (document 02, T-03), laid out.
+ghost use mathlib.Core.Path.{_≡_};
+ghost use Rattle.told.specs.Masks.{figuresLaid, figuresOf, maskTold};
+use made::fault_of;
+use mask::Mask;
+use mask::MaskAnswer;
+use record::refusal::NO_SUCH;
+use record::refusal::OFF_TILE;
+use record::refusal::TOO_WIDE;
+
+const BAD_SIDE: usize = 26;
+
+#[repr(C)]
+pub struct CxfMask {
+    pub number: usize,
+    pub row: usize,
+    pub rows: [u64; 64],
+    pub covered: usize,
+}
+
+// What is told beside the rows.
+struct MaskFigures {
+    number: usize,
+    row: usize,
+    covered: usize,
+}
+
+fn figures_laid(number: usize, row: usize, covered: usize) -> MaskFigures
+    ensures { λ r. ⌜ r ≡ figuresLaid number row covered ⌝ }
+{
+    MaskFigures {
+        number,
+        row,
+        covered,
+    }
+}
+
+fn figures_of(a: MaskAnswer) -> MaskFigures
+    ensures { λ r. ⌜ r ≡ figuresOf a ⌝ }
+{
+    match a {
+        MaskAnswer::Drawn(covered) => figures_laid(0, 0, covered),
+        MaskAnswer::BadSide => figures_laid(BAD_SIDE, 0, 0),
+        MaskAnswer::Wide => figures_laid(TOO_WIDE, 0, 0),
+        MaskAnswer::OffGrid => figures_laid(OFF_TILE, 0, 0),
+        MaskAnswer::Missing => figures_laid(NO_SUCH, 0, 0),
+        MaskAnswer::Refused(v) => {
+            let f = fault_of(v);
+            figures_laid(f.number, f.row, 0)
+        }
+    }
+}
+
+pub fn mask_told(m: Mask) -> CxfMask
+    ensures { λ r. ⌜ r ≡ maskTold m ⌝ }
+{
+    let answer = m.answer;
+    let f = figures_of(answer);
+    let rows = m.rows;
+    CxfMask {
+        number: f.number,
+        row: f.row,
+        rows,
+        covered: f.covered,
+    }
+}
