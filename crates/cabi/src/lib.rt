@@ -195,7 +195,18 @@ pub extern "C" fn cxf_mask_of(
     ensures { λ r. ⌜ r ≡ maskTold (maskAt (headerOf kind (now (name .entry)) scale) count (tablesOf (now (rows .entry)) (now (letters .entry)) (now (islands .entry)) (now (points .entry))) row cx cy cell) ⌝ }
 {
     let header = header_of(kind, name, scale);
-    mask_told(mask_of(header, count, rows, letters, islands, points, row, cx, cy, cell))
+    mask_told(mask_of(
+        header,
+        count,
+        rows,
+        letters,
+        islands,
+        points,
+        row,
+        cx,
+        cy,
+        cell,
+    ))
 }
 
 #[no_mangle]

@@ -155,5 +155,5 @@ module _ (ps : List ℤ) (v : ℕ) (cx cy : ℤ) (cell at next : ℕ) (l m : Lis
       record {
         sized = refl;
         turns = λ r g. sym (xor-none (getD l r 0) (p r) (λ c. counts-corner cx cy (x-at ps v) (y-at ps v) (x-at ps (v + 1)) (y-at ps (v + 1)) cell r c
-        ∙ rw (no-row cell (southward ps cy v) (southward ps cy (v + 1)) at a (rw e b) r g, no-row cell (southward ps cy (v + 1)) (southward ps cy v) at (rw e b) a r g)));
+            ∙ rw (no-row cell (southward ps cy v) (southward ps cy (v + 1)) at a (rw e b) r g, no-row cell (southward ps cy (v + 1)) (southward ps cy v) at (rw e b) a r g)));
       }

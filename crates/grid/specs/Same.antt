@@ -10,10 +10,6 @@ pub record SameVertex (ps : List ℤ) (v : ℕ) (qs : List ℤ) (w : ℕ) : Type
   pub same-x : x-at ps v ≡ x-at qs w
   pub same-y : y-at ps v ≡ y-at qs w
 
--- the ring of n vertices from p on in ps stands in qs from q on
-abbrev pub StandsAt : List ℤ → ℕ → List ℤ → ℕ → ℕ → Type 0
-StandsAt ps p qs q n = (k : ℕ) → k < n → SameVertex ps (p + k) qs (q + k)
-
 -- a ring of e edges in ps begun at its vertex j: in qs first the vertices from j to the last, then those from the first to j
 pub record BegunAt (ps : List ℤ) (p : ℕ) (qs : List ℤ) (q e j : ℕ) : Type 0 where
   pub among : j ≤ e

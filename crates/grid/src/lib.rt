@@ -113,7 +113,16 @@ fn rows_to(cell: usize, v: i64) -> usize
 
 // Turns over, in each row between an edge's ends, the cells strictly west of its crossing there. (nx, nv) is the northern end; `first` rows lie no further
 // south than it, `stop` no further than the other.
-fn xor_span(rows: &mut [u64], nx: i64, nv: i64, sx: i64, sv: i64, first: usize, stop: usize, cell: usize)
+fn xor_span(
+    rows: &mut [u64],
+    nx: i64,
+    nv: i64,
+    sx: i64,
+    sv: i64,
+    first: usize,
+    stop: usize,
+    cell: usize,
+)
     requires { ⌜ (length (now rows) ≡ gridSide) × Within gridReach nx × Within gridReach nv × Within gridReach sx × Within gridReach sv × RowsTo cell nv first × RowsTo cell sv stop × (0 < cell) × (cell ≤ mostSide) ⌝ }
     ensures { λ r. ⌜ Xored (now (rows .entry)) (now (rows .exit)) (west-of-edge nx nv sx sv cell) ⌝ }
 {
@@ -158,7 +167,17 @@ fn south_of(points: &[i64], v: usize, cy: i64) -> i64
 }
 
 // The same for the edge from vertex n down to vertex s.
-fn xor_down(rows: &mut [u64], points: &[i64], n: usize, s: usize, first: usize, stop: usize, cx: i64, cy: i64, cell: usize)
+fn xor_down(
+    rows: &mut [u64],
+    points: &[i64],
+    n: usize,
+    s: usize,
+    first: usize,
+    stop: usize,
+    cx: i64,
+    cy: i64,
+    cell: usize,
+)
     requires { ⌜ (length (now rows) ≡ gridSide) × (2 * n + 1 < length (now points)) × (2 * s + 1 < length (now points)) × (near-corner (now points) cx cy n ≡ true) × (near-corner (now points) cx cy s ≡ true) × RowsTo cell (southward (now points) cy n) first × RowsTo cell (southward (now points) cy s) stop × (0 < cell) × (cell ≤ mostSide) ⌝ }
     ensures { λ r. ⌜ Xored (now (rows .entry)) (now (rows .exit)) (west-of-edge (eastward (now (points .entry)) cx n) (southward (now (points .entry)) cy n) (eastward (now (points .entry)) cx s) (southward (now (points .entry)) cy s) cell) ⌝ }
 {
@@ -170,7 +189,16 @@ fn xor_down(rows: &mut [u64], points: &[i64], n: usize, s: usize, first: usize, 
 }
 
 // Turns over each cell for whose centre the edge from vertex v to the next counts. `at` rows lie no further south than the one, `next` than the other.
-fn xor_edge(rows: &mut [u64], points: &[i64], v: usize, at: usize, next: usize, cx: i64, cy: i64, cell: usize)
+fn xor_edge(
+    rows: &mut [u64],
+    points: &[i64],
+    v: usize,
+    at: usize,
+    next: usize,
+    cx: i64,
+    cy: i64,
+    cell: usize,
+)
     requires { ⌜ (length (now rows) ≡ gridSide) × (2 * (v + 1) + 1 < length (now points)) × (near-corner (now points) cx cy v ≡ true) × (near-corner (now points) cx cy (v + 1) ≡ true) × RowsTo cell (southward (now points) cy v) at × RowsTo cell (southward (now points) cy (v + 1)) next × (0 < cell) × (cell ≤ mostSide) ⌝ }
     ensures { λ r. ⌜ Xored (now (rows .entry)) (now (rows .exit)) (λ r c. edge-counts (now (points .entry)) v (centre-x cx cell c) (centre-y cy cell r)) ⌝ }
 {
@@ -214,7 +242,15 @@ fn rows_at(points: &[i64], v: usize, cy: i64, cell: usize) -> usize
 }
 
 // Turns over the ring's cells, and says whether all of its vertices are near the corner; where they are not, the rows are of no use.
-fn xor_ring(rows: &mut [u64], points: &[i64], from: usize, count: usize, cx: i64, cy: i64, cell: usize) -> bool
+fn xor_ring(
+    rows: &mut [u64],
+    points: &[i64],
+    from: usize,
+    count: usize,
+    cx: i64,
+    cy: i64,
+    cell: usize,
+) -> bool
     requires { ⌜ RowsHold (λ r c. false) (now rows) × (laid (now points) from count cx cy cell ≡ true) ⌝ }
     ensures { λ ok. ⌜ (ok ≡ near-from (now (points .entry)) cx cy from count) × (ok ≡ true → RowsHold (ring-covers (now (points .entry)) from count cx cy cell) (now (rows .exit))) ⌝ }
 {
@@ -281,7 +317,14 @@ fn no_cells() -> RingCells
 
 // The cells whose centres lie inside the ring of `count` vertices from vertex `from` on: the grid's north-west corner is (cx, cy), its cells are `cell` mm wide
 // and high. It is not traced where there is no such ring, cell or grid, or where a vertex lies too far from the corner.
-pub fn ring_cells(points: &[i64], from: usize, count: usize, cx: i64, cy: i64, cell: usize) -> RingCells
+pub fn ring_cells(
+    points: &[i64],
+    from: usize,
+    count: usize,
+    cx: i64,
+    cy: i64,
+    cell: usize,
+) -> RingCells
     ensures { λ r. ⌜ r ≡ ringCells (now (points .entry)) from count cx cy cell ⌝ }
 {
     if !is_laid(points, from, count, cx, cy, cell) {
@@ -291,8 +334,5 @@ pub fn ring_cells(points: &[i64], from: usize, count: usize, cx: i64, cy: i64, c
     if !xor_ring(&mut rows, points, from, count, cx, cy, cell) {
         return no_cells();
     }
-    RingCells {
-        traced: true,
-        rows,
-    }
+    RingCells { traced: true, rows }
 }

@@ -43,7 +43,7 @@ use Rattle.mask.specs.declared.Widths.the-variants.{Fine, Wide as TooWid
 use Rattle.mask.specs.Covers.{covers, all-traced}
 use Rattle.mask.specs.Width.{widthsOf}
 use Rattle.mask.proofs.WidthWays.{has-areas}
-use Rattle.mask.specs.Masks.{undrawn, afterAreas, borderMask, maskOf, maskOfRow, maskAt}
+use Rattle.mask.specs.Masks.{undrawn, maskAfter, borderMask, maskOf, maskOfRow, maskAt}
 
 abbrev bits : ℤ → ℤ
 bits z = toZ w64 (ofZ w64 z)
@@ -118,15 +118,15 @@ module _ (ps : List ℤ) (cx cy : ℤ) (s : ℕ) (c : isCellSide s ≡ true) whe
 
 -- ---- a border
 
-after-fine : (m : Mask) (x : Areas) → Fine ≡ widthsOf x → m ≡ afterAreas m x
-after-fine m x e = has-areas x e (m ≡ afterAreas m x) (λ outer inner q. rw q)
+after-fine : (m : Mask) (x : Areas) → Fine ≡ widthsOf x → m ≡ maskAfter m x
+after-fine m x e = has-areas x e (m ≡ maskAfter m x) (λ outer inner q. rw q)
 
-after-wide : (m : Mask) (x : Areas) → TooWide ≡ widthsOf x → undrawn Wide ≡ afterAreas m x
+after-wide : (m : Mask) (x : Areas) → TooWide ≡ widthsOf x → undrawn Wide ≡ maskAfter m x
 after-wide m (Of outer inner) e = absurd (let z : _≡_ {A = ℕ} 0 1 = cc in omega arith)
 after-wide m AnyWide e = refl
 after-wide m AnyMissing e = absurd (let z : _≡_ {A = ℕ} 0 1 = cc in omega arith)
 
-after-missing : (m : Mask) (x : Areas) → NoRing ≡ widthsOf x → undrawn Missing ≡ afterAreas m x
+after-missing : (m : Mask) (x : Areas) → NoRing ≡ widthsOf x → undrawn Missing ≡ maskAfter m x
 after-missing m (Of outer inner) e = absurd (let z : _≡_ {A = ℕ} 0 1 = cc in omega arith)
 after-missing m AnyWide e = absurd (let z : _≡_ {A = ℕ} 0 1 = cc in omega arith)
 after-missing m AnyMissing e = refl

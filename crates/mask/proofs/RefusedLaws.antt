@@ -28,7 +28,7 @@ use Rattle.mask.specs.declared.Mask.{Mask}
 use Rattle.mask.specs.declared.MaskAnswer.{MaskAnswer}
 use Rattle.mask.specs.declared.MaskAnswer.the-variants.{BadSide, Wide, OffGrid, Missing, Refused}
 use Rattle.mask.specs.Covers.{covers}
-use Rattle.mask.specs.Masks.{undrawn, drawn, afterAreas, borderMask, maskOf, maskOfRow, maskFound, maskAt, numberOf, rowOf, coveredOf}
+use Rattle.mask.specs.Masks.{undrawn, drawn, maskAfter, borderMask, maskOf, maskOfRow, maskFound, maskAt, numberOf, rowOf, coveredOf}
 
 -- a row that is not found is refused as it is sought
 pub mask-refused : (h : Header) (count : ℕ) (t : Tables) (k : ℕ) (cx cy side : ℤ) → (Seek.numberOf (soughtOf h count t k) ≡ 0 → ⊥)
@@ -57,7 +57,7 @@ off-counted a e = (none-set ∙ sym e, λ f. refl)
 drawn-counted : (p : ℕ → ℕ → Bool) → Counted (drawn p)
 drawn-counted p = (words-set p gridSide, λ f. absurd (f refl))
 
-after-counted : (m : Mask) → Counted m → (x : Areas) → Counted (afterAreas m x)
+after-counted : (m : Mask) → Counted m → (x : Areas) → Counted (maskAfter m x)
 after-counted m c (Of outer inner) = c
 after-counted m c AnyWide = off-counted Wide refl
 after-counted m c AnyMissing = off-counted Missing refl

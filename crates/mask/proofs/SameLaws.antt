@@ -29,7 +29,7 @@ use Rattle.grid.proofs.NearLaws.{near-each, near-all, near-split}
 use Rattle.grid.proofs.SameLaws.{crossings-same, crossings-begun, crossings-turned, crossings-moved, apart-moved}
 use Rattle.mask.specs.Covers.{all-crossings, in-border, covers}
 use Rattle.mask.specs.Redrawn.{RingRedrawn, begun-at, turned-round, Redrawn}
-use Rattle.mask.specs.Masks.{drawn, undrawn, afterAreas, borderMask, maskOf}
+use Rattle.mask.specs.Masks.{drawn, undrawn, maskAfter, borderMask, maskOf}
 use Rattle.mask.specs.declared.Mask.{Mask}
 use Rattle.mask.specs.declared.MaskAnswer.the-variants.{Drawn, BadSide, OffGrid}
 
@@ -54,7 +54,7 @@ module _ (v : ℕ) (islands : List ℕ) (ps qs : List ℤ) (cx cy bx by : ℤ) (
   unfolding maskOf
   mask-same e f = ap (λ (m : Mask). cond (isCellSide s) m (undrawn BadSide)) (rw e (case (areasOf v islands qs) refl))
     where
-      case : (x : Areas) → areasOf v islands qs ≡ x → afterAreas (borderMask v islands ps cx cy s) x ≡ afterAreas (borderMask v islands qs bx by s) x
+      case : (x : Areas) → areasOf v islands qs ≡ x → maskAfter (borderMask v islands ps cx cy s) x ≡ maskAfter (borderMask v islands qs bx by s) x
       case (Of outer inner) q = f outer inner q
       case AnyWide q = refl
       case AnyMissing q = refl

@@ -37,14 +37,14 @@ unfoldable pub borderMask : ℕ → List ℕ → List ℤ → ℤ → ℤ → �
 borderMask v islands ps cx cy s = cond (grid-real cx cy s && near-from ps cx cy 0 v) (drawn (covers ps (ringSizes v islands) cx cy s)) (undrawn OffGrid)
 
 -- 17 is of any of its rings
-abbrev pub afterAreas : Mask → Areas → Mask
-afterAreas m (Of outer inner) = m
-afterAreas m AnyWide = undrawn Wide
-afterAreas m AnyMissing = undrawn Missing
+abbrev pub maskAfter : Mask → Areas → Mask
+maskAfter m (Of outer inner) = m
+maskAfter m AnyWide = undrawn Wide
+maskAfter m AnyMissing = undrawn Missing
 
 -- a border: 26 "for a cell side outside 1 to 10,000", then 17, then 20
 unfoldable pub maskOf : ℕ → List ℕ → List ℤ → ℤ → ℤ → ℕ → Mask
-maskOf v islands ps cx cy s = cond (isCellSide s) (afterAreas (borderMask v islands ps cx cy s) (areasOf v islands ps)) (undrawn BadSide)
+maskOf v islands ps cx cy s = cond (isCellSide s) (maskAfter (borderMask v islands ps cx cy s) (areasOf v islands ps)) (undrawn BadSide)
 
 -- the first row of what is left: 19 where it is no border
 unfoldable pub maskOfRow : Tables → ℤ → ℤ → ℕ → Mask

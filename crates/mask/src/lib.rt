@@ -135,7 +135,15 @@ fn turn_over(rows: &mut [u64], cells: &[u64])
 
 // Turns over the cells of rings of these sizes, one behind the other from vertex `from` on, in rows that hold the outer ring's, and says whether all could
 // be traced; where they could not, the rows are of no use.
-fn turn_islands(rows: &mut [u64], points: &[i64], from: usize, sizes: &[u16], cx: i64, cy: i64, cell: usize) -> bool
+fn turn_islands(
+    rows: &mut [u64],
+    points: &[i64],
+    from: usize,
+    sizes: &[u16],
+    cx: i64,
+    cy: i64,
+    cell: usize,
+) -> bool
     requires { ⌜ RowsHold (ring-covers (now points) 0 from cx cy cell) (now rows) ⌝ }
     ensures { λ ok. ⌜ (ok ≡ all-traced (now (points .entry)) from (now (sizes .entry)) cx cy cell) × (ok ≡ true → RowsHold (covers (now (points .entry)) (from ∷ now (sizes .entry)) cx cy cell) (now (rows .exit))) ⌝ }
 {
@@ -255,7 +263,14 @@ pub fn mask_of(
             let r = s.row;
             let i = s.islands;
             let p = s.points;
-            mask_of_row(&rows[r..], &islands[i..], &points[p..], cx, cy, count_of(side))
+            mask_of_row(
+                &rows[r..],
+                &islands[i..],
+                &points[p..],
+                cx,
+                cy,
+                count_of(side),
+            )
         }
     }
 }

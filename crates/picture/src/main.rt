@@ -61,7 +61,18 @@ fn print_mask(src: &[u8]) {
     let answer = outcome.answer;
     match answer {
         Answer::Read(used) => {
-            let m = mask_of(header, used.rows, &rows, &letters, &islands, &points, BUILDING, WEST, NORTH, SIDE);
+            let m = mask_of(
+                header,
+                used.rows,
+                &rows,
+                &letters,
+                &islands,
+                &points,
+                BUILDING,
+                WEST,
+                NORTH,
+                SIDE,
+            );
             let cells = m.rows;
             print_rows(&cells);
         }

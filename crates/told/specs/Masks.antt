@@ -11,8 +11,8 @@ maskTold m = record { number = numberOf (m .answer); row = rowOf (m .answer); ro
 
 -- ---- for private contracts: what is told beside the rows
 
-abbrev pub figuresLaid : ℕ → ℕ → ℕ → MaskFigures
-figuresLaid number row covered = record { number = number; row = row; covered = covered }
+abbrev pub maskFiguresLaid : ℕ → ℕ → ℕ → MaskFigures
+maskFiguresLaid number row covered = record { number = number; row = row; covered = covered }
 
-abbrev pub figuresOf : MaskAnswer → MaskFigures
-figuresOf a = figuresLaid (numberOf a) (rowOf a) (coveredOf a)
+abbrev pub maskFiguresOf : MaskAnswer → MaskFigures
+maskFiguresOf a = maskFiguresLaid (numberOf a) (rowOf a) (coveredOf a)

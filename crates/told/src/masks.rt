@@ -1,6 +1,6 @@
 // The answer of a mask (document 02, T-03), laid out.
 ghost use mathlib.Core.Path.{_≡_};
-ghost use Rattle.told.specs.Masks.{figuresLaid, figuresOf, maskTold};
+ghost use Rattle.told.specs.Masks.{maskFiguresLaid, maskFiguresOf, maskTold};
 use made::fault_of;
 use mask::Mask;
 use mask::MaskAnswer;
@@ -25,8 +25,8 @@ struct MaskFigures {
     covered: usize,
 }
 
-fn figures_laid(number: usize, row: usize, covered: usize) -> MaskFigures
-    ensures { λ r. ⌜ r ≡ figuresLaid number row covered ⌝ }
+fn mask_laid(number: usize, row: usize, covered: usize) -> MaskFigures
+    ensures { λ r. ⌜ r ≡ maskFiguresLaid number row covered ⌝ }
 {
     MaskFigures {
         number,
@@ -35,18 +35,18 @@ fn figures_laid(number: usize, row: usize, covered: usize) -> MaskFigures
     }
 }
 
-fn figures_of(a: MaskAnswer) -> MaskFigures
-    ensures { λ r. ⌜ r ≡ figuresOf a ⌝ }
+fn mask_figures(a: MaskAnswer) -> MaskFigures
+    ensures { λ r. ⌜ r ≡ maskFiguresOf a ⌝ }
 {
     match a {
-        MaskAnswer::Drawn(covered) => figures_laid(0, 0, covered),
-        MaskAnswer::BadSide => figures_laid(BAD_SIDE, 0, 0),
-        MaskAnswer::Wide => figures_laid(TOO_WIDE, 0, 0),
-        MaskAnswer::OffGrid => figures_laid(OFF_TILE, 0, 0),
-        MaskAnswer::Missing => figures_laid(NO_SUCH, 0, 0),
+        MaskAnswer::Drawn(covered) => mask_laid(0, 0, covered),
+        MaskAnswer::BadSide => mask_laid(BAD_SIDE, 0, 0),
+        MaskAnswer::Wide => mask_laid(TOO_WIDE, 0, 0),
+        MaskAnswer::OffGrid => mask_laid(OFF_TILE, 0, 0),
+        MaskAnswer::Missing => mask_laid(NO_SUCH, 0, 0),
         MaskAnswer::Refused(v) => {
             let f = fault_of(v);
-            figures_laid(f.number, f.row, 0)
+            mask_laid(f.number, f.row, 0)
         }
     }
 }
@@ -55,7 +55,7 @@ pub fn mask_told(m: Mask) -> CxfMask
     ensures { λ r. ⌜ r ≡ maskTold m ⌝ }
 {
     let answer = m.answer;
-    let f = figures_of(answer);
+    let f = mask_figures(answer);
     let rows = m.rows;
     CxfMask {
         number: f.number,

@@ -29,8 +29,8 @@ returns c =
     let s = c .before .before .before .before .before .before in
     let t = tablesOf (s .args .rows .now) (s .args .letters .now) (s .args .islands .now) (s .args .points .now) in
     rw (toZ-ofZ (s .fits .cx), toZ-ofZ (s .fits .cy), toZ-ofZ (s .fits .cell)) at (
-      answered maskTold (λ (h : Header). maskAt h (s .args .count) t (s .args .row) (bits (s .args .cx)) (bits (s .args .cy)) (bits (s .args .cell))) (c .mask-told .ensures) (c .before .mask-of .ensures)
-      (header-asked (s .args .kind) (s .args .name .now) (s .fits .scale) (c .before .before .header-of .ensures)))
+    answered maskTold (λ (h : Header). maskAt h (s .args .count) t (s .args .row) (bits (s .args .cx)) (bits (s .args .cy)) (bits (s .args .cell))) (c .mask-told .ensures) (c .before .mask-of .ensures)
+    (header-asked (s .args .kind) (s .args .name .now) (s .fits .scale) (c .before .before .header-of .ensures)))
 
 pub cxf-mask-of-spec : {M : Type 1} → statement M
 cxf-mask-of-spec =
