@@ -1,6 +1,6 @@
 /* How fast the library is, beside the independent implementation of tests/reference.c, in one run.
-   bench [RUNS]: the best of so many runs (10) of reading, writing, the tally, the ring check and the SUP file, at a quarter and at
-   full size (12 MB); one memchr pass over the file is the floor. */
+   bench [RUNS]: the best of so many runs (10) of reading, writing, the tally, the ring check, the SUP file and masks, at a quarter and
+   at full size (12 MB); one memchr pass over the file is the floor. */
 #define _POSIX_C_SOURCE 200809L
 #include "generate.h"
 #include "reference.h"
@@ -21,10 +21,11 @@ typedef struct {
     cxf_tally (*tally)(CXF_SHEET);
     cxf_ring (*ring)(CXF_SHEET, uint64_t, uint64_t);
     cxf_sup (*sup)(CXF_SHEET, const uint8_t *, size_t, uint8_t *, size_t);
+    cxf_mask (*mask)(CXF_SHEET, uint64_t, int64_t, int64_t, int64_t);
 } party;
 
-static const party PARTIES[] = { { "library", cxf_read, cxf_write, cxf_tally_sheet, cxf_ring_check, cxf_sup_write },
-                                 { "reference", ref_read, ref_write, ref_tally_sheet, ref_ring_check, ref_sup_write } };
+static const party PARTIES[] = { { "library", cxf_read, cxf_write, cxf_tally_sheet, cxf_ring_check, cxf_sup_write, cxf_mask_of },
+                                 { "reference", ref_read, ref_write, ref_tally_sheet, ref_ring_check, ref_sup_write, ref_mask_of } };
 enum { LIBRARY, REFERENCE, COUNT };
 
 static int runs = 10;
@@ -95,6 +96,13 @@ static tables round_borders(size_t vertices, size_t size) {
     return t;
 }
 
+/* One round border that a mask of cells of 9,400 holds. */
+static tables round_mask(size_t vertices) {
+    tables t = empty_sheet(28 * vertices + 100);
+    add_row(&t, 1, 0, "7", vertices, 3e5, 500000, 49400000);
+    return t;
+}
+
 /* A sheet like those of a town: parcels and buildings of 5 to 40 vertices, texts, symbols and lines. */
 static tables town(size_t size) {
     tables t = empty_sheet(2 * size);
@@ -151,6 +159,20 @@ static uint64_t ring_item(const party *p, const job *j, tables *to, bytes *out) 
 static uint64_t sup_item(const party *p, const job *j, tables *to, bytes *out) {
     (void)to;
     return p->sup(SHEET(&j->sheet), (const uint8_t *)"20261115", 8, out->at, out->len).number;
+}
+
+/* A mask of the border in row 0, about its place. */
+static uint64_t mask_about(const party *p, const job *j, int64_t cell) {
+    const int64_t *row = j->sheet.rows;
+    return p->mask(SHEET(&j->sheet), 0, row[5] - 32 * cell, row[6] + 32 * cell, cell).number;
+}
+static uint64_t mask_item(const party *p, const job *j, tables *to, bytes *out) {
+    (void)to, (void)out;
+    return mask_about(p, j, 9400);
+}
+static uint64_t fine_item(const party *p, const job *j, tables *to, bytes *out) {
+    (void)to, (void)out;
+    return mask_about(p, j, 500);
 }
 
 static void measure(const char *name, item run, job full, job quarter) {
@@ -213,6 +235,9 @@ int main(int argc, char **argv) {
     job ring = job_of(round_borders(RING, 1), false), half = job_of(round_borders(RING / 2, 1), false);
     half.text.len = ring.text.len / 4;
     measure("ring check", ring_item, ring, half);
+    measure("mask 9999", mask_item, job_of(round_mask(GIANT), false), job_of(round_mask(GIANT / 4), false));
+    measure("mask fine", fine_item, job_of(round_mask(GIANT), false), job_of(round_mask(GIANT / 4), false));
+    measure("mask town", mask_item, exact, exact4);
     measure("sup", sup_item, exact, exact4);
     measure("sup parcels", sup_item, job_of(parcels(FULL), false), job_of(parcels(FULL / 4), false));
     return 0;

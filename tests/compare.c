@@ -20,21 +20,22 @@
 
 typedef enum {
     READ, WRITE, BORDER_AT, TEXT_AT, RING_AREA, NET_AREA, TALLY_SHEET, TALLY_TAKE, RING_CHECK, TILE_POINT, RECORD_AT, INTEGER, REAL,
-    LISTING, SUP_WRITE, ENTRIES
+    LISTING, SUP_WRITE, MASK_OF, ENTRIES
 } entry;
 
 static const char *const NAMES[ENTRIES] = {
     "read", "write", "border_at", "text_at", "ring_area", "net_area", "tally_sheet", "tally_take", "ring_check", "tile_point",
-    "record_at", "integer", "real", "listing", "sup_write",
+    "record_at", "integer", "real", "listing", "sup_write", "mask_of",
 };
 
 /* How often the reference gave each number, so that thin coverage shows. */
-#define NUMBERS 24
+#define NUMBERS 27
 static uint64_t given[ENTRIES][2][NUMBERS]; /* by mode where there is one: 0 loose, 1 exact */
 static uint64_t listing_says[NUMBERS];
 static uint64_t classes[7], eleven[2][7], rings_simple, pairs_self, pairs_next, pairs_ends, pairs_other, rights, centroids, both_texts, lists_whole;
 static uint64_t whole_files, rewritten;
 static uint64_t sup_kinds[4], sup_listed_most, sup_equal_codes, sup_minus, sup_wide[9], sup_wide_listed, sup_past[2];
+static uint64_t masks_empty, masks_full, masks_part, masks_through, masks_level, masks_flat;
 static uint64_t answers, differences, shown_most = 1;
 
 /* ---- What is being asked, for the report ---- */
@@ -108,7 +109,7 @@ static void on_signal(int number) {
 
 /* ---- Answers as named numbers ---- */
 
-typedef struct { const char *name[32]; uint64_t value[32]; int count; } flat;
+typedef struct { const char *name[72]; uint64_t value[72]; int count; } flat;
 
 static void put(flat *f, const char *name, uint64_t value) {
     f->name[f->count] = name;
@@ -235,6 +236,15 @@ static flat of_sup(cxf_sup a) {
     put(&f, "row", a.row);
     put(&f, "line", a.line);
     put(&f, "length", a.length);
+    return f;
+}
+
+static flat of_mask(cxf_mask a) {
+    flat f = {.count = 0};
+    put(&f, "number", a.number);
+    put(&f, "row", a.row);
+    put(&f, "covered", a.covered);
+    for (int i = 0; i < 64; i++) put(&f, "cells", a.rows[i]);
     return f;
 }
 
@@ -573,6 +583,17 @@ static cxf_sup try_sup(rng *g, const tables *t, const uint8_t *date, size_t date
     return mine;
 }
 
+static cxf_mask try_mask(const tables *t, uint64_t row, frame f) {
+    ask_sheet(MASK_OF, t);
+    arg("row", row);
+    arg("corner_x", (uint64_t)f.x);
+    arg("corner_y", (uint64_t)f.y);
+    arg("cell", (uint64_t)f.cell);
+    const cxf_mask theirs = cxf_mask_of(LENT(t), row, f.x, f.y, f.cell), mine = ref_mask_of(OWN(t), row, f.x, f.y, f.cell);
+    judge(of_mask(theirs), of_mask(mine), sheet_altered(t));
+    return mine;
+}
+
 /* A row with its own parts of the tables, as a sheet of one row. */
 static tables alone(const tables *t, uint64_t row) {
     tables one = *t;
@@ -748,6 +769,83 @@ static void sup_once(rng *g, const tables *t) {
     }
 }
 
+/* The mask of one ring of a border alone, as a border of a sheet of its own. */
+static cxf_mask ring_mask(const tables *border, size_t first, size_t vertices, frame f) {
+    int64_t row[ROW_WIDTH];
+    tables one = *border;
+    memcpy(row, border->rows, sizeof row);
+    row[10] = 0;
+    row[11] = (int64_t)vertices;
+    one.rows = row;
+    one.islands_len = 0;
+    one.points = border->points + 2 * first;
+    one.points_len = 2 * vertices;
+    return ref_mask_of(OWN(&one), 0, f.x, f.y, f.cell);
+}
+
+/* What can be said of a mask ring by ring: "A centre that the same rule, ring by ring, puts inside the outer ring and inside
+   exactly one island is never set"; inside the outer ring and no island it is. */
+static void look_at_rings(const tables *t, uint64_t row, frame f, const cxf_mask *m) {
+    const tables border = alone(t, row);
+    size_t first = (size_t)border.rows[11];
+    for (size_t i = 0; i < border.islands_len; i++) first -= border.islands[i];
+    const cxf_mask outer = ring_mask(&border, 0, first, f);
+    uint64_t once[64] = {0}, more[64] = {0}; /* inside one island or more, inside two or more */
+    for (size_t i = 0; i < border.islands_len; first += border.islands[i++]) {
+        const cxf_mask island = ring_mask(&border, first, border.islands[i], f);
+        for (int k = 0; k < 64; k++) {
+            more[k] |= once[k] & island.rows[k];
+            once[k] |= island.rows[k];
+        }
+    }
+    uint64_t covered = 0;
+    for (int k = 0; k < 64; k++) {
+        if ((m->rows[k] & outer.rows[k] & once[k] & ~more[k]) != 0) own_fault("a mask has a cell in a courtyard");
+        if ((~m->rows[k] & outer.rows[k] & ~once[k]) != 0) own_fault("a mask lacks a cell of the border");
+        for (uint64_t bits = m->rows[k]; bits != 0; bits &= bits - 1) covered++;
+    }
+    if (covered != m->covered) own_fault("the cells that are covered are not the set bits");
+}
+
+/* How often what is hard occurs: a centre on an edge, a vertex at a centre's height, a level edge there. */
+static void count_mask(const tables *t, uint64_t row, frame f, const cxf_mask *m) {
+    const tables border = alone(t, row);
+    bool through = false, level = false, flat_edge = false;
+    for (size_t i = 0; i + 1 < border.points_len / 2; i++) {
+        const int64_t *p = border.points + 2 * i; /* the step from ring to ring is no edge; for a count it will do */
+        const int64_t x = 2 * (p[0] - f.x), y = 2 * (f.y - p[1]), dx = 2 * (p[2] - p[0]), dy = 2 * (p[1] - p[3]);
+        for (int k = 0; k < 64; k++) {
+            const int64_t down = (2 * k + 1) * f.cell - y;
+            if (down == 0) level = true;
+            if (down == 0 && dy == 0) flat_edge = true;
+            if (dy == 0 || (dy > 0 ? down < 0 || down > dy : down > 0 || down < dy) || dx * down % dy != 0) continue;
+            const int64_t at = x + dx * down / dy;
+            if (at > 0 && at < 128 * f.cell && at % f.cell == 0 && at / f.cell % 2 == 1) through = true;
+        }
+    }
+    masks_through += through;
+    masks_level += level;
+    masks_flat += flat_edge;
+    if (m->covered == 0) masks_empty++;
+    else if (m->covered == 4096) masks_full++;
+    else masks_part++;
+}
+
+static void mask_once(rng *g, const tables *t, frame f) {
+    const uint64_t row = some_row(g, t, BORDO);
+    if (one_in(g, 4))
+        for (uint64_t n = one_in(g, 4) ? 2 : 1; n > 0; n--) damage_frame(g, t, &f);
+    const cxf_mask m = try_mask(t, row, f);
+    if (m.number != 0) return;
+    count_mask(t, row, f, &m);
+    if (one_in(g, 4)) look_at_rings(t, row, f, &m);
+    if (one_in(g, 4)) {
+        const tables one = alone(t, row);
+        arg("the row was asked alone", 1);
+        judge(of_mask(cxf_mask_of(OWN(&one), 0, f.x, f.y, f.cell)), of_mask(m), NULL);
+    }
+}
+
 /* Questions on one sheet; `all` asks each, else some. */
 static void question_sheet(rng *g, const tables *t, bool all) {
     lend_sheet(g, t);
@@ -772,6 +870,7 @@ static void question_sheet(rng *g, const tables *t, bool all) {
         try_check(t, row, some_ring(g, t, row));
     }
     if (all || one_in(g, 3)) sup_once(g, t);
+    if (all || one_in(g, 6)) mask_once(g, t, make_frame(g, t));
     if (all || one_in(g, 3)) {
         const uint64_t row = some_row(g, t, one_in(g, 3) ? TESTO : BORDO);
         try_alone(t, row, some_ring(g, t, row));
@@ -899,6 +998,15 @@ static void combined_case(rng *g) {
     sup_once(g, &sheet);
 }
 
+/* Masks of borders about one frame; now and then the sheet is damaged too, for the order of the refusals. */
+static void mask_case(rng *g, size_class size) {
+    frame f;
+    make_masked(g, size, &sheet, &f);
+    if (one_in(g, 12)) damage_sheet(g, &sheet);
+    lend_sheet(g, &sheet);
+    for (int i = 0; i < (size == LONG ? 1 : 3); i++) mask_once(g, &sheet, i == 0 || one_in(g, 2) ? f : make_frame(g, &sheet));
+}
+
 static void number_case(rng *g) {
     for (int i = 0; i < 4; i++) {
         file.len = 0;
@@ -992,7 +1100,9 @@ static void one_case(rng *g) {
     else if (draw < 1400) rings_case(g, LONG);
     else if (draw < 1500) sup_case(g, LONG);
     else if (draw < 1700) combined_case(g);
+    else if (draw < 1800) mask_case(g, LONG);
     else if (draw < 9000) sup_case(g, one_in(g, 2) ? SHORT : MIDDLE);
+    else if (draw < 15000) mask_case(g, one_in(g, 2) ? SHORT : MIDDLE);
     else if (draw < 42000) sheet_file_case(g, SHORT);
     else if (draw < 55000) sheet_file_case(g, MIDDLE);
     else if (draw < 74000) sheet_case(g, SHORT);
@@ -1037,6 +1147,9 @@ static void print_counts(void) {
            (unsigned long long)sup_wide_listed);
     for (int i = 1; i <= 7; i++) printf(" %llu", (unsigned long long)sup_wide[i]);
     printf("; TOTALE past the limit %llu, below zero %llu\n", (unsigned long long)sup_past[0], (unsigned long long)sup_past[1]);
+    printf("  masks: empty %llu, full %llu, in part %llu; with a centre on an edge %llu, a vertex at a centre's height %llu, a level edge there %llu\n",
+           (unsigned long long)masks_empty, (unsigned long long)masks_full, (unsigned long long)masks_part, (unsigned long long)masks_through,
+           (unsigned long long)masks_level, (unsigned long long)masks_flat);
     printf("  files with no fault read as they were made %llu, written again as they stood %llu\n", (unsigned long long)whole_files,
            (unsigned long long)rewritten);
 }

@@ -799,6 +799,152 @@ size_t make_date(rng *g, uint8_t out[16]) {
     return n;
 }
 
+/* ---- Sheets for masks ---- */
+
+enum { GRID = 64 };
+
+static int64_t some_cell(rng *g) {
+    static const int64_t cells[] = {1, 2, 3, 4, 7, 10, 100, 250, 500, 999, 1000, 5000, 9999, 10000};
+    return one_in(g, 3) ? between(g, 1, 10000) : PICK(g, cells);
+}
+
+/* A frame whose grid is within the real range, often at its ends. */
+static frame inner_frame(rng *g) {
+    const int64_t cell = some_cell(g), side = GRID * cell;
+    frame f = {between(g, REAL_LOW, REAL_HIGH - side), between(g, REAL_LOW + side, REAL_HIGH), cell};
+    if (one_in(g, 3)) f.x = one_in(g, 2) ? REAL_LOW : REAL_HIGH - side;
+    if (one_in(g, 3)) f.y = one_in(g, 2) ? REAL_LOW + side : REAL_HIGH;
+    return f;
+}
+
+/* How far from the corner a vertex lies, in x or y: in half cells, which an even cell has centres on, in whole cells, or near, so
+   that edges go through centres or pass them by little. */
+static int64_t some_way(rng *g, int64_t cell) {
+    switch (below(g, 6)) {
+    case 0: return between(g, -2, 2 * GRID + 2) * cell / 2;
+    case 1: return between(g, -2, 2 * GRID + 2) * cell / 2 + between(g, -1, 1);
+    case 2: return between(g, -cell, GRID * cell + cell);
+    default: return between(g, -1, GRID + 1) * cell;
+    }
+}
+
+/* A ring of m vertices and the first again, about a frame. */
+static void add_framed_ring(rng *g, tables *t, size_t m, const frame *f) {
+    const int64_t cell = f->cell;
+    at *v = grown(NULL, m, sizeof *v);
+    const at a = {some_way(g, cell), some_way(g, cell)}, b = {some_way(g, cell), some_way(g, cell)};
+    switch (below(g, 8)) {
+    case 0: /* an upright box; the other vertices stand on its last corner */
+    case 1:
+        for (size_t i = 0; i < m; i++) v[i] = (at){i == 1 || i == 2 ? b.x : a.x, i == 0 || i == 1 ? a.y : b.y};
+        break;
+    case 2: /* corners of cells alone, or centres alone: slopes of whole cells, so edges go through many centres */
+    case 3: {
+        const int64_t half = one_in(g, 2) ? cell / 2 : 0;
+        for (size_t i = 0; i < m; i++) v[i] = (at){between(g, -1, GRID) * cell + half, between(g, -1, GRID) * cell + half};
+        break;
+    }
+    case 4: /* simple, about the grid's middle */
+        two_chains(g, v, m, GRID * cell, GRID * cell / 2);
+        for (size_t i = 0; i < m; i++) v[i].y += GRID * cell / 2;
+        break;
+    case 5: { /* far wider than the grid; begun at its first vertex it goes just to the reach, or one past it */
+        static const int64_t ways[] = {1000000, REACH / 2, REACH / 2, REACH, REACH + 1};
+        const int64_t way = PICK(g, ways);
+        for (size_t i = 0; i < m; i++) {
+            v[i] = a;
+            if (i > 0) v[i].x += one_in(g, 2) ? way * between(g, -1, 1) : between(g, -way, way);
+            if (i > 0) v[i].y += one_in(g, 2) ? way * between(g, -1, 1) : between(g, -way, way);
+        }
+        break;
+    }
+    default:
+        for (size_t i = 0; i < m; i++) v[i] = (at){some_way(g, cell), some_way(g, cell)};
+        break;
+    }
+    const size_t first = one_in(g, 2) ? 0 : below(g, m);
+    const bool back = one_in(g, 2);
+    for (size_t i = 0; i <= m; i++) {
+        const size_t k = (first + i) % m;
+        const at p = v[back ? (m - k) % m : k];
+        add_point(t, f->x + p.x, f->y - p.y);
+    }
+    free(v);
+}
+
+/* The last n points again, as an island that takes all of that ring away. */
+static void add_same_ring(tables *t, size_t n) {
+    const size_t first = t->points_len - 2 * n;
+    for (size_t i = 0; i < n; i++) add_point(t, t->points[first + 2 * i], t->points[first + 2 * i + 1]);
+}
+
+static void add_framed_border(rng *g, tables *t, size_class size, const frame *f) {
+    int64_t row[WIDTH];
+    begin_border(g, t, row, (at){f->x, f->y});
+    size_t n = size == LONG ? 1000 + below(g, 9000) : size == MIDDLE ? 4 + below(g, 60) : 4 + below(g, 6);
+    row[VERTICES] = (int64_t)n;
+    add_framed_ring(g, t, n - 1, f);
+    for (uint64_t islands = one_in(g, 3) ? 0 : size == SHORT ? 1 + below(g, 3) : below(g, 9); islands > 0; islands--) {
+        const bool same = one_in(g, 12);
+        if (!same) n = 4 + below(g, size == SHORT ? 4 : 20);
+        if (row[VERTICES] + (int64_t)n > 9999) break;
+        if (same) add_same_ring(t, n);
+        else add_framed_ring(g, t, n - 1, f);
+        add_island(t, n);
+        row[ISLANDS]++;
+        row[VERTICES] += (int64_t)n;
+    }
+    add_row(t, row);
+}
+
+void make_masked(rng *g, size_class size, tables *t, frame *f) {
+    empty_sheet(g, t);
+    *f = inner_frame(g);
+    if (one_in(g, 4)) add_element(g, t, SHORT, (at){f->x, f->y});
+    add_framed_border(g, t, size, f);
+    if (one_in(g, 4)) add_framed_border(g, t, SHORT, f);
+}
+
+/* Some vertex of a sheet; the sheet may be damaged. */
+static at some_vertex(rng *g, const tables *t) {
+    if (t->points_len < 2) return (at){0, 0};
+    const size_t i = below(g, t->points_len / 2);
+    return (at){in_range(t->points[2 * i]), in_range(t->points[2 * i + 1])};
+}
+
+frame make_frame(rng *g, const tables *t) {
+    frame f = inner_frame(g);
+    if (one_in(g, 12)) return f;
+    const at p = some_vertex(g, t);
+    f.x = p.x - some_way(g, f.cell);
+    f.y = p.y + some_way(g, f.cell);
+    return f;
+}
+
+void damage_frame(rng *g, const tables *t, frame *f) {
+    static const int64_t cells[] = {0, -1, 10001, -10000, 65536 + 5, 4294967296LL + 5, INT64_MIN, INT64_MAX, INT64_MIN + 5};
+    const int64_t step = one_in(g, 2) ? 1 : -1, far = 40000000 + between(g, -1, 1);
+    at end = some_vertex(g, t); /* the one that is furthest on that side of the corner */
+    for (size_t i = 0; i + 1 < t->points_len; i += 2) {
+        const at p = {in_range(t->points[i]), in_range(t->points[i + 1])};
+        if (step * p.x > step * end.x) end.x = p.x;
+        if (step * p.y > step * end.y) end.y = p.y;
+    }
+    switch (below(g, 8)) {
+    case 0: f->cell = one_in(g, 3) ? edge_number(g) : PICK(g, cells); break;
+    case 1:
+    case 2: f->x = end.x - step * far; break;
+    case 3:
+    case 4: f->y = end.y - step * far; break;
+    case 5: /* an end of the grid that was at one of the real range may be past it */
+        f->x = in_range(f->x) + step;
+        f->y = in_range(f->y) + (one_in(g, 2) ? 0 : step);
+        break;
+    case 6: f->x = edge_number(g); break;
+    default: f->y = edge_number(g); break;
+    }
+}
+
 /* ---- Sheets damaged ---- */
 
 static void stretch(rng *g, size_t *len, size_t room) {

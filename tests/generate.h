@@ -55,6 +55,15 @@ void make_listed(rng *g, size_class size, tables *t);
 void make_combined(rng *g, tables *t);
 /* A SUP file's date, good or nearly; its length. */
 size_t make_date(rng *g, uint8_t out[16]);
+/* Where a mask is asked for: its north-west corner and the side of a cell. */
+typedef struct { int64_t x, y, cell; } frame;
+/* A well made sheet of borders that lie about a frame, which is made too: vertices on centres, on their heights and on the grid's
+   lines, islands in the outer ring, across it and equal to it, rings far wider than the grid and up to the ends of what is near. */
+void make_masked(rng *g, size_class size, tables *t, frame *f);
+/* A frame about some vertex of a sheet, so that centres fall on it, or any. */
+frame make_frame(rng *g, const tables *t);
+/* Alters a frame: a bad cell, a corner next to what is too far, an end of the grid at or past the real range. */
+void damage_frame(rng *g, const tables *t, frame *f);
 /* A sheet that is whole but for one count or length just past its rule: an island of 3, a line of 1 or of 10,000, 256
    letters and the like, with all that belongs to it. As a file too it is refused for that alone. */
 void make_odd(rng *g, tables *t);

@@ -18,6 +18,7 @@
 #define cxf_record paper_record
 #define cxf_number paper_number
 #define cxf_listed paper_listed
+#define cxf_mask paper_mask
 #define cxf_sup paper_sup
 #define STRUCTS_ALONE
 #include "reference.h"
@@ -32,6 +33,7 @@
 #undef cxf_record
 #undef cxf_number
 #undef cxf_listed
+#undef cxf_mask
 #undef cxf_sup
 
 #include "cxf.h"
@@ -41,6 +43,7 @@
 DECLARE_INTERFACE(cxf)
 DECLARE_SUP(cxf)
 uint64_t cxf_interface(void);
+DECLARE_MASK(cxf)
 
 /* ---- structs: the offset, the size and the type of each field ---- */
 
@@ -121,6 +124,12 @@ SAME(record, next);
 WHOLE(number);
 SAME(number, number);
 SAME(number, value);
+
+WHOLE(mask);
+SAME(mask, number);
+SAME(mask, row);
+SAME(mask, rows);
+SAME(mask, covered);
 
 WHOLE(listed);
 SAME(listed, number);
@@ -245,6 +254,7 @@ static void sentences(void)
         for (uint64_t m = 1; m < n; m++)
             if (listed) expect(strcmp(text, cxf_refusal_text(m)) != 0, "two refusals have one sentence");
     }
+    expect(strcmp(cxf_refusal_text(26), other) != 0, "refusal 26 has no sentence of its own");
     expect(strcmp(cxf_refusal_text(UINT64_MAX), other) == 0, "a number that is no refusal has a sentence of its own");
 }
 

@@ -1,6 +1,6 @@
-/* The reference: document 01's base, and T-01 of document 02, in plain C, written from the papers for clarity, not for
+/* The reference: document 01's base, and T-01 to T-03 of document 02, in plain C, written from the papers for clarity, not for
    speed. It shares no line with the library. The sentences in comments are document 01's, or the interface paper's; those
-   of the SUP file are T-01's. */
+   of the SUP file are T-01's, those of masks T-03's. */
 #include "reference.h"
 
 #include <stdbool.h>
@@ -21,12 +21,16 @@
 #define ROW_WIDTH 12u
 #define SUP_LEFT 11u
 #define SUP_RIGHT 10u
+#define MASK_SIDE 64
+#define CELL_MOST 10000
+#define MASK_REACH 40000000LL
 
 /* The refusal numbers, by the names of document 01's table. */
 enum {
     TOO_LONG = 1, CUT = 2, LINE_END = 3, LENGTH = 4, BYTE = 5, HEADER = 6, NO_KEYWORD = 7, NO_NUMBER = 8,
     NO_LETTERS = 9, CODE = 10, COUNT = 11, OPEN_RING = 12, AFTER_EOF = 13, NO_ROOM = 14, NOT_MADE = 15,
-    TOO_WIDE = 17, TOTAL = 18, MISSING = 19, OUTSIDE_FRAME = 20, BAD_DATE = 21, LONG_CODE = 22, WIDE_FIGURE = 23
+    TOO_WIDE = 17, TOTAL = 18, MISSING = 19, OUTSIDE_FRAME = 20, BAD_DATE = 21, LONG_CODE = 22, WIDE_FIGURE = 23,
+    BAD_CELL = 26
 };
 
 /* "Each element is a row of 12 numbers": their places. */
@@ -1134,5 +1138,84 @@ cxf_sup ref_sup_write(CXF_SHEET, const uint8_t *date, size_t date_len, uint8_t *
     }
     free(borders);
     free(lines);
+    return answer;
+}
+
+/* ---- Masks ---- */
+
+/* A place "in doubled coordinates so centres are whole". Where one is asked all are in the real range or 64 cells from it. */
+typedef struct { int64_t x, y; } doubled;
+
+static doubled doubled_point(const sheet *s, size_t point) { return (doubled){2 * point_x(s, point), 2 * point_y(s, point)}; }
+
+/* "northern row first": rows go south from the corner, columns east, and a centre is half a cell further. */
+static doubled centre_of(int64_t corner_x, int64_t corner_y, int64_t cell, int row, int column) {
+    return (doubled){2 * corner_x + (2 * column + 1) * cell, 2 * corner_y - (2 * row + 1) * cell};
+}
+
+/* "one end north of the centre and the other not, whose crossing lies strictly east of it". The edge is at the centre's height at
+   x = a.x + (b.x - a.x) * (centre.y - a.y) / (b.y - a.y); what that is east of the centre is multiplied by b.y - a.y, which
+   keeps its sign or turns it. */
+static bool edge_counts(doubled a, doubled b, doubled centre) {
+    if ((a.y > centre.y) == (b.y > centre.y)) return false;
+    const int64_t rise = b.y - a.y;
+    const __int128 east = (__int128)(a.x - centre.x) * rise + (__int128)(b.x - a.x) * (centre.y - a.y);
+    return rise > 0 ? east > 0 : east < 0;
+}
+
+static uint64_t edges_counted(const sheet *s, ring r, doubled centre) {
+    uint64_t n = 0;
+    for (size_t i = 0; i + 1 < r.vertices; i++)
+        if (edge_counts(doubled_point(s, r.first + i), doubled_point(s, r.first + i + 1), centre)) n++;
+    return n;
+}
+
+/* "inside by the even-odd rule over all rings"; the islands stand behind the outer ring, one behind the other. */
+static bool centre_inside(const sheet *s, uint64_t row, spot at, ring outer, doubled centre) {
+    uint64_t edges = edges_counted(s, outer, centre);
+    ring one = outer;
+    for (size_t i = 0; i < (size_t)row_of(s, row)[ISLANDS]; i++) {
+        one = (ring){one.first + one.vertices, s->islands[at.islands + i]};
+        edges += edges_counted(s, one, centre);
+    }
+    return edges % 2 == 1;
+}
+
+/* "if either end of the grid is off the real range": its corners in the north-west and in the south-east. The cell is good. */
+static bool grid_in_range(int64_t corner_x, int64_t corner_y, int64_t cell) {
+    return in_real_range(corner_x) && in_real_range(corner_y) && in_real_range(corner_x + MASK_SIDE * cell) &&
+           in_real_range(corner_y - MASK_SIDE * cell);
+}
+
+/* "or any vertex is more than 40,000,000 mm from the corner in x or y" */
+static bool border_near(const sheet *s, uint64_t row, spot at, int64_t corner_x, int64_t corner_y) {
+    for (size_t i = at.points; i < at.points + (size_t)row_of(s, row)[VERTICES]; i++) {
+        const int64_t dx = point_x(s, i) - corner_x, dy = point_y(s, i) - corner_y; /* all in the real range */
+        if (dx > MASK_REACH || dx < -MASK_REACH || dy > MASK_REACH || dy < -MASK_REACH) return false;
+    }
+    return true;
+}
+
+/* "Refusals: 6, 15, 19, 26 for a cell side outside 1 to 10,000, 17, then 20". "The number of covered cells is the sum of each row's
+   set bits": every bit that is set adds one. */
+cxf_mask ref_mask_of(CXF_SHEET, uint64_t row, int64_t corner_x, int64_t corner_y, int64_t cell) {
+    const sheet s = THE_SHEET;
+    const refusal r = judge_border(&s, row);
+    cxf_mask answer = {.number = r.number, .row = r.row};
+    if (r.number != 0) return answer;
+    const spot at = spot_of(&s, row);
+    int64_t outer_area, islands_area; /* only whether any ring is too wide is of use */
+    if (cell < 1 || cell > CELL_MOST) answer.number = BAD_CELL;
+    else if (!border_areas(&s, row, at, &outer_area, &islands_area)) answer.number = TOO_WIDE;
+    else if (!grid_in_range(corner_x, corner_y, cell) || !border_near(&s, row, at, corner_x, corner_y)) answer.number = OUTSIDE_FRAME;
+    if (answer.number != 0) return answer;
+
+    const ring outer = ring_of(&s, row, at, 0);
+    for (int north = 0; north < MASK_SIDE; north++)
+        for (int west = 0; west < MASK_SIDE; west++) {
+            if (!centre_inside(&s, row, at, outer, centre_of(corner_x, corner_y, cell, north, west))) continue;
+            answer.rows[north] |= 1ull << (MASK_SIDE - 1 - west);
+            answer.covered++;
+        }
     return answer;
 }

@@ -36,6 +36,7 @@ typedef struct { uint64_t number, start, length, next; } cxf_record;
 typedef struct { uint64_t number; int64_t value; } cxf_number;
 typedef struct { uint64_t number, length; } cxf_listed;
 typedef struct { uint64_t number, row, line, length; } cxf_sup; /* T-01; line, from 1, with 23 */
+typedef struct { uint64_t number, row; uint64_t rows[64]; uint64_t covered; } cxf_mask; /* T-03; the northern row first, west in the highest bit */
 
 #define DECLARE_INTERFACE(P)                                                                             \
     cxf_reading P##_read(const uint8_t *src, size_t src_len, uint64_t mode, int64_t *rows,               \
@@ -64,6 +65,13 @@ DECLARE_INTERFACE(ref)
 DECLARE_SUP(cxf)
 DECLARE_SUP(ref)
 uint64_t cxf_interface(void);
+#endif
+
+#define DECLARE_MASK(P) cxf_mask P##_mask_of(CXF_SHEET, uint64_t row, int64_t corner_x, int64_t corner_y, int64_t cell);
+
+#ifndef STRUCTS_ALONE
+DECLARE_MASK(cxf)
+DECLARE_MASK(ref)
 #endif
 
 #endif
