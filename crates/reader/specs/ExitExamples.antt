@@ -16,9 +16,14 @@ use Rattle.reader.specs.Read.{holdsAll, readOf, numberOf, recordOf, offs
 use Rattle.reader.specs.Exit.{answerTo, exitOf, usedPart}
 use Rattle.reader.specs.declared.Outcome.{Outcome}
 
+-- the column with every definition opened, so that it computes
+unfoldable pub computedColumn : Mode → List ℕ → ℕ
+unfolding readingColumn columnFrom dueFrom dueAt computed computedRefusal
+computedColumn mode bs = readingColumn mode bs
+
 -- with every definition opened, so that it computes
 abbrev opened : Mode → List ℕ → Tables → Outcome
-unfolding computed computedRefusal readingColumn columnFrom dueFrom dueAt holdsAll readOf
+unfolding computedColumn holdsAll readOf
 opened mode bs t = answerTo mode bs t
 
 -- one text; its y is -0.005
