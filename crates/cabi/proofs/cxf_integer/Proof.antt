@@ -18,8 +18,8 @@ placed-integer-requires c κs = search needs
 enum-known-n : tie.Need-enum-known-n
 enum-known-n c = search needs
 
-cast-t7 : tie.Need-cast-t7
-cast-t7 c = small-fits (c .before .n .given .0 .0) (placed-most _ _ _ (sym (c .before .before .before .placed-integer .ensures) ∙ c .before .n .given .1))
+cast-t8 : tie.Need-cast-t8
+cast-t8 c = small-fits (c .before .n .given .0 .0) (placed-most _ _ _ (sym (c .before .before .before .placed-integer .ensures) ∙ c .before .n .given .1))
 
 enum-known-column : tie.Need-enum-known-column
 enum-known-column c = search needs
@@ -39,7 +39,7 @@ cxf-integer-spec =
     mode-of-requires
     placed-integer-requires
     enum-known-n
-    cast-t7
+    cast-t8
     enum-known-column
     returns
     returns-2)
