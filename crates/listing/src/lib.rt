@@ -81,13 +81,7 @@ fn put_line(out: &mut [u8], at: usize, word: &[u8], s: &[usize]) -> usize
 }
 
 // `REFUSED`, number, place, offset, column.
-fn put_refused(
-    out: &mut [u8],
-    number: usize,
-    place: usize,
-    offset: usize,
-    column: usize,
-) -> usize
+fn put_refused(out: &mut [u8], number: usize, place: usize, offset: usize, column: usize) -> usize
     requires { ⌜ length (refusedLine number place offset column) ≤ length (now out) ⌝ }
     ensures { λ r. ⌜ Put (now (out .entry)) 0 (refusedLine number place offset column) (now (out .exit)) r ⌝ }
 {

@@ -26,7 +26,7 @@ use Rattle.column.specs.declared.PlacedInteger.the-variants as PlacedInteger
 use Rattle.column.specs.declared.PlacedReal.{PlacedReal}
 use Rattle.column.specs.declared.PlacedReal.the-variants as PlacedReal
 use Rattle.column.specs.Columns.{integerPlaced, realPlaced}
-use Rattle.column.specs.Examples.{computedColumn}
+use Rattle.column.specs.Examples.{computedPlaced}
 use Rattle.column.proofs.placed_integer as placed-integer
 use Rattle.column.proofs.placed_integer.Reads as placed-integer-reads
 use Rattle.column.proofs.placed_real as placed-real
@@ -47,27 +47,27 @@ five = refl
 
 -- with their columns
 eighteen-placed : integerPlaced Loose ledByZero ≡ PlacedInteger.Is 18
-unfolding computedColumn
+unfolding computedPlaced
 eighteen-placed = refl
 
 zero-placed : integerPlaced Exact ledByZero ≡ PlacedInteger.Malformed 2
-unfolding computedColumn
+unfolding computedPlaced
 zero-placed = refl
 
 five-placed : integerPlaced Loose (text "12345") ≡ PlacedInteger.Malformed 5
-unfolding computedColumn
+unfolding computedPlaced
 five-placed = refl
 
 tiny-placed : realPlaced Exact tiny ≡ PlacedReal.Is (negsuc 4)
-unfolding computedColumn
+unfolding computedPlaced
 tiny-placed = refl
 
 minus-zero-loose : realPlaced Loose minusZero ≡ PlacedReal.Is (pos 0)
-unfolding computedColumn
+unfolding computedPlaced
 minus-zero-loose = refl
 
 minus-zero-exact : realPlaced Exact minusZero ≡ PlacedReal.Malformed 12
-unfolding computedColumn
+unfolding computedPlaced
 minus-zero-exact = refl
 
 -- ---- `integer`
