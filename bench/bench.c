@@ -215,8 +215,5 @@ int main(int argc, char **argv) {
     measure("ring check", ring_item, ring, half);
     measure("sup", sup_item, exact, exact4);
     measure("sup parcels", sup_item, job_of(parcels(FULL), false), job_of(parcels(FULL / 4), false));
-#ifndef CXF_SUP
-    printf("the library has no cxf_sup_write yet: in sup the reference stands in its place\n");
-#endif
     return 0;
 }

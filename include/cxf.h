@@ -77,9 +77,12 @@ enum {
     CXF_NO_ROOM = 14,   /* what was lent is too short: the answer says what is needed */
     CXF_NOT_MADE = 15,  /* the sheet handed in could not come from a reading: the answer names the row */
     CXF_TOO_WIDE = 17,  /* a ring with a vertex more than 20,000,000 mm from its first, in x or in y */
-    CXF_TOO_LARGE = 18, /* a figure of a tally above 9,000,000,000,000,000,000 */
+    CXF_TOO_LARGE = 18, /* a figure of a tally, or TOTALE of a SUP file, beyond 9,000,000,000,000,000,000 */
     CXF_NO_SUCH = 19,   /* no such row, border or ring */
-    CXF_OFF_TILE = 20   /* outside the tile frame */
+    CXF_OFF_TILE = 20,  /* outside the tile frame */
+    CXF_BAD_DATE = 21,  /* a SUP file's date that is not eight digits, with a month 01 to 12 and a day 01 to 31 */
+    CXF_LONG_CODE = 22, /* a SUP file would list a border whose code has more than 11 letters: the answer names the row */
+    CXF_WIDE_FIGURE = 23 /* a figure of a SUP file has more than 10 characters: the answer names the line */
 };
 
 /* The same in a sentence, for a message. */
@@ -102,9 +105,12 @@ static inline const char *cxf_refusal_text(uint64_t number)
     case CXF_NO_ROOM: return "What was lent is too short.";
     case CXF_NOT_MADE: return "The sheet handed in is not well made.";
     case CXF_TOO_WIDE: return "A ring has a vertex more than 20,000,000 mm from its first.";
-    case CXF_TOO_LARGE: return "A figure of a tally is above 9,000,000,000,000,000,000.";
+    case CXF_TOO_LARGE: return "A figure of a tally, or the total of a SUP file, is beyond 9,000,000,000,000,000,000.";
     case CXF_NO_SUCH: return "There is no such row, border or ring.";
     case CXF_OFF_TILE: return "The point lies outside the tile.";
+    case CXF_BAD_DATE: return "The date of a SUP file is not eight digits with a month and a day.";
+    case CXF_LONG_CODE: return "The code of a border that a SUP file lists has more than 11 letters.";
+    case CXF_WIDE_FIGURE: return "A figure of a SUP file has more than 10 characters.";
     default: return "This is not a refusal of this interface.";
     }
 }
@@ -209,8 +215,8 @@ static inline cxf_sheet cxf_sheet_of(const cxf_reading *r, const int64_t *rows, 
 }
 
 /* Every question below on a sheet judges the header (6), then all rows (15, with the first faulty row), then whether
-   the row that is asked for is there (19), each time anew. Rows count from 0. In the answers `row` is the refused row with 15
-   and 10, and with 17 and 18 of the tallies; else it is 0.
+   the row that is asked for is there (19), each time anew. Rows count from 0. In the answers `row` is the refused row with 15,
+   10 and 22, and with 17 and 18 of the tallies; else it is 0.
 
    So a question takes the time that the whole sheet takes to judge, and questions on all rows together take time that grows with
    the square of the sheet. Of a
@@ -311,6 +317,22 @@ cxf_tally cxf_tally_sheet(CXF_SHEET);
    tally handed in is judged after 6, 15 and 19: a figure that is negative or too large, or a figures_len other than 24 (the
    answer's figures are then 0), is refused 18; then come 17, and 18 of the border. */
 cxf_tally cxf_tally_take(const int64_t *figures, size_t figures_len, CXF_SHEET, uint64_t row);
+
+/* ---- SUP files ------------------------------------------------------------------------------------------------------- */
+
+typedef struct {
+    uint64_t number, row; /* row with 15, with 17 and 18 of the tally, and with 22 */
+    uint64_t line;        /* with 23 the first line whose figure is too wide, from 1 */
+    uint64_t length;      /* the bytes that were written, or that are needed with 14 */
+} cxf_sup;
+
+/* Writes the SUP file that goes out with a sheet to the start of out: its name and the date, the counts and areas of the sheet's
+   tally, and the area of each border that it lists, in square metres. It has 14 lines and one for each listed border, 23 bytes
+   each. Listed are the parcels, or the borders of class CXF_OTHER of a QUADRO D'UNIONE, by the bytes of their codes, equal codes by
+   rising area. The date is eight digits: year, month, day. Refused are, in this order: the header (6), the rows (15), the tally
+   (17, 18), the date (21), the first row with a listed code that is too long (22), a TOTALE beyond the tally's limit (18, with no
+   row), the first figure that is too wide (23), the room (14). Past the text out is not altered. */
+cxf_sup cxf_sup_write(CXF_SHEET, const uint8_t *date, size_t date_len, uint8_t *out, size_t out_len);
 
 /* ---- ring check ------------------------------------------------------------------------------------------------------ */
 

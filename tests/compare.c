@@ -1069,9 +1069,6 @@ int main(int argc, char **argv) {
         one_case(&g);
     }
     print_counts();
-#ifndef CXF_SUP
-    printf("\nthe library has no cxf_sup_write yet: there the reference was asked twice\n");
-#endif
     printf("\n%llu cases of seed %llu from case %llu: %llu answers compared, %llu differences\n", (unsigned long long)count,
            (unsigned long long)seed, (unsigned long long)first, (unsigned long long)answers, (unsigned long long)differences);
     return differences == 0 ? 0 : 1;

@@ -39,9 +39,7 @@
 
 /* The functions again, as the tests declare them: the compiler refuses another parameter or answer. */
 DECLARE_INTERFACE(cxf)
-#ifdef CXF_SUP
 DECLARE_SUP(cxf)
-#endif
 uint64_t cxf_interface(void);
 
 /* ---- structs: the offset, the size and the type of each field ---- */
@@ -128,15 +126,13 @@ WHOLE(listed);
 SAME(listed, number);
 SAME(listed, length);
 
-#ifdef CXF_SUP
 WHOLE(sup);
 SAME(sup, number);
 SAME(sup, row);
 SAME(sup, line);
 SAME(sup, length);
-#endif
 
-/* ---- numbers, as document 01 and the paper of the interface have them ---- */
+/* ---- numbers, as documents 01 and 02 and the paper of the interface have them ---- */
 
 #define IS(NAME, NUMBER) _Static_assert((NAME) == (NUMBER), #NAME)
 
@@ -173,6 +169,9 @@ IS(CXF_TOO_WIDE, 17);
 IS(CXF_TOO_LARGE, 18);
 IS(CXF_NO_SUCH, 19);
 IS(CXF_OFF_TILE, 20);
+IS(CXF_BAD_DATE, 21);
+IS(CXF_LONG_CODE, 22);
+IS(CXF_WIDE_FIGURE, 23);
 
 IS(CXF_LOOSE, 0);
 IS(CXF_EXACT, 1);
@@ -232,11 +231,7 @@ static void expect(int holds, const char *what)
     wrong = 1;
 }
 
-#ifdef CXF_SUP
 enum { LAST_REFUSAL = 23 };
-#else
-enum { LAST_REFUSAL = 20 };
-#endif
 
 /* One sentence for each refusal, and one for all other numbers. */
 static void sentences(void)

@@ -61,12 +61,8 @@ typedef struct { uint64_t number, row, line, length; } cxf_sup; /* T-01; line, f
 #ifndef STRUCTS_ALONE /* header.c declares the functions with the header's own structs */
 DECLARE_INTERFACE(cxf)
 DECLARE_INTERFACE(ref)
-DECLARE_SUP(ref)
-#ifdef CXF_SUP
 DECLARE_SUP(cxf)
-#else /* until the library has it the reference stands in its place */
-#define cxf_sup_write ref_sup_write
-#endif
+DECLARE_SUP(ref)
 uint64_t cxf_interface(void);
 #endif
 

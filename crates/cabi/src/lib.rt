@@ -1,4 +1,4 @@
-// The library for programs in C, Rust and Python: each entry point of document 01, exported as `include/cxf.h` declares it.
+// The library for programs in C, Rust and Python: each entry point of documents 01 and 02, exported as `include/cxf.h` declares it.
 // All of it is proved, and no public function has a `requires`. Each is thin: it calls the library's own, and `told` lays the answer
 // out in a struct.
 ghost use mathlib.Core.Path.{_≡_};
@@ -15,6 +15,7 @@ ghost use Rattle.border.specs.TextAt.{textAt};
 ghost use Rattle.area.specs.Questions.{ringAreaAt, netAreaAt};
 ghost use Rattle.ring.specs.RingCheck.{ringCheckAt};
 ghost use Rattle.tally.specs.Take.{takenOf, tallyOf};
+ghost use Rattle.sup.specs.Answer.{sheetSup, supOf, supOutput};
 ghost use Rattle.tile.specs.Tiles.{tileOf};
 ghost use Rattle.listing.specs.Listing.{listingOf};
 ghost use Rattle.listing.specs.Listed.{listedOf, listedIn};
@@ -22,6 +23,7 @@ ghost use Rattle.told.specs.Asked.{modeOf, isKeywordDue, headerOf};
 ghost use Rattle.told.specs.Told.{interfaceNumber, readTold, writeTold, recordTold, integerTold, realTold, tileTold, listedTold};
 ghost use Rattle.told.specs.Answers.{borderTold, textTold, areaTold, ringTold};
 ghost use Rattle.told.specs.Tallies.{tallyIn, tallyTold, takeTold};
+ghost use Rattle.told.specs.SupFiles.{supTold};
 use area::net_area;
 use area::ring_area;
 use border::border_at;
@@ -39,6 +41,7 @@ use record::refusal::NO_ROOM;
 use record::refusal::NUMBER;
 use record::refusal::OFF_TILE;
 use ring::ring_check;
+use sup::sup_text;
 use tally::take;
 use tally::tally_sheet;
 use tile::Tile;
@@ -60,6 +63,8 @@ use told::question::border_of;
 use told::question::ring_of;
 use told::question::text_of;
 use told::reading_of;
+use told::sup_files::CxfSup;
+use told::sup_files::sup_told;
 use told::tallies::CxfTally;
 use told::tallies::take_told;
 use told::tallies::tally_in;
@@ -341,4 +346,25 @@ pub extern "C" fn cxf_tally_take(
     let tally = tally_in(figures);
     let taken = take(tally, header, count, rows, letters, islands, points, row);
     take_told(figures.len(), taken)
+}
+
+// Writes the SUP file of a sheet.
+#[no_mangle]
+pub extern "C" fn cxf_sup_write(
+    kind: usize,
+    name: &[u8],
+    scale: i64,
+    count: usize,
+    rows: &[i64],
+    letters: &[u8],
+    islands: &[u16],
+    points: &[i64],
+    date: &[u8],
+    out: &mut [u8],
+) -> CxfSup
+    ensures { λ r. ⌜ r ≡ supTold (supOf (headerOf kind (now (name .entry)) scale) count (tablesOf (now (rows .entry)) (now (letters .entry)) (now (islands .entry)) (now (points .entry))) (now (date .entry)) (length (now (out .entry)))) ⌝ }
+    ensures { λ r. ⌜ now (out .exit) ≡ supOutput (supOf (headerOf kind (now (name .entry)) scale) count (tablesOf (now (rows .entry)) (now (letters .entry)) (now (islands .entry)) (now (points .entry))) (now (date .entry)) (length (now (out .entry)))) (sheetSup (headerOf kind (now (name .entry)) scale) count (tablesOf (now (rows .entry)) (now (letters .entry)) (now (islands .entry)) (now (points .entry))) (now (date .entry))) (now (out .entry)) ⌝ }
+{
+    let header = header_of(kind, name, scale);
+    sup_told(sup_text(header, count, rows, letters, islands, points, date, out))
 }

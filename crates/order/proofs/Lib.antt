@@ -17,3 +17,4 @@ pub mod OrderLaws
 pub mod RowsLaws
 pub mod WindowLaws
 pub mod LongLaws
+pub mod TurnLaws

@@ -54,7 +54,7 @@ pub fn is_in_sup(header: Header, rows: &[i64], letters: &[u8], d: Stand) -> bool
 }
 
 // It is listed, and its code is too long for a line.
-pub fn is_long(header: Header, rows: &[i64], letters: &[u8], d: Stand) -> bool
+pub(crate) fn is_long(header: Header, rows: &[i64], letters: &[u8], d: Stand) -> bool
     ensures { λ r. ⌜ r ≡ isLong header (leftAt (tablesOf (now (rows .entry)) (now (letters .entry)) [] []) d) ⌝ }
 {
     if !is_in_sup(header, rows, letters, d) {
@@ -64,7 +64,7 @@ pub fn is_long(header: Header, rows: &[i64], letters: &[u8], d: Stand) -> bool
 }
 
 // It is past `since`, comes before the last of a full window, and is listed: most rows fail one of the first two, which cost less.
-pub fn joins_window(
+pub(crate) fn joins_window(
     header: Header,
     rows: &[i64],
     letters: &[u8],

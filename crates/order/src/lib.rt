@@ -1,7 +1,7 @@
 // The borders that a SUP file lists, in its order (document 02, T-01 and T-10): a window at a time, as there is no room to sort them all.
 // All of it is proved, and no public function has a `requires`: each answers for any rows. A row is handed on as the place where it
 // stands; the order is that of letters and nets there, so a sheet has to be judged before it means anything.
-mod choosing;
+pub mod choosing;
 mod comparing;
 
 ghost use mathlib.Core.Path.{_≡_};

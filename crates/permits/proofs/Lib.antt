@@ -13,3 +13,4 @@ pub mod Rings
 pub mod Tallies
 pub mod RunningTallies
 pub mod Interfaces
+pub mod SupFiles

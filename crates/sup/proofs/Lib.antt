@@ -1,6 +1,10 @@
 -- The laws of a SUP file's text, and the ways through the code.
 pub mod SupLaws
+pub mod SourceLaws
+pub mod WroteLaws
 mod RoundWays
 mod LineWays
 mod TotalWays
 mod DateWays
+mod ListedWays
+mod TextWays

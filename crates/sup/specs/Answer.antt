@@ -47,12 +47,13 @@ sheetSup h count t date = supText h date (tallyOf h count t .tally .figures) (co
 unfoldable pub storedSup : List ℕ → ℕ → SupAnswer
 storedSup s room = cond (leb (length s) room) (Wrote (length s)) (NoRoom (length s))
 
--- 18, then 23
+-- 23
+unfoldable pub linedSup : Header → List ℕ → List ℤ → List CodeNet → ℕ → SupAnswer
+linedSup h date f s room = cond (eqb (firstWide (h .kind) f s) 0) (storedSup (supText h date f s) room) (WideFigure (firstWide (h .kind) f s))
+
+-- 18
 unfoldable pub printedSup : Header → List ℕ → List ℤ → List CodeNet → ℕ → SupAnswer
-printedSup h date f s room =
-    cond (isLimited (exactTotal (h .kind) f))
-    (cond (eqb (firstWide (h .kind) f s) 0) (storedSup (supText h date f s) room) (WideFigure (firstWide (h .kind) f s)))
-    PastTotal
+printedSup h date f s room = cond (isLimited (exactTotal (h .kind) f)) (linedSup h date f s room) PastTotal
 
 -- 22
 abbrev pub afterCodes : LongCode → SupAnswer → SupAnswer

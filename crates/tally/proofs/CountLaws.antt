@@ -28,7 +28,7 @@ use Rattle.tally.proofs.TallyJoin.{tallied}
 
 -- counts add
 
-plus-at : (s t : List ℤ) (i : ℕ) → length s ≡ length t → getD (plus s t) i (pos 0) ≡ getD s i (pos 0) +ℤ getD t i (pos 0)
+pub plus-at : (s t : List ℤ) (i : ℕ) → length s ≡ length t → getD (plus s t) i (pos 0) ≡ getD s i (pos 0) +ℤ getD t i (pos 0)
 unfolding plus
 plus-at [] [] i e = refl
 plus-at [] (b ∷ t) i e = absurd (omega arith)

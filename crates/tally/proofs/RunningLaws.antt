@@ -11,7 +11,8 @@ use Rattle.laws.proofs.Choice.{true≢false, cond-elim, cond-true}
 use Rattle.record.specs.declared.Mode.the-variants.{Loose}
 use Rattle.heading.specs.declared.Header.{Header}
 use Rattle.sheet.specs.Tables.{Tables}
-use Rattle.made.specs.declared.Verdict.the-variants.{Fine}
+use Rattle.made.specs.declared.Verdict.{Verdict}
+use Rattle.made.specs.declared.Verdict.the-variants.{Fine, BadHeader, Faulty, Unlisted}
 use Rattle.made.specs.Made.{restOf, judgeOf}
 use Rattle.row.specs.declared.Sought.{Sought}
 use Rattle.row.specs.declared.Sought.the-variants as Sought
@@ -25,7 +26,7 @@ use Rattle.tally.specs.declared.Tally.{Tally}
 use Rattle.tally.specs.declared.Refusal.the-variants.{None, Missing, Full}
 use Rattle.tally.specs.declared.Taken.{Taken}
 use Rattle.tally.specs.Tally.{Added, Good, emptyTally, isTally, plus, refusedAt, withFigures, addOf}
-use Rattle.tally.specs.Take.{takenWith, bordersAreas, afterAdded, afterAreas, borderTaken, rowTaken, frontTaken, takenAt, takenOf, isNone, thenTake, tallyRows, tallyOf}
+use Rattle.tally.specs.Take.{takenWith, bordersAreas, afterAdded, afterAreas, borderTaken, rowTaken, frontTaken, takenAt, takenOf, isNone, thenTake, tallyRows, talliedAfter, tallyOf}
 use Rattle.tally.specs.InTurn.{isBorderRow, unlessRefused, takenInTurn}
 use Rattle.tally.proofs.AddWays.{added-good}
 use Rattle.tally.proofs.Tallying.{none-good}
@@ -77,6 +78,45 @@ border-good h k t a g = by (bordersAreas t)
     by (Areas.Of o i) = added-good (a .figures) g (borderOf h t) o i
     by Areas.Wide = g
     by Areas.Missing = g
+
+rows-good : (h : Header) (n k : ℕ) (t : Tables) (a : Tally) → Good (a .figures) → Good (tallyRows h n k t a .tally .figures)
+unfolding tallyRows rowTaken
+rows-good h zero k t a g = g
+rows-good h (suc n) k t a g =
+    by (isBorder t) (borderTaken h k t a) (border-good h k t a g) (λ x. rows-good h n (k + 1) (restOf t) x)
+  where
+    then : (x : Taken) → Good (x .tally .figures) → ((y : Tally) → Good (y .figures) → Good (tallyRows h n (k + 1) (restOf t) y .tally .figures))
+        → Good (thenTake x (tallyRows h n (k + 1) (restOf t)) .tally .figures)
+    then x c f =
+        cond-elim (λ (y : Taken). Good (y .tally .figures)) (isNone (x .refusal)) (tallyRows h n (k + 1) (restOf t) (x .tally)) (takenWith emptyTally (x .refusal))
+        (λ _. f (x .tally) c) (λ _. none-good)
+
+    by : (b : Bool) (x : Taken) → Good (x .tally .figures) → ((y : Tally) → Good (y .figures) → Good (tallyRows h n (k + 1) (restOf t) y .tally .figures))
+        → Good (thenTake (cond b x (takenWith a None)) (tallyRows h n (k + 1) (restOf t)) .tally .figures)
+    by true x c f = then x c f
+    by false x c f = then (takenWith a None) g f
+
+-- the figures of any sheet's tally keep the limit
+pub tally-good : (h : Header) (count : ℕ) (t : Tables) → Good (tallyOf h count t .tally .figures)
+unfolding tallyOf
+tally-good h count t = by (judgeOf Loose h count t)
+  where
+    by : (v : Verdict) → Good (talliedAfter h count t v .tally .figures)
+    by Fine = rows-good h count 0 t emptyTally none-good
+    by BadHeader = none-good
+    by (Faulty k) = none-good
+    by (Unlisted k) = none-good
+
+-- and one that is not refused is of a sheet that was judged well
+pub tally-fine : (h : Header) (count : ℕ) (t : Tables) → tallyOf h count t .refusal ≡ None → judgeOf Loose h count t ≡ Fine
+unfolding tallyOf
+tally-fine h count t e = by (judgeOf Loose h count t) e
+  where
+    by : (v : Verdict) → talliedAfter h count t v .refusal ≡ None → v ≡ Fine
+    by Fine q = refl
+    by BadHeader q = absurd (let z : _≡_ {A = ℕ} 0 1 = cc in omega arith)
+    by (Faulty k) q = absurd (let z : _≡_ {A = ℕ} 0 1 = cc in omega arith)
+    by (Unlisted k) q = absurd (let z : _≡_ {A = ℕ} 0 1 = cc in omega arith)
 
 -- the tally of a sheet is all 0 where it is refused
 abbrev settled : Taken → Taken

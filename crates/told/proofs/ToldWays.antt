@@ -23,8 +23,6 @@ use Rattle.heading.specs.declared.Header.{Header}
 use Rattle.heading.specs.Heading.{noHeader}
 use Rattle.reader.specs.declared.Outcome.{Outcome}
 use Rattle.reader.specs.Read.{written}
-use Rattle.writer.specs.declared.Written.{Written}
-use Rattle.writer.specs.Write.{outputOf}
 use Rattle.tile.specs.declared.Tile.{Tile}
 use Rattle.tile.specs.Tiles.{tileOf, noOffset}
 use Rattle.classes.specs.declared.Class.{Class}
@@ -93,9 +91,10 @@ pub stored {ℓ κ} : {M : Type ℓ} {A : Type κ} (f : M → Outcome) (t : M �
     → m ≡ n → o ≡ f m → l′ ≡ written (o .answer) (t m) l → l′ ≡ written (f n .answer) (t n) l
 stored f t l e q p = p ∙ ap₂ (λ (a : Outcome). λ (xs : List _). written (a .answer) xs l) (asked f q e) (ap t e)
 
-pub put-out {ℓ} : {M : Type ℓ} (f : M → Written) (t : M → List ℕ) (l : List ℕ) {m n : M} {o : Written} {l′ : List ℕ}
-    → m ≡ n → o ≡ f m → l′ ≡ outputOf o (t m) l → l′ ≡ outputOf (f n) (t n) l
-put-out f t l e q p = p ∙ ap₂ (λ (a : Written). λ (xs : List ℕ). outputOf a xs l) (asked f q e) (ap t e)
+-- the output at exit, where g puts the text t into it by the answer
+pub put-out {ℓ κ} : {M : Type ℓ} {A : Type κ} (g : A → List ℕ → List ℕ → List ℕ) (f : M → A) (t : M → List ℕ) (l : List ℕ) {m n : M} {o : A} {l′ : List ℕ}
+    → m ≡ n → o ≡ f m → l′ ≡ g o (t m) l → l′ ≡ g (f n) (t n) l
+put-out g f t l e q p = p ∙ ap₂ (λ (a : _). λ (xs : List ℕ). g a xs l) (asked f q e) (ap t e)
 
 -- the listing s, its answer and the buffer l at exit
 pub listed : (s l : List ℕ) {l′ : List ℕ} {r v : Listed} → r ≡ listedOf s (length l) → l′ ≡ Listed.listedIn r s l → r ≡ v

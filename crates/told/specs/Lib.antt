@@ -1,5 +1,6 @@
--- To read beside `include/cxf.h`: what a caller in C asks, and the library's answers as its structs. (`noBorder` and `noRing` of `Answers` serve private contracts.)
+-- To read beside `include/cxf.h`: what a caller in C asks, and the library's answers as its structs. (`noBorder` and `noRing` of `Answers` and `supLaid` of `SupFiles` serve private contracts.)
 pub mod Asked
 pub mod Told
 pub mod Answers
 pub mod Tallies
+pub mod SupFiles

@@ -2,6 +2,7 @@
 // All of it is proved, and no public function has a `requires`. `number` is 0 where the question was answered, else the refusal; a
 // field that the answer does not name is 0.
 pub mod question;
+pub mod sup_files;
 pub mod tallies;
 
 ghost use mathlib.Core.Path.{_≡_};
