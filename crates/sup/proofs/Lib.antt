@@ -2,6 +2,7 @@
 pub mod SupLaws
 pub mod SourceLaws
 pub mod WroteLaws
+pub mod FormLaws
 mod RoundWays
 mod LineWays
 mod TotalWays

@@ -7,7 +7,7 @@ use mathlib.Core.Bool.{Bool, true, false, cond, not, _&&_}
 use native.Mathlib.Omega.{arith}
 use lib.ListN.{length}
 use lib.Dec.{eqb}
-use lib.IntN.{ℤ, pos, _+ℤ_, _-ℤ_, +ℤ-assoc, +ℤ-idr}
+use lib.IntN.{ℤ, pos, _+ℤ_, _-ℤ_, +ℤ-assoc, +ℤ-idl, +ℤ-idr}
 use Rattle.laws.proofs.Choice.{false≢true, and-left, and-right}
 use Rattle.laws.proofs.Parts.{sum, diff, eq-parts}
 use Rattle.record.specs.declared.Mode.the-variants.{Loose}
@@ -21,7 +21,6 @@ use Rattle.row.proofs.SeekLaws.{fine-rows}
 use Rattle.classes.specs.declared.Class.{Class}
 use Rattle.classes.specs.declared.Class.the-variants.{Confine, Other, Road, Water, Building, Parcel}
 use Rattle.classes.specs.Classes.{indexOf}
-use Rattle.border.specs.declared.Border.{Border}
 use Rattle.border.specs.Borders.{isBorder, borderOf}
 use Rattle.area.specs.declared.Areas.{Areas}
 use Rattle.area.specs.declared.Areas.the-variants.{Of, Wide, Missing}
@@ -122,7 +121,7 @@ module _ (h : Header) (g : List ℤ → ℤ) (v : ℤ → ℤ → ℤ) (r : Read
   one-more : (t : Tables) (b : Bool) (d : Stand) (s : List Stand) → sumAt value t (withIf b d s) ≡ cond b (value (leftAt t d)) (pos 0) +ℤ sumAt value t s
   unfolding sumAt
   one-more t true d s = refl
-  one-more t false d s = eq-parts (sumAt value t s) (pos 0 +ℤ sumAt value t s) (omega (arith, sum (pos 0) (sumAt value t s)))
+  one-more t false d s = sym (+ℤ-idl (sumAt value t s))
 
   module _ (count : ℕ) (t : Tables) (m : Small t) where
     rows-add : (n : ℕ) (d : Stand) (k : ℕ) → k + n ≡ count → Walk Loose t count d k → rowsFit h n (leftAt t d) ≡ true
@@ -156,9 +155,7 @@ module _ (h : Header) (g : List ℤ → ℤ) (v : ℤ → ℤ → ℤ) (r : Read
       ordered-add : sumAt value t (supInOrder h count t) ≡ g figures
       unfolding supInOrder sumAt
       ordered-add =
-          sort-sum value t (goesBefore t) [] (supBorders h count t)
-          ∙ eq-parts (pos 0 +ℤ sumAt value t (supBorders h count t)) (sumAt value t (supBorders h count t)) (omega (arith, sum (pos 0) (sumAt value t (supBorders h count t))))
-          ∙ listed-add
+          sort-sum value t (goesBefore t) [] (supBorders h count t) ∙ +ℤ-idl (sumAt value t (supBorders h count t)) ∙ listed-add
 
 -- ---- the two readings: the borders of a class, and its net
 
@@ -171,43 +168,26 @@ counts outer inner = pos 1
 abbrev nets : ℤ → ℤ → ℤ
 nets outer inner = outer -ℤ inner
 
-none-counted : (b : Bool) → bordersIn noFigures (cond b Other Parcel) ≡ pos 0
-none-counted true = refl
-none-counted false = refl
+none-read : (b : Bool) → (bordersIn noFigures (cond b Other Parcel) ≡ pos 0) × (netIn noFigures (cond b Other Parcel) ≡ pos 0)
+none-read true = (refl, refl)
+none-read false = (refl, refl)
 
-none-net : (b : Bool) → netIn noFigures (cond b Other Parcel) ≡ pos 0
-none-net true = refl
-none-net false = refl
-
-own-counted : (b : Bool) (c : Class) (o n i : ℤ) → bordersIn (figuresOf (indexOf c) o n i) (cond b Other Parcel) ≡ cond (isOf b c) (pos 1) (pos 0)
+own-read : (b : Bool) (c : Class) (o n i : ℤ)
+    → (bordersIn (figuresOf (indexOf c) o n i) (cond b Other Parcel) ≡ cond (isOf b c) (pos 1) (pos 0))
+    × (netIn (figuresOf (indexOf c) o n i) (cond b Other Parcel) ≡ cond (isOf b c) (o -ℤ i) (pos 0))
 unfolding figuresOf
-own-counted true Confine o n i = refl
-own-counted true Other o n i = refl
-own-counted true Road o n i = refl
-own-counted true Water o n i = refl
-own-counted true Building o n i = refl
-own-counted true Parcel o n i = refl
-own-counted false Confine o n i = refl
-own-counted false Other o n i = refl
-own-counted false Road o n i = refl
-own-counted false Water o n i = refl
-own-counted false Building o n i = refl
-own-counted false Parcel o n i = refl
-
-own-net : (b : Bool) (c : Class) (o n i : ℤ) → netIn (figuresOf (indexOf c) o n i) (cond b Other Parcel) ≡ cond (isOf b c) (o -ℤ i) (pos 0)
-unfolding figuresOf
-own-net true Confine o n i = refl
-own-net true Other o n i = refl
-own-net true Road o n i = refl
-own-net true Water o n i = refl
-own-net true Building o n i = refl
-own-net true Parcel o n i = refl
-own-net false Confine o n i = refl
-own-net false Other o n i = refl
-own-net false Road o n i = refl
-own-net false Water o n i = refl
-own-net false Building o n i = refl
-own-net false Parcel o n i = refl
+own-read true Confine o n i = (refl, refl)
+own-read true Other o n i = (refl, refl)
+own-read true Road o n i = (refl, refl)
+own-read true Water o n i = (refl, refl)
+own-read true Building o n i = (refl, refl)
+own-read true Parcel o n i = (refl, refl)
+own-read false Confine o n i = (refl, refl)
+own-read false Other o n i = (refl, refl)
+own-read false Road o n i = (refl, refl)
+own-read false Water o n i = (refl, refl)
+own-read false Building o n i = (refl, refl)
+own-read false Parcel o n i = (refl, refl)
 
 less-apart : (a b x y : ℤ) → (a +ℤ b) -ℤ (x +ℤ y) ≡ (a -ℤ x) +ℤ (b -ℤ y)
 less-apart a b x y =
@@ -217,18 +197,18 @@ less-apart a b x y =
 reads-borders : (kind : ℕ) → Reads kind (λ (f : List ℤ). bordersIn f (listedClass kind)) counts
 reads-borders kind =
     record {
-      none = none-counted (eqb kind 3);
+      none = none-read (eqb kind 3) .0;
       add = λ a b l. plus-at a b (4 * indexOf (listedClass kind)) l;
-      own = λ c o n i. own-counted (eqb kind 3) c o n i;
+      own = λ c o n i. own-read (eqb kind 3) c o n i .0;
     }
 
 reads-net : (kind : ℕ) → Reads kind (λ (f : List ℤ). netIn f (listedClass kind)) nets
 reads-net kind =
     record {
-      none = none-net (eqb kind 3);
+      none = none-read (eqb kind 3) .1;
       add = λ a b l. let c = listedClass kind in
           rw (plus-at a b (4 * indexOf c + 1) l, plus-at a b (4 * indexOf c + 3) l) (less-apart (outerIn a c) (outerIn b c) (innerIn a c) (innerIn b c));
-      own = λ c o n i. own-net (eqb kind 3) c o n i;
+      own = λ c o n i. own-read (eqb kind 3) c o n i .1;
     }
 
 net-left : Values netLeft nets

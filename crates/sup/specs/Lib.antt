@@ -7,6 +7,7 @@ pub mod Answer
 pub mod ListedSums
 pub mod Examples
 pub mod AnswerExamples
+pub mod SheetExamples
 -- For private contracts alone:
 pub mod Printing
 pub mod Totals
