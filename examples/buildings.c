@@ -59,8 +59,8 @@ int main(int argc, char **argv)
     int64_t *points = table(points_len, sizeof *points);
     cxf_reading r = cxf_read(src, len, CXF_LOOSE, rows, rows_len, letters, letters_len, islands, islands_len, points, points_len);
     if (r.number != 0) {
-        fprintf(stderr, "refused %" PRIu64 ", record %" PRIu64 ", byte %" PRIu64 ": %s\n", r.number, r.record, r.offset,
-                cxf_refusal_text(r.number));
+        fprintf(stderr, "refused %" PRIu64 ", record %" PRIu64 ", byte %" PRIu64 ", column %" PRIu64 ": %s\n", r.number, r.record,
+                r.offset, r.column, cxf_refusal_text(r.number));
         return 1;
     }
 

@@ -26,7 +26,7 @@ extern "C" {
 /* It rises whenever a struct, a width or a meaning changes. A program that was compiled with one number, or a binding that was
    written for one, is to refuse a library that answers another, rather than read rows wrongly:
        if (cxf_interface() != CXF_INTERFACE) .. */
-#define CXF_INTERFACE 1
+#define CXF_INTERFACE 2
 
 uint64_t cxf_interface(void);
 
@@ -153,6 +153,7 @@ enum {
 typedef struct {
     uint64_t number;
     uint64_t record, offset;                 /* the refused record, from 1, and its first byte; 0 and 0 with 1 and 14 */
+    uint64_t column;                         /* with 8: the column of the malformed number in that record; else 0 */
     uint64_t rows, letters, islands, points; /* used where number is 0, needed where it is 14 */
     uint64_t kind;                           /* the header, where number is 0: CXF_MAPPA to CXF_QUADRO_UNIONE; */
     int64_t scale;                           /* the scale in thousandths; */
@@ -388,10 +389,13 @@ cxf_record cxf_record_at(const uint8_t *src, size_t src_len, uint64_t at, uint64
 
 typedef struct {
     uint64_t number;
-    int64_t value; /* a real in thousandths */
+    uint64_t column; /* with 8, else 0 */
+    int64_t value;   /* a real in thousandths */
 } cxf_number;
 
-/* The content of a record as an integer, 0 to 9999, or as a real; 8 where it is malformed. */
+/* The content of a record as an integer, 0 to 9999, or as a real; 8 where it is malformed. The column, from 1, is that of the first
+   byte that no accepted number of that form and mode has there after the same beginning, or one past the end if the content only
+   stops early. */
 cxf_number cxf_integer(const uint8_t *content, size_t content_len, uint64_t mode);
 cxf_number cxf_real(const uint8_t *content, size_t content_len, uint64_t mode);
 
@@ -403,8 +407,8 @@ typedef struct {
 } cxf_listed;
 
 /* What the listing program writes for this input: the header, six lines of figures, the number of rows. A text that says
-   REFUSED is an answer as well: number is 0 whenever the text stands in out. No text is longer than CXF_LISTING_MOST. The tables
-   are on the stack: some 170,000 bytes. */
+   REFUSED, with the refusal's number, its record (or the tally's row), offset and column, is an answer as well: number is 0 whenever
+   the text stands in out. No text is longer than CXF_LISTING_MOST. The tables are on the stack: some 170,000 bytes. */
 cxf_listed cxf_listing(const uint8_t *src, size_t src_len, uint8_t *out, size_t out_len);
 
 #ifdef __cplusplus

@@ -4,7 +4,7 @@
 ghost use mathlib.Core.Path.{_≡_};
 ghost use lib.ListN.{length};
 ghost use Rattle.record.specs.Record.{recordAt};
-ghost use Rattle.number.specs.Number.{integerOf, realOf};
+ghost use Rattle.column.specs.Columns.{integerPlaced, realPlaced};
 ghost use Rattle.sheet.specs.Reading.{reading};
 ghost use Rattle.reader.specs.Read.{roomsOf, readOf, tablesIn, written};
 ghost use Rattle.made.specs.Made.{tablesOf};
@@ -30,13 +30,13 @@ use area::net_area;
 use area::ring_area;
 use border::border_at;
 use border::text_at;
+use column::PlacedInteger;
+use column::PlacedReal;
+use column::placed_integer;
+use column::placed_real;
 use listing::Listed;
 use listing::list_text;
 use mask::mask_of;
-use number::Decimal;
-use number::Whole;
-use number::integer;
-use number::real;
 use reader::read_as;
 use record::Found;
 use record::record_at;
@@ -82,7 +82,7 @@ use writer::write;
 pub extern "C" fn cxf_interface() -> usize
     ensures { λ r. ⌜ r ≡ interfaceNumber ⌝ }
 {
-    1
+    2
 }
 
 // Reads a sheet into the tables that are lent.
@@ -146,15 +146,17 @@ pub extern "C" fn cxf_record_at(src: &[u8], at: usize, mode: usize, due: usize) 
 
 #[no_mangle]
 pub extern "C" fn cxf_integer(content: &[u8], mode: usize) -> CxfNumber
-    ensures { λ r. ⌜ r ≡ integerTold (integerOf (modeOf mode) (now (content .entry))) ⌝ }
+    ensures { λ r. ⌜ r ≡ integerTold (integerPlaced (modeOf mode) (now (content .entry))) ⌝ }
 {
-    match integer(content, mode_of(mode)) {
-        Whole::Is(n) => CxfNumber {
+    match placed_integer(content, mode_of(mode)) {
+        PlacedInteger::Is(n) => CxfNumber {
             number: 0,
+            column: 0,
             value: n as i64,
         },
-        Whole::Malformed => CxfNumber {
+        PlacedInteger::Malformed(column) => CxfNumber {
             number: NUMBER,
+            column,
             value: 0,
         },
     }
@@ -162,15 +164,17 @@ pub extern "C" fn cxf_integer(content: &[u8], mode: usize) -> CxfNumber
 
 #[no_mangle]
 pub extern "C" fn cxf_real(content: &[u8], mode: usize) -> CxfNumber
-    ensures { λ r. ⌜ r ≡ realTold (realOf (modeOf mode) (now (content .entry))) ⌝ }
+    ensures { λ r. ⌜ r ≡ realTold (realPlaced (modeOf mode) (now (content .entry))) ⌝ }
 {
-    match real(content, mode_of(mode)) {
-        Decimal::Is(z) => CxfNumber {
+    match placed_real(content, mode_of(mode)) {
+        PlacedReal::Is(z) => CxfNumber {
             number: 0,
+            column: 0,
             value: z,
         },
-        Decimal::Malformed => CxfNumber {
+        PlacedReal::Malformed(column) => CxfNumber {
             number: NUMBER,
+            column,
             value: 0,
         },
     }

@@ -198,9 +198,9 @@ listing-wide bs h o l q =
     only (Refusal.Full k) f g z = absurd g
     only (Refusal.Wide k) f g z = refl
 
--- and that is what it prints: the row, and 0
+-- and that is what it prints: the row, 0 and 0
 pub listing-refused : (bs : List ℕ) (h : Header) (o : Tables) → length bs ≤ inputMost → reading Loose bs ≡ sheet h o
-    → (numberOf (tallyOf h (length (o .rows) / 12) o .refusal) ≡ 0 → ⊥) → listingOf bs ≡ refusedLine tooWide (rowOf (tallyOf h (length (o .rows) / 12) o .refusal)) 0
+    → (numberOf (tallyOf h (length (o .rows) / 12) o .refusal) ≡ 0 → ⊥) → listingOf bs ≡ refusedLine tooWide (rowOf (tallyOf h (length (o .rows) / 12) o .refusal)) 0 0
 unfolding listingOf sheetListing talliedText
 listing-refused bs h o l q z =
     rw (le-leb (length bs) inputMost l, q, ne-eqb (numberOf (tallyOf h (length (o .rows) / 12) o .refusal)) 0 z, listing-wide bs h o l q z)

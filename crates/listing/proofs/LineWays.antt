@@ -85,10 +85,10 @@ line-put word e {l} {d} {at} {r} p = subst (λ (x : List ℕ). Put l at (wordLin
 
 -- ---- the line of a refusal
 
-pub refused-room : (number place offset size : ℕ) → length (refusedLine number place offset) ≤ size
-    → 0 + length (wordLine (text "REFUSED") (number ∷ place ∷ offset ∷ [])) ≤ size
+pub refused-room : (number place offset column size : ℕ) → length (refusedLine number place offset column) ≤ size
+    → 0 + length (wordLine (text "REFUSED") (number ∷ place ∷ offset ∷ column ∷ [])) ≤ size
 unfolding refusedLine
-refused-room number place offset size h = omega (arith, h)
+refused-room number place offset column size h = omega (arith, h)
 
 -- ---- the line of a map
 

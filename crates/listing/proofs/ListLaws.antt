@@ -24,6 +24,7 @@ use Rattle.sheet.proofs.Meaning.{reading-meaning}
 use Rattle.made.specs.Made.{natOf}
 use Rattle.layout.proofs.ReadMade.{reading-made}
 use Rattle.tally.specs.Take.{tallyOf, numberOf, rowOf}
+use Rattle.reader.specs.Columns.{readingColumn}
 use Rattle.listing.specs.Listing.{oneBlank, figure, figures, wordLine, mapLine, classWords, fourOf, classLines, rowsLine, refusedLine, sheetLines, talliedText, sheetListing, readText, inputMost, listingOf}
 use Rattle.listing.specs.Listed.{listedOf, listedIn, textMost}
 use Rattle.listing.specs.declared.Listed.{Listed}
@@ -47,9 +48,9 @@ line-most : (w s : List ℕ) → length (wordLine w s) ≤ length w + 21 * lengt
 unfolding wordLine
 line-most w s = omega (arith, figures-most s, length-append w (figures s))
 
-pub refused-most : (number place offset : ℕ) → length (refusedLine number place offset) ≤ textMost
+pub refused-most : (number place offset column : ℕ) → length (refusedLine number place offset column) ≤ textMost
 unfolding refusedLine
-refused-most number place offset = omega (arith, line-most (text "REFUSED") (number ∷ place ∷ offset ∷ []))
+refused-most number place offset column = omega (arith, line-most (text "REFUSED") (number ∷ place ∷ offset ∷ column ∷ []))
 
 rows-most : (n : ℕ) → length (rowsLine n) ≤ 26
 unfolding rowsLine
@@ -119,9 +120,9 @@ pub sheet-most : (h : Header) (count : ℕ) (o : Tables) → length (h .name) �
 unfolding sheetListing talliedText
 sheet-most h count o e =
     let t = tallyOf h count o in
-    cond-elim (λ (s : List ℕ). length s ≤ textMost) (eqb (numberOf (t .refusal)) 0) (sheetLines h count (t .tally .figures)) (refusedLine (numberOf (t .refusal)) (rowOf (t .refusal)) 0)
+    cond-elim (λ (s : List ℕ). length s ≤ textMost) (eqb (numberOf (t .refusal)) 0) (sheetLines h count (t .tally .figures)) (refusedLine (numberOf (t .refusal)) (rowOf (t .refusal)) 0 0)
     (λ _. lines-most h count (t .tally .figures) e)
-    (λ _. refused-most (numberOf (t .refusal)) (rowOf (t .refusal)) 0)
+    (λ _. refused-most (numberOf (t .refusal)) (rowOf (t .refusal)) 0 0)
 
 -- a header that was read has a name of 11 bytes
 pub name-long : (bs : List ℕ) (h : Header) (o : Tables) → reading Loose bs ≡ sheet h o → length (h .name) ≡ 11
@@ -136,18 +137,18 @@ name-long bs h o q =
     (and-left (eqb (length (h .name)) 11) (allAt nameByte 0 (h .name))
     (and-left (eqb (length (h .name)) 11 && allAt nameByte 0 (h .name)) (not (eqb (h .kind) 3) || same (drop 9 (h .name)) (text "QU")) named))
 
-pub read-most : (bs : List ℕ) → length (readText (reading Loose bs)) ≤ textMost
+pub read-most : (bs : List ℕ) → length (readText (readingColumn Loose bs) (reading Loose bs)) ≤ textMost
 read-most bs = by (reading Loose bs) refl
   where
-    by : (x : Reading) → reading Loose bs ≡ x → length (readText x) ≤ textMost
+    by : (x : Reading) → reading Loose bs ≡ x → length (readText (readingColumn Loose bs) x) ≤ textMost
     by (sheet h o) q = sheet-most h (length (o .rows) / 12) o (name-long bs h o q)
-    by (refused m k at) q = refused-most m k at
+    by (refused m k at) q = refused-most m k at (readingColumn Loose bs)
 
 -- **no listing is longer than 640 bytes**
 pub listing-most : (bs : List ℕ) → length (listingOf bs) ≤ textMost
 unfolding listingOf
 listing-most bs =
-    cond-elim (λ (s : List ℕ). length s ≤ textMost) (leb (length bs) inputMost) (readText (reading Loose bs)) (refusedLine 1 0 0) (λ _. read-most bs) (λ _. refused-most 1 0 0)
+    cond-elim (λ (s : List ℕ). length s ≤ textMost) (leb (length bs) inputMost) (readText (readingColumn Loose bs) (reading Loose bs)) (refusedLine 1 0 0 0) (λ _. read-most bs) (λ _. refused-most 1 0 0 0)
 
 -- what is written lies in the buffer
 pub wrote-within : (s l d : List ℕ) (x : Listed) → x ≡ listedOf s (length l) → d ≡ listedIn x s l → (n : ℕ) → x ≡ Wrote n → n ≤ length d

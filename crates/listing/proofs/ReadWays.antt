@@ -17,7 +17,8 @@ use Rattle.reader.specs.declared.Needs.{Needs}
 use Rattle.reader.specs.declared.Answer.{Answer}
 use Rattle.reader.specs.declared.Answer.the-variants as Answer
 use Rattle.reader.specs.declared.Outcome.{Outcome}
-use Rattle.reader.specs.Read.{needsOf, Rooms, roomsOf, holdsAll, refusedWith, answered, readOf, tablesIn, written}
+use Rattle.reader.specs.Columns.{readingColumn}
+use Rattle.reader.specs.Read.{needsOf, Rooms, roomsOf, holdsAll, readWith, refusedWith, answered, readOf, tablesIn, written}
 use Rattle.reader.proofs.Bytes.{tables-whole}
 use Rattle.reader.proofs.NeedLaws.{Enough, enough-holds}
 use Rattle.made.specs.Made.{tablesOf}
@@ -40,11 +41,11 @@ pub room-same : {s t : List ℕ} → s ≡ t → (n : ℕ) → length t ≤ n �
 room-same e n h = subst (λ (x : List ℕ). length x ≤ n) (sym e) h
 
 -- the array that holds the text holds any refusal, and any sheet's text
-pub read-fits-in : (bs : List ℕ) (n : ℕ) → textMost ≤ n → length (readText (reading Loose bs)) ≤ n
+pub read-fits-in : (bs : List ℕ) (n : ℕ) → textMost ≤ n → length (readText (readingColumn Loose bs) (reading Loose bs)) ≤ n
 read-fits-in bs n h = omega (arith, read-most bs, h)
 
-pub refused-fits : (number place offset n : ℕ) → textMost ≤ n → length (refusedLine number place offset) ≤ n
-refused-fits number place offset n h = omega (arith, refused-most number place offset, h)
+pub refused-fits : (number place offset column n : ℕ) → textMost ≤ n → length (refusedLine number place offset column) ≤ n
+refused-fits number place offset column n h = omega (arith, refused-most number place offset column, h)
 
 -- ---- after the tally: `m` is the number of its refusal, `k` the row that it names
 
@@ -53,7 +54,7 @@ module _ (h : Header) (count : ℕ) (o : Tables) (t : Taken) (e : t ≡ tallyOf 
   unfolding sheetListing talliedText
   tallied-lines z = rw (← e, ← q, eq-eqb m 0 z)
 
-  pub tallied-refused : (m ≡ 0 → ⊥) → (k : ℕ) → k ≡ rowOf (t .refusal) → refusedLine m k 0 ≡ sheetListing h count o
+  pub tallied-refused : (m ≡ 0 → ⊥) → (k : ℕ) → k ≡ rowOf (t .refusal) → refusedLine m k 0 0 ≡ sheetListing h count o
   unfolding sheetListing talliedText
   tallied-refused n k r = rw (← e, ← q, ← r, ne-eqb m 0 n)
 
@@ -86,32 +87,35 @@ enough-tables =
 
 -- ---- after the reading, into tables that hold any input
 
-abbrev Told : List ℕ → Header → Answer → Type 0
-Told bs h (Answer.Read a) = (o : Tables) × (reading Loose bs ≡ sheet h o) × (a ≡ needsOf o)
-Told bs h (Answer.NoRoom a) = ⊥
-Told bs h (Answer.Refused m k at) = reading Loose bs ≡ refused m k at
+abbrev Told : List ℕ → Header → ℕ → Answer → Type 0
+Told bs h column (Answer.Read a) = (o : Tables) × (reading Loose bs ≡ sheet h o) × (a ≡ needsOf o)
+Told bs h column (Answer.NoRoom a) = ⊥
+Told bs h column (Answer.Refused m k at) = (reading Loose bs ≡ refused m k at) × (column ≡ readingColumn Loose bs)
 
 module _ (bs : List ℕ) (r : Rooms) (short : length bs ≤ inputMost) (enough : Enough inputMost r) where
-  told : Told bs (readOf Loose bs r .header) (readOf Loose bs r .answer)
+  told : Told bs (readOf Loose bs r .header) (readOf Loose bs r .column) (readOf Loose bs r .answer)
   unfolding readOf
   told = by (reading Loose bs) refl
     where
       room : (h : Header) (o : Tables) → reading Loose bs ≡ sheet h o → (b : Bool) → b ≡ true
-          → Told bs (cond b (record { answer = Answer.Read (needsOf o); header = h }) (refusedWith (Answer.NoRoom (needsOf o))) .header)
-          (cond b (record { answer = Answer.Read (needsOf o); header = h }) (refusedWith (Answer.NoRoom (needsOf o))) .answer)
+          → Told bs (cond b (readWith (needsOf o) h) (refusedWith (Answer.NoRoom (needsOf o))) .header) (cond b (readWith (needsOf o) h) (refusedWith (Answer.NoRoom (needsOf o))) .column)
+          (cond b (readWith (needsOf o) h) (refusedWith (Answer.NoRoom (needsOf o))) .answer)
       room h o e true f = (o, e, refl)
       room h o e false f = absurd (let z : _≡_ {A = ℕ} 0 1 = cc in omega arith)
 
-      by : (x : Reading) → reading Loose bs ≡ x → Told bs (answered x r .header) (answered x r .answer)
+      by : (x : Reading) → reading Loose bs ≡ x
+          → Told bs (answered (readingColumn Loose bs) x r .header) (answered (readingColumn Loose bs) x r .column) (answered (readingColumn Loose bs) x r .answer)
       by (sheet h o) e = room h o e (holdsAll (needsOf o) r) (enough-holds Loose bs h o r inputMost e short enough)
-      by (refused m k at) e = e
+      by (refused m k at) e = (e, refl)
 
   module _ (x : Outcome) (e : x ≡ readOf Loose bs r) where
-    told-by : (a : Answer) → x .answer ≡ a → Told bs (x .header) a
-    told-by a q = subst (Told bs (x .header)) q (subst (λ (y : Outcome). Told bs (y .header) (y .answer)) (sym e) told)
+    told-by : (a : Answer) → x .answer ≡ a → Told bs (x .header) (x .column) a
+    told-by a q = subst (Told bs (x .header) (x .column)) q (subst (λ (y : Outcome). Told bs (y .header) (y .column) (y .answer)) (sym e) told)
 
-    pub read-refused : (m k at : ℕ) → x .answer ≡ Answer.Refused m k at → refusedLine m k at ≡ readText (reading Loose bs)
-    read-refused m k at q = sym (ap readText (told-by (Answer.Refused m k at) q))
+    pub read-refused : (m k at : ℕ) → x .answer ≡ Answer.Refused m k at → refusedLine m k at (x .column) ≡ readText (readingColumn Loose bs) (reading Loose bs)
+    read-refused m k at q =
+        let t = told-by (Answer.Refused m k at) q in
+        ap (refusedLine m k at) (t .1) ∙ sym (ap (readText (readingColumn Loose bs)) (t .0))
 
     pub read-short : (a : Needs) → x .answer ≡ Answer.NoRoom a → ⊥
     read-short a q = told-by (Answer.NoRoom a) q
@@ -174,17 +178,17 @@ module _ (bs : List ℕ) (r : Rooms) (short : length bs ≤ inputMost) (enough :
             part-is (o .points) points₀ points points-are (2 * a .points) whole-points,
           )
 
-      pub read-sheet : sheetListing (x .header) (a .rows) (usedPart a (tablesOf rows letters islands points)) ≡ readText (reading Loose bs)
+      pub read-sheet : sheetListing (x .header) (a .rows) (usedPart a (tablesOf rows letters islands points)) ≡ readText (readingColumn Loose bs) (reading Loose bs)
       read-sheet =
-          ap (sheetListing (x .header) (a .rows)) used-whole ∙ ap (λ (y : Needs). sheetListing (x .header) (y .rows) o) counts ∙ sym (ap readText sound)
+          ap (sheetListing (x .header) (a .rows)) used-whole ∙ ap (λ (y : Needs). sheetListing (x .header) (y .rows) o) counts ∙ sym (ap (readText (readingColumn Loose bs)) sound)
 
 -- ---- the whole text
 
-pub listing-long : (bs : List ℕ) → inputMost < length bs → refusedLine 1 0 0 ≡ listingOf bs
+pub listing-long : (bs : List ℕ) → inputMost < length bs → refusedLine 1 0 0 0 ≡ listingOf bs
 unfolding listingOf
 listing-long bs h = rw (lt-leb (length bs) inputMost h)
 
-pub listing-short : (bs : List ℕ) → length bs ≤ inputMost → readText (reading Loose bs) ≡ listingOf bs
+pub listing-short : (bs : List ℕ) → length bs ≤ inputMost → readText (readingColumn Loose bs) (reading Loose bs) ≡ listingOf bs
 unfolding listingOf
 listing-short bs h = rw (le-leb (length bs) inputMost h)
 

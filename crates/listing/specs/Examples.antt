@@ -7,6 +7,7 @@ use lib.IntN.{ℤ, pos}
 use Rattle.laws.specs.Text.{text}
 use Rattle.spelling.specs.Spelling.{digits, countText}
 use Rattle.sheet.specs.Examples.{computed as computedReading}
+use Rattle.reader.specs.ExitExamples.{computedColumn}
 use Rattle.tally.specs.Examples.{computed as computedTally}
 use Rattle.heading.specs.declared.Header.{Header}
 use Rattle.listing.specs.Listing.{lineFeed, figures, wordLine, mapLine, classWords, fourOf, classLines, rowsLine, refusedLine, sheetLines, talliedText, sheetListing, listingOf}
@@ -18,7 +19,7 @@ computedLines h count f = sheetLines h count f
 
 -- `listingOf` with every definition opened, so that it computes
 unfoldable pub computed : List ℕ → List ℕ
-unfolding listingOf sheetListing talliedText computedLines computedReading computedTally
+unfolding listingOf sheetListing talliedText computedLines computedReading computedColumn computedTally
 computed bs = listingOf bs
 
 header : Header
@@ -41,7 +42,7 @@ unfolding computed header tally
 the-sheet = refl
 
 -- more than 8,192 bytes
-too-long : refusedLine 1 0 0 ≡ text "REFUSED 1 0 0" ++ lineFeed
+too-long : refusedLine 1 0 0 0 ≡ text "REFUSED 1 0 0 0" ++ lineFeed
 unfolding computed
 too-long = refl
 
@@ -50,13 +51,14 @@ four-figures : classLines 4 (text "BUILDING" ∷ []) (replicate 16 (pos 0) ++ po
 unfolding computed
 four-figures = refl
 
--- a refusal's number, place and offset in their order
-refusal : (refusedLine 12 32 176 ≡ text "REFUSED 12 32 176\n") × (listingOf (text "MAPPA\nZ999_000100\n1000.000\n") ≡ text "REFUSED 2 4 27\n")
+-- a refusal's number, place, offset and column in their order; 8 alone has a column
+refusal : (refusedLine 8 32 176 5 ≡ text "REFUSED 8 32 176 5\n") × (listingOf (text "MAPPA\nZ999_000100\n1000.000\n") ≡ text "REFUSED 2 4 27 0\n")
+    × (listingOf (text "MAPPA\nZ999_000100\n1000.0000\n") ≡ text "REFUSED 8 3 18 9\n")
 unfolding computed
-refusal = (refl, refl)
+refusal = (refl, refl, refl)
 
 -- 8,192 bytes are read, one more is not
-input-most : (listingOf (replicate 8192 65) ≡ text "REFUSED 2 1 0\n") × (listingOf (replicate 8193 65) ≡ text "REFUSED 1 0 0\n")
+input-most : (listingOf (replicate 8192 65) ≡ text "REFUSED 2 1 0 0\n") × (listingOf (replicate 8193 65) ≡ text "REFUSED 1 0 0 0\n")
 unfolding computed
 input-most = (refl, refl)
 
@@ -68,12 +70,12 @@ eleven-letters : (listingOf (text "MAPPA\nZ999_000100\n1000.000\nBORDO\n12345678
 unfolding computed
 eleven-letters = (refl, refl)
 
--- an empty sheet; a ring that is too wide gives its row and 0
+-- an empty sheet; a ring that is too wide gives its row, 0 and 0
 no-rows : listingOf (text "MAPPA\nZ999_000100\n1000.000\nEOF") ≡ text "MAP 1 Z999_000100 1000000\nCONFINE 0 0 0 0\nOTHER 0 0 0 0\nROAD 0 0 0 0\nWATER 0 0 0 0\nBUILDING 0 0 0 0\nPARCEL 0 0 0 0\nROWS 0\n"
 unfolding computed
 no-rows = refl
 
 wide-row : listingOf (text "MAPPA\nZ999_000100\n1000.000\nSIMBOLO\n5\n0.000\n0.000\n0.000\nBORDO\n7\n18\n0.000\n1.000\n1.000\n1.000\n1.000\n0\n4\n0.000\n0.000\n20000.001\n0.000\n0.000\n9.000\n0.000\n0.000\nEOF")
-    ≡ text "REFUSED 17 1 0\n"
+    ≡ text "REFUSED 17 1 0 0\n"
 unfolding computed
 wide-row = refl

@@ -14,6 +14,7 @@ use Rattle.heading.specs.declared.Header.{Header}
 use Rattle.kinds.specs.Kinds.{rowWidth}
 use Rattle.sheet.specs.Tables.{Tables}
 use Rattle.sheet.specs.Reading.{Reading, sheet, refused, reading}
+use Rattle.reader.specs.Columns.{readingColumn}
 use Rattle.made.specs.Made.{natOf}
 use Rattle.tally.specs.declared.Taken.{Taken}
 use Rattle.tally.specs.Take.{tallyOf, numberOf, rowOf}
@@ -62,9 +63,9 @@ classLines k (w ∷ ws) f = wordLine w (fourOf f k) ++ classLines (k + 1) ws f
 unfoldable pub rowsLine : ℕ → List ℕ
 rowsLine n = wordLine (text "ROWS") (n ∷ [])
 
--- "A refusal prints only `REFUSED`, number, place, offset"
-unfoldable pub refusedLine : ℕ → ℕ → ℕ → List ℕ
-refusedLine number place offset = wordLine (text "REFUSED") (number ∷ place ∷ offset ∷ [])
+-- "A refusal prints only `REFUSED`, number, place, offset", and the column "as a fourth number on each refusal line" (document 02, T-04)
+unfoldable pub refusedLine : ℕ → ℕ → ℕ → ℕ → List ℕ
+refusedLine number place offset column = wordLine (text "REFUSED") (number ∷ place ∷ offset ∷ column ∷ [])
 
 -- ---- the text
 
@@ -74,18 +75,18 @@ sheetLines h count f = mapLine h ++ (classLines 0 classWords f ++ rowsLine count
 -- "17 and 18 give the row and 0"
 unfoldable pub talliedText : Header → ℕ → Taken → List ℕ
 talliedText h count t =
-    cond (eqb (numberOf (t .refusal)) 0) (sheetLines h count (t .tally .figures)) (refusedLine (numberOf (t .refusal)) (rowOf (t .refusal)) 0)
+    cond (eqb (numberOf (t .refusal)) 0) (sheetLines h count (t .tally .figures)) (refusedLine (numberOf (t .refusal)) (rowOf (t .refusal)) 0 0)
 
 unfoldable pub sheetListing : Header → ℕ → Tables → List ℕ
 sheetListing h count o = talliedText h count (tallyOf h count o)
 
-abbrev pub readText : Reading → List ℕ
-readText (sheet h o) = sheetListing h (length (o .rows) / rowWidth) o
-readText (refused number place offset) = refusedLine number place offset
+abbrev pub readText : ℕ → Reading → List ℕ
+readText column (sheet h o) = sheetListing h (length (o .rows) / rowWidth) o
+readText column (refused number place offset) = refusedLine number place offset column
 
--- "at most 8,192 bytes .. loose mode"; "more input gives `REFUSED 1 0 0`"
+-- "at most 8,192 bytes .. loose mode"; "more input gives `REFUSED 1 0 0`", and the column 0
 abbrev pub inputMost : ℕ
 inputMost = 8192
 
 unfoldable pub listingOf : List ℕ → List ℕ
-listingOf bs = cond (leb (length bs) inputMost) (readText (reading Loose bs)) (refusedLine tooLong 0 0)
+listingOf bs = cond (leb (length bs) inputMost) (readText (readingColumn Loose bs) (reading Loose bs)) (refusedLine tooLong 0 0 0)

@@ -9,6 +9,7 @@ ghost use Rattle.sheet.specs.Reading.{reading};
 ghost use Rattle.made.specs.Made.{tablesOf, natOf};
 ghost use Rattle.writer.specs.Put.{Put};
 ghost use Rattle.listing.specs.Listing.{inputMost, figure, figures, wordLine, mapLine, classWords, fourOf, classLines, refusedLine, sheetLines, sheetListing, readText, listingOf};
+ghost use Rattle.reader.specs.Columns.{readingColumn};
 ghost use Rattle.reader.specs.Exit.{usedPart};
 ghost use Rattle.listing.specs.Listed.{listedOf, listedIn, textMost, UsedFits};
 use heading::Header;
@@ -79,12 +80,12 @@ fn put_line(out: &mut [u8], at: usize, word: &[u8], s: &[usize]) -> usize
     put_figures(out, next, s)
 }
 
-// `REFUSED`, number, place, offset.
-fn put_refused(out: &mut [u8], number: usize, place: usize, offset: usize) -> usize
-    requires { ⌜ length (refusedLine number place offset) ≤ length (now out) ⌝ }
-    ensures { λ r. ⌜ Put (now (out .entry)) 0 (refusedLine number place offset) (now (out .exit)) r ⌝ }
+// `REFUSED`, number, place, offset, column.
+fn put_refused(out: &mut [u8], number: usize, place: usize, offset: usize, column: usize) -> usize
+    requires { ⌜ length (refusedLine number place offset column) ≤ length (now out) ⌝ }
+    ensures { λ r. ⌜ Put (now (out .entry)) 0 (refusedLine number place offset column) (now (out .exit)) r ⌝ }
 {
-    let s = [number, place, offset];
+    let s = [number, place, offset, column];
     put_line(out, 0, b"REFUSED", &s)
 }
 
@@ -171,7 +172,7 @@ fn put_tallied(
         let figures = tally.figures;
         return put_sheet(out, header, count, &figures);
     }
-    put_refused(out, number, fault.row, 0)
+    put_refused(out, number, fault.row, 0, 0)
 }
 
 // The same for tables of which only a part is used.
@@ -208,7 +209,7 @@ fn put_used(
 // What an input of at most 8,192 bytes reads as.
 fn put_reading(src: &[u8], out: &mut [u8]) -> usize
     requires { ⌜ (length (now src) ≤ inputMost) × (textMost ≤ length (now out)) ⌝ }
-    ensures { λ r. ⌜ Put (now (out .entry)) 0 (readText (reading Loose (now (src .entry)))) (now (out .exit)) r ⌝ }
+    ensures { λ r. ⌜ Put (now (out .entry)) 0 (readText (readingColumn Loose (now (src .entry))) (reading Loose (now (src .entry)))) (now (out .exit)) r ⌝ }
 {
     let mut rows = [0i64; ROWS_ROOM];
     let mut letters = [0u8; LETTERS_ROOM];
@@ -217,12 +218,13 @@ fn put_reading(src: &[u8], out: &mut [u8]) -> usize
     let outcome = read(src, &mut rows, &mut letters, &mut islands, &mut points);
     let answer = outcome.answer;
     let header = outcome.header;
+    let column = outcome.column;
     match answer {
         Answer::Refused {
             number,
             record,
             offset,
-        } => put_refused(out, number, record, offset),
+        } => put_refused(out, number, record, offset, column),
         // The tables hold any such input.
         Answer::NoRoom(_) => 0,
         Answer::Read(needs) => put_used(out, header, needs, &rows, &letters, &islands, &points),
@@ -235,7 +237,7 @@ fn put_listing(src: &[u8], out: &mut [u8]) -> usize
     ensures { λ r. ⌜ Put (now (out .entry)) 0 (listingOf (now (src .entry))) (now (out .exit)) r ⌝ }
 {
     if src.len() > INPUT_MOST {
-        return put_refused(out, TOO_LONG, 0, 0);
+        return put_refused(out, TOO_LONG, 0, 0, 0);
     }
     put_reading(src, out)
 }

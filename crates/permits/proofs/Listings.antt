@@ -10,9 +10,10 @@ use denote.Triple.Clauses.{AtExit}
 use denote.Ref.{now}
 use Rattle.laws.specs.Text.{text}
 use Rattle.tally.specs.Examples.{computed}
-use Rattle.sheet.specs.Examples.{listed, seven}
+use Rattle.sheet.specs.Examples.{listed}
 use Rattle.tally.specs.declared.Refusal.the-variants.{None}
 use Rattle.tally.specs.Take.{tallyOf}
+use Rattle.reader.specs.ExitExamples.{computedColumn}
 use Rattle.listing.specs.Listing.{talliedText, sheetListing, listingOf}
 use Rattle.listing.specs.Examples.{computedLines}
 use Rattle.listing.specs.declared.Listed.the-variants.{Wrote, NoRoom}
@@ -39,11 +40,11 @@ its-listing = rw (is, one-parcel) refl
 
 -- a refused input
 abbrev pub refusal : List ℕ
-refusal = text "REFUSED 7 4 27\n"
+refusal = text "REFUSED 7 4 27 0\n"
 
 its-refusal : listingOf raster ≡ refusal
-unfolding listingOf computedLines
-its-refusal = rw seven refl
+unfolding listingOf computedLines computedColumn
+its-refusal = refl
 
 spare : listedOf listing 132 ≡ Wrote 130
 unfolding listedOf
@@ -53,7 +54,7 @@ short : listedOf listing 129 ≡ NoRoom 130
 unfolding listedOf
 short = refl
 
-refused-spare : listedOf refusal 16 ≡ Wrote 15
+refused-spare : listedOf refusal 18 ≡ Wrote 17
 unfolding listedOf
 refused-spare = refl
 
@@ -80,11 +81,11 @@ module _ (κs : Lfts 2) (a : ArgsD list-text.signature κs) (r : ResD list-text.
     pub list-untouched : length lent ≡ 129 → left ≡ lent
     list-untouched room = post .1 ∙ rw (list-needs room) refl
 
-  module _ (s : now (a .0) ≡ raster) (room : length lent ≡ 16) where
-    pub list-refused : r ≡ Wrote 15
+  module _ (s : now (a .0) ≡ raster) (room : length lent ≡ 18) where
+    pub list-refused : r ≡ Wrote 17
     list-refused = post .0 ∙ rw (s, its-refusal, room) refused-spare
 
-    pub list-refused-stores : left ≡ refusal ++ drop 15 lent
+    pub list-refused-stores : left ≡ refusal ++ drop 17 lent
     list-refused-stores = post .1 ∙ rw (list-refused, s, its-refusal) refl
 
 -- ---- `cxf_listing`
@@ -109,9 +110,9 @@ module _ (κs : Lfts 2) (a : ArgsD cxf-listing.signature κs) (r : ResD cxf-list
     pub cxf-listing-untouched : length cxfLent ≡ 129 → cxfLeft ≡ cxfLent
     cxf-listing-untouched room = post .1 ∙ rw (s, its-listing, room, short) refl
 
-  module _ (s : now (a .0) ≡ raster) (room : length cxfLent ≡ 16) where
-    pub cxf-listing-refused : r ≡ record { number = 0; length = 15 }
+  module _ (s : now (a .0) ≡ raster) (room : length cxfLent ≡ 18) where
+    pub cxf-listing-refused : r ≡ record { number = 0; length = 17 }
     cxf-listing-refused = post .0 ∙ rw (s, its-refusal, room, refused-spare) refl
 
-    pub cxf-listing-refused-stores : cxfLeft ≡ refusal ++ drop 15 cxfLent
+    pub cxf-listing-refused-stores : cxfLeft ≡ refusal ++ drop 17 cxfLent
     cxf-listing-refused-stores = post .1 ∙ rw (s, its-refusal, room, refused-spare) refl

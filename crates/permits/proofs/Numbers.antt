@@ -1,4 +1,5 @@
--- What the contracts of `integer`, `real`, `cxf_integer` and `cxf_real`, as their sources write them, permit on some contents: document 01, "Records". Assumes nothing.
+-- What the contracts of `integer`, `real`, `placed_integer`, `placed_real`, `cxf_integer` and `cxf_real`, as their sources write them, permit on some contents:
+-- document 01, "Records"; document 02, T-04. Assumes nothing.
 use Prim.Native.Nat.{ℕ}
 use mathlib.Core.Path.{_≡_, refl, _∙_}
 use mathlib.Core.List.{List}
@@ -20,6 +21,16 @@ use Rattle.number.proofs.integer as integer
 use Rattle.number.proofs.integer.Reads as integer-reads
 use Rattle.number.proofs.real as real
 use Rattle.number.proofs.real.Reads as real-reads
+use Rattle.column.specs.declared.PlacedInteger.{PlacedInteger}
+use Rattle.column.specs.declared.PlacedInteger.the-variants as PlacedInteger
+use Rattle.column.specs.declared.PlacedReal.{PlacedReal}
+use Rattle.column.specs.declared.PlacedReal.the-variants as PlacedReal
+use Rattle.column.specs.Columns.{integerPlaced, realPlaced}
+use Rattle.column.specs.Examples.{computedPlaced}
+use Rattle.column.proofs.placed_integer as placed-integer
+use Rattle.column.proofs.placed_integer.Reads as placed-integer-reads
+use Rattle.column.proofs.placed_real as placed-real
+use Rattle.column.proofs.placed_real.Reads as placed-real-reads
 use Rattle.told.specs.declared.CxfNumber.{CxfNumber}
 use Rattle.told.specs.Told.{integerTold, realTold}
 use Rattle.told.specs.Asked.{modeOf}
@@ -33,6 +44,31 @@ use Rattle.cabi.proofs.cxf_real.Reads as cxf-real-reads
 five : integerOf Loose (text "12345") ≡ Whole.Malformed
 unfolding computedInteger
 five = refl
+
+-- with their columns
+eighteen-placed : integerPlaced Loose ledByZero ≡ PlacedInteger.Is 18
+unfolding computedPlaced
+eighteen-placed = refl
+
+zero-placed : integerPlaced Exact ledByZero ≡ PlacedInteger.Malformed 2
+unfolding computedPlaced
+zero-placed = refl
+
+five-placed : integerPlaced Loose (text "12345") ≡ PlacedInteger.Malformed 5
+unfolding computedPlaced
+five-placed = refl
+
+tiny-placed : realPlaced Exact tiny ≡ PlacedReal.Is (negsuc 4)
+unfolding computedPlaced
+tiny-placed = refl
+
+minus-zero-loose : realPlaced Loose minusZero ≡ PlacedReal.Is (pos 0)
+unfolding computedPlaced
+minus-zero-loose = refl
+
+minus-zero-exact : realPlaced Exact minusZero ≡ PlacedReal.Malformed 12
+unfolding computedPlaced
+minus-zero-exact = refl
 
 -- ---- `integer`
 
@@ -72,23 +108,53 @@ module _ (κs : Lfts 1) (a : ArgsD real.signature κs) (r : ResD real.signature 
   pub real-minus-zero-exact : RealOnly minusZero Exact Decimal.Malformed
   real-minus-zero-exact = real-only e-exact
 
+-- ---- `placed_integer`
+
+module _ (κs : Lfts 1) (a : ArgsD placed-integer.signature κs) (r : ResD placed-integer.signature κs) (e : AtExit placed-integer.ended κs) (post : placed-integer-reads.Learnt κs a r e) where
+  abbrev pub PlacedIntegerOnly : List ℕ → Mode → PlacedInteger → Type 0
+  PlacedIntegerOnly c mode x = now (a .0) ≡ c → a .1 .0 ≡ mode → r ≡ x
+
+  placed-integer-only : {c : List ℕ} {mode : Mode} {x : PlacedInteger} → integerPlaced mode c ≡ x → PlacedIntegerOnly c mode x
+  placed-integer-only q c mode = post ∙ rw (c, mode) q
+
+  pub placed-integer-answers : PlacedIntegerOnly ledByZero Loose (PlacedInteger.Is 18)
+  placed-integer-answers = placed-integer-only eighteen-placed
+
+  pub placed-integer-column : PlacedIntegerOnly ledByZero Exact (PlacedInteger.Malformed 2)
+  placed-integer-column = placed-integer-only zero-placed
+
+-- ---- `placed_real`
+
+module _ (κs : Lfts 1) (a : ArgsD placed-real.signature κs) (r : ResD placed-real.signature κs) (e : AtExit placed-real.ended κs) (post : placed-real-reads.Learnt κs a r e) where
+  abbrev pub PlacedRealOnly : List ℕ → Mode → PlacedReal → Type 0
+  PlacedRealOnly c mode x = now (a .0) ≡ c → a .1 .0 ≡ mode → r ≡ x
+
+  placed-real-only : {c : List ℕ} {mode : Mode} {x : PlacedReal} → realPlaced mode c ≡ x → PlacedRealOnly c mode x
+  placed-real-only q c mode = post ∙ rw (c, mode) q
+
+  pub placed-real-answers : PlacedRealOnly tiny Exact (PlacedReal.Is (negsuc 4))
+  placed-real-answers = placed-real-only tiny-placed
+
+  pub placed-real-column : PlacedRealOnly minusZero Exact (PlacedReal.Malformed 12)
+  placed-real-column = placed-real-only minus-zero-exact
+
 -- ---- `cxf_integer`: mode 2 is exact
 
 module _ (κs : Lfts 1) (a : ArgsD cxf-integer.signature κs) (r : ResD cxf-integer.signature κs) (e : AtExit cxf-integer.ended κs) (post : cxf-integer-reads.Learnt κs a r e) where
   abbrev pub CxfIntegerOnly : List ℕ → ℕ → CxfNumber → Type 0
   CxfIntegerOnly c mode x = now (a .0) ≡ c → a .1 .0 ≡ mode → r ≡ x
 
-  cxf-integer-only : {c : List ℕ} {mode : ℕ} {x : Whole} → integerOf (modeOf mode) c ≡ x → CxfIntegerOnly c mode (integerTold x)
+  cxf-integer-only : {c : List ℕ} {mode : ℕ} {x : PlacedInteger} → integerPlaced (modeOf mode) c ≡ x → CxfIntegerOnly c mode (integerTold x)
   cxf-integer-only q c mode = post ∙ rw (c, mode, q) refl
 
-  pub cxf-integer-answers : CxfIntegerOnly ledByZero 0 (record { number = 0; value = pos 18 })
-  cxf-integer-answers = cxf-integer-only g-loose
+  pub cxf-integer-answers : CxfIntegerOnly ledByZero 0 (record { number = 0; column = 0; value = pos 18 })
+  cxf-integer-answers = cxf-integer-only eighteen-placed
 
-  pub cxf-integer-needless-zero : CxfIntegerOnly ledByZero 2 (record { number = 8; value = pos 0 })
-  cxf-integer-needless-zero = cxf-integer-only g-exact
+  pub cxf-integer-needless-zero : CxfIntegerOnly ledByZero 2 (record { number = 8; column = 2; value = pos 0 })
+  cxf-integer-needless-zero = cxf-integer-only zero-placed
 
-  pub cxf-integer-five-digits : CxfIntegerOnly (text "12345") 0 (record { number = 8; value = pos 0 })
-  cxf-integer-five-digits = cxf-integer-only five
+  pub cxf-integer-five-digits : CxfIntegerOnly (text "12345") 0 (record { number = 8; column = 5; value = pos 0 })
+  cxf-integer-five-digits = cxf-integer-only five-placed
 
 -- ---- `cxf_real`
 
@@ -96,14 +162,14 @@ module _ (κs : Lfts 1) (a : ArgsD cxf-real.signature κs) (r : ResD cxf-real.si
   abbrev pub CxfRealOnly : List ℕ → ℕ → CxfNumber → Type 0
   CxfRealOnly c mode x = now (a .0) ≡ c → a .1 .0 ≡ mode → r ≡ x
 
-  cxf-real-only : {c : List ℕ} {mode : ℕ} {x : Decimal} → realOf (modeOf mode) c ≡ x → CxfRealOnly c mode (realTold x)
+  cxf-real-only : {c : List ℕ} {mode : ℕ} {x : PlacedReal} → realPlaced (modeOf mode) c ≡ x → CxfRealOnly c mode (realTold x)
   cxf-real-only q c mode = post ∙ rw (c, mode, q) refl
 
-  pub cxf-real-answers : CxfRealOnly tiny 2 (record { number = 0; value = negsuc 4 })
-  cxf-real-answers = cxf-real-only a-exact
+  pub cxf-real-answers : CxfRealOnly tiny 2 (record { number = 0; column = 0; value = negsuc 4 })
+  cxf-real-answers = cxf-real-only tiny-placed
 
-  pub cxf-real-minus-zero-loose : CxfRealOnly minusZero 0 (record { number = 0; value = pos 0 })
-  cxf-real-minus-zero-loose = cxf-real-only e-loose
+  pub cxf-real-minus-zero-loose : CxfRealOnly minusZero 0 (record { number = 0; column = 0; value = pos 0 })
+  cxf-real-minus-zero-loose = cxf-real-only minus-zero-loose
 
-  pub cxf-real-minus-zero-exact : CxfRealOnly minusZero 2 (record { number = 8; value = pos 0 })
-  cxf-real-minus-zero-exact = cxf-real-only e-exact
+  pub cxf-real-minus-zero-exact : CxfRealOnly minusZero 2 (record { number = 8; column = 12; value = pos 0 })
+  cxf-real-minus-zero-exact = cxf-real-only minus-zero-exact

@@ -1,4 +1,4 @@
--- What the contracts of `read_as`, `read` and `cxf_read`, as their sources write them, permit on some files: document 01, "Sheet tables". Assumes nothing.
+-- What the contracts of `read_as`, `read` and `cxf_read`, as their sources write them, permit on some files: document 01, "Sheet tables"; document 02, T-04. Assumes nothing.
 use Prim.Native.Nat.{ℕ}
 use mathlib.Core.Path.{_≡_, refl, _∙_, ap}
 use mathlib.Core.List.{List, [], _∷_, _++_}
@@ -13,12 +13,13 @@ use Rattle.record.specs.declared.Mode.the-variants.{Loose, Exact}
 use Rattle.heading.specs.declared.Header.{Header}
 use Rattle.sheet.specs.Tables.{Tables}
 use Rattle.sheet.specs.Reading.{sheet, reading}
-use Rattle.sheet.specs.Examples.{listed, listed-is, seven, thirteen}
+use Rattle.sheet.specs.Examples.{listed, listed-is}
 use Rattle.made.specs.Made.{tablesOf}
 use Rattle.reader.specs.declared.Needs.{Needs}
-use Rattle.reader.specs.declared.Answer.the-variants.{Read, NoRoom, Refused}
+use Rattle.reader.specs.declared.Answer.the-variants.{NoRoom, Refused}
 use Rattle.reader.specs.declared.Outcome.{Outcome}
-use Rattle.reader.specs.Read.{Rooms, roomsOf, holdsAll, refusedWith, readOf}
+use Rattle.reader.specs.Read.{Rooms, roomsOf, holdsAll, readWith, refusedIn, refusedWith, readOf}
+use Rattle.reader.specs.ExitExamples.{computedColumn}
 use Rattle.reader.proofs.read_as as read-as
 use Rattle.reader.proofs.read_as.Reads as read-as-reads
 use Rattle.reader.proofs.read as read
@@ -62,8 +63,12 @@ raster = text "MAPPA\nZ999_000100\n1000.000\nRIFERIMENTO_RASTER\n"
 abbrev pub followed : List ℕ
 followed = text "MAPPA\r\nZ999_000100\r\n    1000.000\r\nEOF\r\nx"
 
+-- a fourth decimal in the scale
+abbrev pub badScale : List ℕ
+badScale = text "MAPPA\nZ999_000100\n1000.0000\n"
+
 abbrev pub itsSheet : Outcome
-itsSheet = record { answer = Read needs; header = header }
+itsSheet = readWith needs header
 
 -- tables with room to spare, tables that are just long enough, and a row table one number short
 spare : readOf Loose listed (roomsOf 36 6 1 11) ≡ itsSheet
@@ -80,12 +85,16 @@ short = rw is refl
 
 -- a refused file, whatever the tables
 refused-raster : (x : Rooms) → readOf Loose raster x ≡ refusedWith (Refused 7 4 27)
-unfolding readOf
-refused-raster x = rw seven refl
+unfolding readOf computedColumn
+refused-raster x = refl
 
 refused-followed : (x : Rooms) → readOf Exact followed x ≡ refusedWith (Refused 13 5 39)
-unfolding readOf
-refused-followed x = rw thirteen refl
+unfolding readOf computedColumn
+refused-followed x = refl
+
+refused-scale : (x : Rooms) → readOf Loose badScale x ≡ refusedIn 9 (Refused 8 3 18)
+unfolding readOf computedColumn
+refused-scale x = refl
 
 -- ---- the four tables together
 
@@ -111,7 +120,7 @@ module _ (κs : Lfts 5) (a : ArgsD read-as.signature κs) (r : ResD read-as.sign
   abbrev pub Lengths : ℕ → ℕ → ℕ → ℕ → Type 0
   Lengths n l i p = (length (lent .rows) ≡ n) × (length (lent .letters) ≡ l) × (length (lent .islands) ≡ i) × (length (lent .points) ≡ p)
 
-  untouched : {number nth offset : ℕ} → r ≡ refusedWith (Refused number nth offset) → left ≡ lent
+  untouched : {number nth offset column : ℕ} → r ≡ refusedIn column (Refused number nth offset) → left ≡ lent
   untouched q = four (post .1 .0 ∙ rw q refl) (post .1 .1 .0 ∙ rw q refl) (post .1 .1 .1 .0 ∙ rw q refl) (post .1 .1 .1 .1 ∙ rw q refl)
 
   module _ (m : a .0 ≡ Loose) (s : now (a .1 .0) ≡ listed) where
@@ -151,6 +160,13 @@ module _ (κs : Lfts 5) (a : ArgsD read-as.signature κs) (r : ResD read-as.sign
 
   pub read-as-after-eof-untouched : a .0 ≡ Exact → now (a .1 .0) ≡ followed → left ≡ lent
   read-as-after-eof-untouched m s = untouched (read-as-after-eof m s)
+
+  -- 8 says the column
+  pub read-as-column : a .0 ≡ Loose → now (a .1 .0) ≡ badScale → r ≡ refusedIn 9 (Refused 8 3 18)
+  read-as-column m s = post .0 ∙ rw (m, s) (refused-scale _)
+
+  pub read-as-column-untouched : a .0 ≡ Loose → now (a .1 .0) ≡ badScale → left ≡ lent
+  read-as-column-untouched m s = untouched (read-as-column m s)
 
 -- ---- `read`: no mode is named, and the example is read, which exact mode refuses
 
@@ -208,15 +224,15 @@ module _ (κs : Lfts 5) (a : ArgsD cxf-read.signature κs) (r : ResD cxf-read.si
   cxf-told : (x : Outcome) → within ≡ x → r ≡ readTold x
   cxf-told x q = post .0 ∙ ap readTold q
 
-  cxf-untouched : (number nth offset : ℕ) → within ≡ refusedWith (Refused number nth offset) → cxfLeft ≡ cxfLent
-  cxf-untouched number nth offset q = four (post .1 .0 ∙ rw q refl) (post .1 .1 .0 ∙ rw q refl) (post .1 .1 .1 .0 ∙ rw q refl) (post .1 .1 .1 .1 ∙ rw q refl)
+  cxf-untouched : (number nth offset column : ℕ) → within ≡ refusedIn column (Refused number nth offset) → cxfLeft ≡ cxfLent
+  cxf-untouched number nth offset column q = four (post .1 .0 ∙ rw q refl) (post .1 .1 .0 ∙ rw q refl) (post .1 .1 .1 .0 ∙ rw q refl) (post .1 .1 .1 .1 ∙ rw q refl)
 
   module _ (m : a .1 .0 ≡ 0) (s : now (a .0) ≡ listed) where
     cxf-within : {n l i p : ℕ} → CxfLengths n l i p → within ≡ readOf Loose listed (roomsOf n l i p)
     cxf-within n = rw (m, s, n .0, n .1, n .2, n .3) refl
 
     pub cxf-read-answers : CxfLengths 36 6 1 11
-        → r ≡ record { number = 0; nth = 0; offset = 0; rows = 2; letters = 4; islands = 0; points = 5; kind = 1; scale = pos 1000000; name = text "Z999_000100" }
+        → r ≡ record { number = 0; nth = 0; offset = 0; column = 0; rows = 2; letters = 4; islands = 0; points = 5; kind = 1; scale = pos 1000000; name = text "Z999_000100" }
     cxf-read-answers n = cxf-told itsSheet (cxf-within n ∙ spare)
 
     pub cxf-read-not-empty : CxfLengths 36 6 1 11 → cxfLeft ≡ holding cxfLent
@@ -226,11 +242,11 @@ module _ (κs : Lfts 5) (a : ArgsD cxf-read.signature κs) (r : ResD cxf-read.si
         four (post .1 .0 ∙ rw (q, m, s, is) refl) (post .1 .1 .0 ∙ rw (q, m, s, is) refl) (post .1 .1 .1 .0 ∙ rw (q, m, s, is) refl) (post .1 .1 .1 .1 ∙ rw (q, m, s, is) refl)
 
     pub cxf-read-no-14-without-need : CxfLengths 24 4 0 10
-        → r ≡ record { number = 0; nth = 0; offset = 0; rows = 2; letters = 4; islands = 0; points = 5; kind = 1; scale = pos 1000000; name = text "Z999_000100" }
+        → r ≡ record { number = 0; nth = 0; offset = 0; column = 0; rows = 2; letters = 4; islands = 0; points = 5; kind = 1; scale = pos 1000000; name = text "Z999_000100" }
     cxf-read-no-14-without-need n = cxf-told itsSheet (cxf-within n ∙ enough)
 
     pub cxf-read-needs : CxfLengths 23 6 1 11
-        → r ≡ record { number = 14; nth = 0; offset = 0; rows = 2; letters = 4; islands = 0; points = 5; kind = 0; scale = pos 0; name = replicate 11 0 }
+        → r ≡ record { number = 14; nth = 0; offset = 0; column = 0; rows = 2; letters = 4; islands = 0; points = 5; kind = 0; scale = pos 0; name = replicate 11 0 }
     cxf-read-needs n = cxf-told (refusedWith (NoRoom needs)) (cxf-within n ∙ short)
 
     pub cxf-read-needs-untouched : CxfLengths 23 6 1 11 → cxfLeft ≡ cxfLent
@@ -239,15 +255,23 @@ module _ (κs : Lfts 5) (a : ArgsD cxf-read.signature κs) (r : ResD cxf-read.si
         four (post .1 .0 ∙ rw q refl) (post .1 .1 .0 ∙ rw q refl) (post .1 .1 .1 .0 ∙ rw q refl) (post .1 .1 .1 .1 ∙ rw q refl)
 
   pub cxf-read-refuses : a .1 .0 ≡ 0 → now (a .0) ≡ raster
-      → r ≡ record { number = 7; nth = 4; offset = 27; rows = 0; letters = 0; islands = 0; points = 0; kind = 0; scale = pos 0; name = replicate 11 0 }
+      → r ≡ record { number = 7; nth = 4; offset = 27; column = 0; rows = 0; letters = 0; islands = 0; points = 0; kind = 0; scale = pos 0; name = replicate 11 0 }
   cxf-read-refuses m s = cxf-told (refusedWith (Refused 7 4 27)) (rw (m, s) (refused-raster _))
 
   pub cxf-read-untouched : a .1 .0 ≡ 0 → now (a .0) ≡ raster → cxfLeft ≡ cxfLent
-  cxf-read-untouched m s = cxf-untouched 7 4 27 (rw (m, s) (refused-raster _))
+  cxf-read-untouched m s = cxf-untouched 7 4 27 0 (rw (m, s) (refused-raster _))
 
   pub cxf-read-after-eof : a .1 .0 ≡ 2 → now (a .0) ≡ followed
-      → r ≡ record { number = 13; nth = 5; offset = 39; rows = 0; letters = 0; islands = 0; points = 0; kind = 0; scale = pos 0; name = replicate 11 0 }
+      → r ≡ record { number = 13; nth = 5; offset = 39; column = 0; rows = 0; letters = 0; islands = 0; points = 0; kind = 0; scale = pos 0; name = replicate 11 0 }
   cxf-read-after-eof m s = cxf-told (refusedWith (Refused 13 5 39)) (rw (m, s) (refused-followed _))
 
   pub cxf-read-after-eof-untouched : a .1 .0 ≡ 2 → now (a .0) ≡ followed → cxfLeft ≡ cxfLent
-  cxf-read-after-eof-untouched m s = cxf-untouched 13 5 39 (rw (m, s) (refused-followed _))
+  cxf-read-after-eof-untouched m s = cxf-untouched 13 5 39 0 (rw (m, s) (refused-followed _))
+
+  -- 8 says the column
+  pub cxf-read-column : a .1 .0 ≡ 0 → now (a .0) ≡ badScale
+      → r ≡ record { number = 8; nth = 3; offset = 18; column = 9; rows = 0; letters = 0; islands = 0; points = 0; kind = 0; scale = pos 0; name = replicate 11 0 }
+  cxf-read-column m s = cxf-told (refusedIn 9 (Refused 8 3 18)) (rw (m, s) (refused-scale _))
+
+  pub cxf-read-column-untouched : a .1 .0 ≡ 0 → now (a .0) ≡ badScale → cxfLeft ≡ cxfLent
+  cxf-read-column-untouched m s = cxf-untouched 8 3 18 9 (rw (m, s) (refused-scale _))

@@ -1,13 +1,13 @@
 -- The whole reading: what it answers, and what the tables hold at exit. Assumes nothing.
-use mathlib.Core.Path.{_≡_, refl, sym, _∙_, ap, subst}
-use mathlib.Core.Bool.{Bool, true, false, cond, _&&_}
+use mathlib.Core.Path.{_≡_, refl, sym, _∙_}
+use mathlib.Core.Bool.{Bool, true, false, _&&_}
 use mathlib.Core.List.{List, []}
-use Prim.Native.Nat.{ℕ, _+_, _*_, _/_, _≤_, _<_}
+use Prim.Native.Nat.{ℕ, _/_, _≤_, _<_}
 use native.Mathlib.Omega.{arith}
 use lib.ListN.{length, drop}
 use lib.Dec.{leb}
 use lib.IntN.{ℤ}
-use borrow.Author.Tests.{leb-true, lt-leb, le-leb, not-true, not-false}
+use borrow.Author.Tests.{leb-true, lt-leb, le-leb}
 use Rattle.laws.specs.Lists.{over}
 use Rattle.laws.proofs.Choice.{and-left, and-right}
 use Rattle.record.specs.declared.Mode.{Mode}
@@ -21,11 +21,14 @@ use Rattle.header.proofs.HeadLaws.{head-local}
 use Rattle.machine.specs.declared.State.{State}
 use Rattle.machine.specs.declared.State.the-variants.{Due}
 use Rattle.sheet.specs.Tables.{Tables, empty}
-use Rattle.sheet.specs.Reading.{Sections, read, stop, walk, walkFrom, Reading, sheet, refused, under, beyond, sectionsOf, meaning, reading}
-use Rattle.sheet.proofs.Pass.{Goes, Pass, done, more, Accepts, walk-accepts}
+use Rattle.sheet.specs.Reading.{Sections, read, stop, walkFrom, under, sectionsOf, meaning, reading}
+use Rattle.sheet.proofs.Pass.{Pass, done, more, walk-accepts}
+use Rattle.token.specs.declared.Want.the-variants.{Real}
+use Rattle.column.specs.Columns.{refusalColumn}
+use Rattle.reader.specs.Columns.{columnFrom, readingColumn}
 use Rattle.reader.specs.Turn.{noNeeds, added}
 use Rattle.reader.specs.Store.{sectionTables, Room}
-use Rattle.reader.specs.Read.{needsOf, judgedOf, Rooms, roomsOf, holdsAll, refusedWith, answered, readOf, tablesIn, written}
+use Rattle.reader.specs.Read.{needsOf, judgedOf, Rooms, roomsOf, holdsAll, readWith, refusedIn, refusedWith, answered, readOf, tablesIn, written}
 use Rattle.reader.specs.declared.Needs.{Needs}
 use Rattle.reader.specs.declared.Judged.{Judged}
 use Rattle.reader.specs.declared.Judged.the-variants as Judged
@@ -33,7 +36,6 @@ use Rattle.reader.specs.declared.Answer.{Answer}
 use Rattle.reader.specs.declared.Answer.the-variants as Answer
 use Rattle.reader.specs.declared.Outcome.{Outcome}
 use Rattle.reader.proofs.Standing.{Sized, sized-put}
-use Rattle.reader.proofs.Filling.{Holding}
 
 -- ---- tables that are read hold whole rows and whole points
 
@@ -66,13 +68,14 @@ room-is o b rows letters islands points h e =
 
 module _ (mode : Mode) (s : List ℕ) (r : Rooms) where
   pub answer-long : fileMost < length s → refusedWith (Answer.Refused tooLong 0 0) ≡ readOf mode s r
-  unfolding readOf reading
+  unfolding readOf reading readingColumn
   answer-long h = rw (lt-leb (length s) fileMost h)
 
   module _ (h : length s ≤ fileMost) (x : Headed) (q : x ≡ headed mode s) where
-    pub answer-header : (m k a : ℕ) → x .ahead ≡ Ahead.Refused m k a → refusedWith (Answer.Refused m k a) ≡ readOf mode s r
-    unfolding readOf reading meaning sectionsOf
-    answer-header m k a e = rw (le-leb (length s) fileMost h, ← q, e)
+    pub answer-header : (m k a column : ℕ) → x .ahead ≡ Ahead.Refused m k a → column ≡ refusalColumn mode Real m (drop a s)
+        → refusedIn column (Answer.Refused m k a) ≡ readOf mode s r
+    unfolding readOf reading meaning sectionsOf readingColumn
+    answer-header m k a column e c = rw (le-leb (length s) fileMost h, ← q, e, c)
 
     module _ (at : ℕ) (e : x .ahead ≡ Ahead.Sections at) where
       pub starts-inside : at ≤ length s
@@ -84,18 +87,23 @@ module _ (mode : Mode) (s : List ℕ) (r : Rooms) where
       unfolding reading meaning sectionsOf
       reading-is = rw (le-leb (length s) fileMost h, ← q, e)
 
-      module _ (j : Judged) (f : j ≡ judgedOf (walkFrom mode s at)) where
-        pub answer-refused : (m k a : ℕ) → j ≡ Judged.Refused m k a → refusedWith (Answer.Refused m k a) ≡ readOf mode s r
+      column-is : readingColumn mode s ≡ columnFrom mode s at
+      unfolding readingColumn
+      column-is = rw (le-leb (length s) fileMost h, ← q, e)
+
+      module _ (j : Judged) (f : j ≡ judgedOf (columnFrom mode s at) (walkFrom mode s at)) where
+        pub answer-refused : (m k a c : ℕ) → j ≡ Judged.Refused m k a c → refusedIn c (Answer.Refused m k a) ≡ readOf mode s r
         unfolding readOf
-        answer-refused m k a g = rw reading-is (by (walkFrom mode s at) (sym f ∙ g))
+        answer-refused m k a c g = rw (reading-is, column-is) (by (walkFrom mode s at) (sym f ∙ g))
           where
-            by : (t : Sections) → judgedOf t ≡ Judged.Refused m k a → refusedWith (Answer.Refused m k a) ≡ answered (under (x .header) t) r
+            by : (t : Sections) → judgedOf (columnFrom mode s at) t ≡ Judged.Refused m k a c → refusedIn c (Answer.Refused m k a) ≡ answered (columnFrom mode s at) (under (x .header) t) r
             by (read o eof) g = absurd (let z : _≡_ {A = ℕ} 0 1 = cc in omega arith)
             by (stop m₁ k₁ a₁) g =
                 let mm : m ≡ m₁ = cc in
                 let kk : k ≡ k₁ = cc in
                 let aa : a ≡ a₁ = cc in
-                λ i. refusedWith (Answer.Refused (mm i) (kk i) (aa i))
+                let zz : c ≡ columnFrom mode s at = cc in
+                λ i. refusedIn (zz i) (Answer.Refused (mm i) (kk i) (aa i))
 
         -- the sections are read, and what they need was counted
         pub record Counted (needs : Needs) : Type 0 where
@@ -107,7 +115,7 @@ module _ (mode : Mode) (s : List ℕ) (r : Rooms) where
         pub counted : (needs : Needs) → j ≡ Judged.Fine needs → Counted needs
         counted needs g = by (walkFrom mode s at) refl (sym f ∙ g)
           where
-            by : (t : Sections) → walkFrom mode s at ≡ t → judgedOf t ≡ Judged.Fine needs → Counted needs
+            by : (t : Sections) → walkFrom mode s at ≡ t → judgedOf (columnFrom mode s at) t ≡ Judged.Fine needs → Counted needs
             by (read o eof) e g = record { tables = o; eof = eof; sections = e; counts = (cc) }
             by (stop m₁ k₁ a₁) e g = absurd (let z : _≡_ {A = ℕ} 0 1 = cc in omega arith)
 
@@ -118,7 +126,7 @@ module _ (mode : Mode) (s : List ℕ) (r : Rooms) where
               let c = counted needs g in
               rw (reading-is, c .sections, c .counts, ← w, t)
 
-          pub answer-read : b ≡ true → record { answer = Answer.Read needs; header = x .header } ≡ readOf mode s r
+          pub answer-read : b ≡ true → readWith needs (x .header) ≡ readOf mode s r
           unfolding readOf
           answer-read t =
               let c = counted needs g in
@@ -134,11 +142,11 @@ module _ (mode : Mode) (s : List ℕ) (r : Rooms) where
 
 -- what the second pass asks
 pub fill-asks : (mode : Mode) (s : List ℕ) (at rows letters islands points : ℕ) (j : Judged) (needs : Needs) (b : Bool) → at ≤ length s → length s ≤ fileMost
-    → j ≡ judgedOf (walkFrom mode s at) → j ≡ Judged.Fine needs → b ≡ holdsAll needs (roomsOf rows letters islands points) → b ≡ true
+    → j ≡ judgedOf (columnFrom mode s at) (walkFrom mode s at) → j ≡ Judged.Fine needs → b ≡ holdsAll needs (roomsOf rows letters islands points) → b ≡ true
     → ((at ≤ length s) × (length s ≤ fileMost)) × Room (walkFrom mode s at) rows letters islands points
 fill-asks mode s at rows letters islands points j needs b h k f g w t = ((h, k), by (walkFrom mode s at) refl (sym f ∙ g))
   where
-    by : (x : Sections) → walkFrom mode s at ≡ x → judgedOf x ≡ Judged.Fine needs → Room x rows letters islands points
+    by : (x : Sections) → walkFrom mode s at ≡ x → judgedOf (columnFrom mode s at) x ≡ Judged.Fine needs → Room x rows letters islands points
     by (read o eof) e q =
         let z : needsOf o ≡ needs = cc in
         let n = read-sized mode s at o eof e in
@@ -155,9 +163,9 @@ Said mode s r x rows₀ rows letters₀ letters islands₀ islands points₀ poi
 
 module _ (mode : Mode) (s : List ℕ) (r : Rooms) (x : Outcome) (rows : List ℤ) (letters islands : List ℕ) (points : List ℤ) where
   -- a refusal alters nothing
-  pub said-refused : (m k a : ℕ) → x ≡ refusedWith (Answer.Refused m k a) → refusedWith (Answer.Refused m k a) ≡ readOf mode s r
+  pub said-refused : (m k a c : ℕ) → x ≡ refusedIn c (Answer.Refused m k a) → refusedIn c (Answer.Refused m k a) ≡ readOf mode s r
       → Said mode s r x rows rows letters letters islands islands points points
-  said-refused m k a e q = rw e (q, (refl, (refl, (refl, refl))))
+  said-refused m k a c e q = rw e (q, (refl, (refl, (refl, refl))))
 
   pub said-short : (needs : Needs) → x ≡ refusedWith (Answer.NoRoom needs) → refusedWith (Answer.NoRoom needs) ≡ readOf mode s r
       → Said mode s r x rows rows letters letters islands islands points points
@@ -165,7 +173,7 @@ module _ (mode : Mode) (s : List ℕ) (r : Rooms) (x : Outcome) (rows : List ℤ
 
 -- past what was read nothing is altered
 pub said-read : (mode : Mode) (s : List ℕ) (r : Rooms) (needs : Needs) (h : Header) (t : Tables) (rows₀ rows : List ℤ) (letters₀ letters islands₀ islands : List ℕ) (points₀ points : List ℤ)
-    → record { answer = Answer.Read needs; header = h } ≡ readOf mode s r → tablesIn (reading mode s) ≡ t
+    → readWith needs h ≡ readOf mode s r → tablesIn (reading mode s) ≡ t
     → rows ≡ over (t .rows) rows₀ → letters ≡ over (t .letters) letters₀ → islands ≡ over (t .islands) islands₀ → points ≡ over (t .points) points₀
-    → Said mode s r (record { answer = Answer.Read needs; header = h }) rows₀ rows letters₀ letters islands₀ islands points₀ points
+    → Said mode s r (readWith needs h) rows₀ rows letters₀ letters islands₀ islands points₀ points
 said-read mode s r needs h t rows₀ rows letters₀ letters islands₀ islands points₀ points q e a b c d = rw e (q, (a, (b, (c, d))))

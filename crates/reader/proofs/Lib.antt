@@ -1,6 +1,7 @@
 -- The laws of `reader` and the ways through its code; `pub mod` lets other crates cite a file.
 mod Rings
 mod Standing
+mod Aiming
 mod Filling
 mod Storing
 mod Turning
@@ -11,4 +12,5 @@ mod Filled
 mod Answering
 pub mod Bytes
 pub mod ReadLaws
+pub mod ColumnLaws
 pub mod NeedLaws

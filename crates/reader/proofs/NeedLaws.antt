@@ -13,7 +13,8 @@ use Rattle.sheet.specs.Tables.{Tables}
 use Rattle.sheet.specs.Reading.{Reading, sheet, refused, reading}
 use Rattle.reader.specs.declared.Needs.{Needs}
 use Rattle.reader.specs.declared.Answer.the-variants as Answer
-use Rattle.reader.specs.Read.{needsOf, Rooms, holdsAll, refusedWith, answered, readOf, countsOf}
+use Rattle.reader.specs.Columns.{readingColumn}
+use Rattle.reader.specs.Read.{needsOf, Rooms, holdsAll, readWith, refusedWith, answered, readOf, countsOf}
 use Rattle.reader.proofs.Bytes.{tables-most}
 use Rattle.reader.proofs.ReadLaws.{no-room-is}
 
@@ -35,11 +36,11 @@ unfolding readOf
 counts-most mode bs r = by (reading mode bs) refl
   where
     room : (h : Header) (o : Tables) → Most (length bs) (needsOf o) → (b : Bool)
-        → Most (length bs) (countsOf (cond b (record { answer = Answer.Read (needsOf o); header = h }) (refusedWith (Answer.NoRoom (needsOf o))) .answer))
+        → Most (length bs) (countsOf (cond b (readWith (needsOf o) h) (refusedWith (Answer.NoRoom (needsOf o))) .answer))
     room h o m true = m
     room h o m false = m
 
-    by : (x : Reading) → reading mode bs ≡ x → Most (length bs) (countsOf (answered x r .answer))
+    by : (x : Reading) → reading mode bs ≡ x → Most (length bs) (countsOf (answered (readingColumn mode bs) x r .answer))
     by (sheet h o) e = room h o (needs-most mode bs h o e) (holdsAll (needsOf o) r)
     by (refused m k at) e = record { rows = omega arith; letters = omega arith; islands = omega arith; points = omega arith }
 

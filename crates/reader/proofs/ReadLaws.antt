@@ -19,7 +19,8 @@ use Rattle.sheet.specs.Reading.{Reading, sheet, refused, reading, joined}
 use Rattle.sheet.proofs.Exact.{exact-loose}
 use Rattle.sheet.proofs.Join.{joining}
 use Rattle.sheet.proofs.Numbered.{reading-numbers, loose-never}
-use Rattle.reader.specs.Read.{needsOf, Rooms, holdsAll, refusedWith, answered, readOf, tablesIn, numberOf, recordOf, offsetOf, countsOf}
+use Rattle.reader.specs.Columns.{readingColumn}
+use Rattle.reader.specs.Read.{needsOf, Rooms, holdsAll, readWith, refusedWith, answered, readOf, tablesIn, numberOf, recordOf, offsetOf, countsOf}
 use Rattle.reader.specs.Exit.{roomsIn, answerTo, atExit, exitOf, usedPart}
 use Rattle.reader.specs.declared.Needs.{Needs}
 use Rattle.reader.specs.declared.Answer.{Answer}
@@ -57,23 +58,23 @@ unfolding readOf
 view mode bs r = by (reading mode bs) refl
   where
     room : (h : Header) (o : Tables) → reading mode bs ≡ sheet h o → (b : Bool) → holdsAll (needsOf o) r ≡ b
-        → ViewOf mode bs r (cond b (record { answer = Answer.Read (needsOf o); header = h }) (refusedWith (Answer.NoRoom (needsOf o))))
+        → ViewOf mode bs r (cond b (readWith (needsOf o) h) (refusedWith (Answer.NoRoom (needsOf o))))
     room h o e true f = record { tables = o; sound = e; room = f; counts = refl }
     room h o e false f = record { header = h; tables = o; sound = e; short = f; counts = refl }
 
-    by : (x : Reading) → reading mode bs ≡ x → ViewOf mode bs r (answered x r)
+    by : (x : Reading) → reading mode bs ≡ x → ViewOf mode bs r (answered (readingColumn mode bs) x r)
     by (sheet h o) e = room h o e (holdsAll (needsOf o) r) refl
     by (refused m k at) e = e
 
 module _ (mode : Mode) (bs : List ℕ) (r : Rooms) where
-  pub read-is : (a : Needs) (h : Header) → readOf mode bs r ≡ record { answer = Answer.Read a; header = h } → IsRead mode bs r a h
+  pub read-is : (a : Needs) (h : Header) → readOf mode bs r ≡ readWith a h → IsRead mode bs r a h
   read-is a h e = subst (ViewOf mode bs r) e (view mode bs r)
 
   -- **room**: 14 only where the file is sound and some table is too small; the needs are the reading's
   pub no-room-is : (a : Needs) → readOf mode bs r ≡ refusedWith (Answer.NoRoom a) → IsShort mode bs r a
   no-room-is a e = subst (ViewOf mode bs r) e (view mode bs r)
 
-  pub is-read : (h : Header) (o : Tables) → reading mode bs ≡ sheet h o → holdsAll (needsOf o) r ≡ true → readOf mode bs r ≡ record { answer = Answer.Read (needsOf o); header = h }
+  pub is-read : (h : Header) (o : Tables) → reading mode bs ≡ sheet h o → holdsAll (needsOf o) r ≡ true → readOf mode bs r ≡ readWith (needsOf o) h
   unfolding readOf
   is-read h o e f = rw (e, f)
 
@@ -147,13 +148,13 @@ unfolding readOf
 larger-tables mode bs r r′ l n = by (reading mode bs) n
   where
     room : (h : Header) (o : Tables) (b : Bool) → holdsAll (needsOf o) r ≡ b
-        → NotShort (cond b (record { answer = Answer.Read (needsOf o); header = h }) (refusedWith (Answer.NoRoom (needsOf o))) .answer)
-        → cond (holdsAll (needsOf o) r′) (record { answer = Answer.Read (needsOf o); header = h }) (refusedWith (Answer.NoRoom (needsOf o)))
-        ≡ cond b (record { answer = Answer.Read (needsOf o); header = h }) (refusedWith (Answer.NoRoom (needsOf o)))
+        → NotShort (cond b (readWith (needsOf o) h) (refusedWith (Answer.NoRoom (needsOf o))) .answer)
+        → cond (holdsAll (needsOf o) r′) (readWith (needsOf o) h) (refusedWith (Answer.NoRoom (needsOf o)))
+        ≡ cond b (readWith (needsOf o) h) (refusedWith (Answer.NoRoom (needsOf o)))
     room h o true e n = rw (holds-more (needsOf o) r r′ l e)
     room h o false e n = absurd n
 
-    by : (x : Reading) → NotShort (answered x r .answer) → answered x r′ ≡ answered x r
+    by : (x : Reading) → NotShort (answered (readingColumn mode bs) x r .answer) → answered (readingColumn mode bs) x r′ ≡ answered (readingColumn mode bs) x r
     by (sheet h o) n = room h o (holdsAll (needsOf o) r) refl n
     by (refused m k at) n = refl
 
@@ -161,12 +162,12 @@ larger-tables mode bs r r′ l n = by (reading mode bs) n
 
 -- **exact within loose**: a sheet that exact mode accepts with given tables is accepted by loose mode with the same tables,
 -- the same header, and the same tables at exit (`written` of equal answers and equal tables)
-pub exact-within-loose : (bs : List ℕ) (r : Rooms) (a : Needs) (h : Header) → readOf Exact bs r ≡ record { answer = Answer.Read a; header = h }
-    → (readOf Loose bs r ≡ record { answer = Answer.Read a; header = h }) × (tablesIn (reading Loose bs) ≡ tablesIn (reading Exact bs))
+pub exact-within-loose : (bs : List ℕ) (r : Rooms) (a : Needs) (h : Header) → readOf Exact bs r ≡ readWith a h
+    → (readOf Loose bs r ≡ readWith a h) × (tablesIn (reading Loose bs) ≡ tablesIn (reading Exact bs))
 exact-within-loose bs r a h e =
     let v = read-is Exact bs r a h e in
     let l = exact-loose bs h (v .tables) (v .sound) in
-    (is-read Loose bs r h (v .tables) l (v .room) ∙ ap (λ (x : Needs). record { answer = Answer.Read x; header = h }) (sym (v .counts)), rw (l, v .sound))
+    (is-read Loose bs r h (v .tables) l (v .room) ∙ ap (λ (x : Needs). readWith x h) (sym (v .counts)), rw (l, v .sound))
 
 -- ---- two maps in one file
 
@@ -174,7 +175,7 @@ exact-within-loose bs r a h e =
 -- limit and has room, its elements are the first map's followed by the second's
 pub joined-read : (mode : Mode) (a b : List ℕ) (h h′ : Header) (o o′ : Tables) (r : Rooms) → reading mode a ≡ sheet h o → reading mode b ≡ sheet h′ o′
     → length (joined mode a b) ≤ fileMost → holdsAll (needsOf (o then o′)) r ≡ true
-    → (readOf mode (joined mode a b) r ≡ record { answer = Answer.Read (needsOf (o then o′)); header = h }) × (tablesIn (reading mode (joined mode a b)) ≡ o then o′)
+    → (readOf mode (joined mode a b) r ≡ readWith (needsOf (o then o′)) h) × (tablesIn (reading mode (joined mode a b)) ≡ o then o′)
 joined-read mode a b h h′ o o′ r e e′ l f =
     let j = joining mode a b h h′ o o′ e e′ l in
     (is-read mode (joined mode a b) r h (o then o′) j f, rw j)
@@ -241,12 +242,13 @@ exact-exit bs t e =
     let w = exact-within-loose bs (roomsIn t) (needsOf (v .tables)) h x in
     (ap (λ (y : Outcome). numberOf (y .answer)) (w .0), ap (λ (y : Outcome). y .header) (w .0), ap (λ (y : Outcome). countsOf (y .answer)) (w .0 ∙ sym x), ap₂ (λ (y : Outcome) (o : Tables). atExit (y .answer) o t) (w .0 ∙ sym x) (w .1))
 
--- **room**: larger tables change no number, record, offset, count or header, and no used part at exit, but where the number was 14
+-- **room**: larger tables change no number, record, offset, column, count or header, and no used part at exit, but where the number was 14
 pub larger-exit : (mode : Mode) (bs : List ℕ) (t u : Tables) → Larger (roomsIn t) (roomsIn u) → (numberOf (answerTo mode bs t .answer) ≡ noRoom → ⊥)
     → (numberOf (answerTo mode bs u .answer) ≡ numberOf (answerTo mode bs t .answer)) × (recordOf (answerTo mode bs u .answer) ≡ recordOf (answerTo mode bs t .answer))
     × (offsetOf (answerTo mode bs u .answer) ≡ offsetOf (answerTo mode bs t .answer)) × (countsOf (answerTo mode bs u .answer) ≡ countsOf (answerTo mode bs t .answer))
     × (answerTo mode bs u .header ≡ answerTo mode bs t .header)
     × (usedPart (countsOf (answerTo mode bs u .answer)) (exitOf mode bs u) ≡ usedPart (countsOf (answerTo mode bs t .answer)) (exitOf mode bs t))
+    × (answerTo mode bs u .column ≡ answerTo mode bs t .column)
 larger-exit mode bs t u l n =
     let x : answerTo mode bs u ≡ answerTo mode bs t = larger-tables mode bs (roomsIn t) (roomsIn u) l (not-short (answerTo mode bs t .answer) n) in
     let m : numberOf (answerTo mode bs u .answer) ≡ numberOf (answerTo mode bs t .answer) = ap (λ (y : Outcome). numberOf (y .answer)) x in (
@@ -256,6 +258,7 @@ larger-exit mode bs t u l n =
       ap (λ (y : Outcome). countsOf (y .answer)) x,
       ap (λ (y : Outcome). y .header) x,
       exit-used mode bs u (λ e. n (sym m ∙ e)) ∙ sym (exit-used mode bs t n),
+      ap (λ (y : Outcome). y .column) x,
     )
   where
     not-short : (a : Answer) → (numberOf a ≡ noRoom → ⊥) → NotShort a

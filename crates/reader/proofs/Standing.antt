@@ -164,7 +164,7 @@ pub record At (mode : Mode) (s : List ℕ) (target : Sections) (o : Tables) (d :
   pub within : InFile s d
 
 -- one record, whether the next ring's size comes from the tables or from the file
-one-same : (mode : Mode) (s : List ℕ) (target : Sections) (o : Tables) (d : ReadStand) → At mode s target o d
+pub one-same : (mode : Mode) (s : List ℕ) (target : Sections) (o : Tables) (d : ReadStand) → At mode s target o d
     → oneOf mode (d .state) (sizeNext mode (d .state) (drop (d .ring) s) .n) (drop (d .at) s) ≡ oneOf mode (d .state) (ringAfter (d .state) o) (drop (d .at) s)
 unfolding oneOf
 one-same mode s target o d h = go (isTurning (d .state)) refl
@@ -184,7 +184,7 @@ one-same mode s target o d h = go (isTurning (d .state)) refl
     go false e = free e (sizeNext mode (d .state) (drop (d .ring) s) .n) (ringAfter (d .state) o) (lineOf mode (isDue (d .state)) (drop (d .at) s))
 
 -- no record is left where no byte is
-one-none : (mode : Mode) (st : State) (next : ℕ) (bs : List ℕ) → length bs ≤ 0 → oneOf mode st next bs ≡ One.No 2
+pub one-none : (mode : Mode) (st : State) (next : ℕ) (bs : List ℕ) → length bs ≤ 0 → oneOf mode st next bs ≡ One.No 2
 unfolding oneOf
 one-none mode st next [] h = rw (line-none mode (isDue st))
 one-none mode st next (b ∷ bs) h = absurd (omega arith)

@@ -10,13 +10,20 @@ use Rattle.laws.specs.Text.{text}
 use Rattle.record.specs.declared.Mode.{Mode}
 use Rattle.record.specs.declared.Mode.the-variants.{Loose, Exact}
 use Rattle.sheet.specs.Tables.{Tables}
+use Rattle.column.specs.Examples.{computedRefusal}
+use Rattle.reader.specs.Columns.{dueAt, dueFrom, columnFrom, readingColumn}
 use Rattle.reader.specs.Read.{holdsAll, readOf, numberOf, recordOf, offsetOf, countsOf}
 use Rattle.reader.specs.Exit.{answerTo, exitOf, usedPart}
 use Rattle.reader.specs.declared.Outcome.{Outcome}
 
+-- the column with every definition opened, so that it computes
+unfoldable pub computedColumn : Mode → List ℕ → ℕ
+unfolding readingColumn columnFrom dueFrom dueAt computed computedRefusal
+computedColumn mode bs = readingColumn mode bs
+
 -- with every definition opened, so that it computes
 abbrev opened : Mode → List ℕ → Tables → Outcome
-unfolding computed holdsAll readOf
+unfolding computedColumn holdsAll readOf
 opened mode bs t = answerTo mode bs t
 
 -- one text; its y is -0.005
@@ -54,3 +61,20 @@ exit-refused : (numberOf (answerTo Exact written-file (lent 13 3) .answer) ≡ 3
     × (offsetOf (answerTo Exact written-file (lent 13 3) .answer) ≡ 0) × (exitOf Exact written-file (lent 13 3) ≡ lent 13 3)
 unfolding opened written-file lent
 exit-refused = (refl, refl, refl, refl)
+
+-- a refusal's number, record, offset and column
+refusal : Mode → List ℕ → List ℕ
+unfolding opened lent
+refusal mode bs =
+    let x = answerTo mode bs (lent 0 0) in
+    numberOf (x .answer) ∷ recordOf (x .answer) ∷ offsetOf (x .answer) ∷ x .column ∷ []
+
+-- 8 says the column: of a scale, of an integer and of a real in the sections; all others say 0
+refusal-columns : (refusal Loose (text "MAPPA\nZ999_000100\n1000.0000\nEOF") ≡ 8 ∷ 3 ∷ 18 ∷ 9 ∷ [])
+    × (refusal Loose (text "MAPPA\nZ999_000100\n1000.000\nTESTO\nab\n18x\nEOF") ≡ 8 ∷ 6 ∷ 36 ∷ 3 ∷ [])
+    × (refusal Loose (text "MAPPA\nZ999_000100\n1000.000\nTESTO\nab\n18\n0.5\nEOF") ≡ 8 ∷ 7 ∷ 39 ∷ 4 ∷ [])
+    × (refusal Exact (text "MAPPA\r\nZ999_000100\r\n    1000.000\r\nTESTO\r\nab\r\n 018\r\nEOF\r\n") ≡ 8 ∷ 6 ∷ 45 ∷ 2 ∷ [])
+    × (refusal Loose (text "MAPPA\nZ999_000100\n1000.000\nTESTO\n \n") ≡ 9 ∷ 5 ∷ 33 ∷ 0 ∷ [])
+    × (refusal Loose (text "MAPPA\nZ999_000100\n0.000\nEOF") ≡ 6 ∷ 3 ∷ 18 ∷ 0 ∷ [])
+unfolding refusal
+refusal-columns = (refl, refl, refl, refl, refl, refl)

@@ -13,6 +13,7 @@ use Rattle.heading.specs.Heading.{noHeader}
 use Rattle.kinds.specs.Kinds.{rowWidth}
 use Rattle.sheet.specs.Tables.{Tables, empty}
 use Rattle.sheet.specs.Reading.{Sections, read, stop, Reading, sheet, refused, reading}
+use Rattle.reader.specs.Columns.{readingColumn}
 use Rattle.reader.specs.declared.Needs.{Needs}
 use Rattle.reader.specs.declared.Judged.{Judged}
 use Rattle.reader.specs.declared.Judged.the-variants as Judged
@@ -24,9 +25,9 @@ use Rattle.reader.specs.declared.Outcome.{Outcome}
 abbrev pub needsOf : Tables → Needs
 needsOf o = record { rows = length (o .rows) / rowWidth; letters = length (o .letters); islands = length (o .islands); points = length (o .points) / 2 }
 
-abbrev pub judgedOf : Sections → Judged
-judgedOf (read o eof) = Judged.Fine (needsOf o)
-judgedOf (stop m k at) = Judged.Refused m k at
+abbrev pub judgedOf : ℕ → Sections → Judged
+judgedOf column (read o eof) = Judged.Fine (needsOf o)
+judgedOf column (stop m k at) = Judged.Refused m k at column
 
 -- the lengths of the four tables that are lent
 pub record Rooms : Type 0 where
@@ -42,17 +43,23 @@ roomsOf rows letters islands points = record { rows = rows; letters = letters; i
 unfoldable pub holdsAll : Needs → Rooms → Bool
 holdsAll a r = leb (a .rows) (r .rows / rowWidth) && leb (a .letters) (r .letters) && leb (a .islands) (r .islands) && leb (a .points) (r .points / 2)
 
--- header values stand beside the answer where the sheet is read
-abbrev pub refusedWith : Answer → Outcome
-refusedWith answer = record { answer = answer; header = noHeader }
+-- header values stand beside the answer where the sheet is read, and the column where it is refused
+abbrev pub readWith : Needs → Header → Outcome
+readWith needs h = record { answer = Answer.Read needs; header = h; column = 0 }
 
-abbrev pub answered : Reading → Rooms → Outcome
-answered (refused m k at) r = refusedWith (Answer.Refused m k at)
-answered (sheet h o) r = cond (holdsAll (needsOf o) r) (record { answer = Answer.Read (needsOf o); header = h }) (refusedWith (Answer.NoRoom (needsOf o)))
+abbrev pub refusedIn : ℕ → Answer → Outcome
+refusedIn column answer = record { answer = answer; header = noHeader; column = column }
+
+abbrev pub refusedWith : Answer → Outcome
+refusedWith answer = refusedIn 0 answer
+
+abbrev pub answered : ℕ → Reading → Rooms → Outcome
+answered column (refused m k at) r = refusedIn column (Answer.Refused m k at)
+answered column (sheet h o) r = cond (holdsAll (needsOf o) r) (readWith (needsOf o) h) (refusedWith (Answer.NoRoom (needsOf o)))
 
 -- the answer to a reading
 unfoldable pub readOf : Mode → List ℕ → Rooms → Outcome
-readOf mode bs r = answered (reading mode bs) r
+readOf mode bs r = answered (readingColumn mode bs) (reading mode bs) r
 
 -- the tables of a file that is read
 abbrev pub tablesIn : Reading → Tables

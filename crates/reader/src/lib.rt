@@ -12,9 +12,10 @@ ghost use mathlib.Core.Path.{_≡_};
 ghost use lib.ListN.{length};
 ghost use Rattle.record.specs.declared.Mode.the-variants.{Loose};
 ghost use Rattle.sheet.specs.Reading.{reading};
-ghost use Rattle.reader.specs.Read.{roomsOf, holdsAll, refusedWith, readOf, tablesIn, written};
+ghost use Rattle.reader.specs.Read.{roomsOf, holdsAll, refusedIn, readOf, tablesIn, written};
 use crate::first_pass::judge;
 use crate::second_pass::fill;
+use column::column_at;
 use header::Ahead;
 use header::header_at;
 use heading::Header;
@@ -22,6 +23,7 @@ use machine::State;
 use record::FILE_MOST;
 use record::Mode;
 use record::refusal::TOO_LONG;
+use token::Want;
 
 // How many rows, letters, island counts and points a file needs.
 pub struct Needs {
@@ -62,6 +64,7 @@ enum Judged {
         number: usize,
         record: usize,
         offset: usize,
+        column: usize,
     },
 }
 
@@ -76,10 +79,11 @@ pub enum Answer {
     },
 }
 
-// The answer and, beside it, the header: all zero where the sheet is not read.
+// The answer and, beside it, the header, all zero where the sheet is not read, and the column: 0 but where a number is malformed (8).
 pub struct Outcome {
     pub answer: Answer,
     pub header: Header,
+    pub column: usize,
 }
 
 // A ring's size, and the bytes of the record that says it.
@@ -124,8 +128,8 @@ fn has_room(a: Needs, rows: usize, letters: usize, islands: usize, points: usize
 }
 
 // An answer with no sheet has no header.
-fn without(answer: Answer) -> Outcome
-    ensures { λ r. ⌜ r ≡ refusedWith answer ⌝ }
+fn without(answer: Answer, column: usize) -> Outcome
+    ensures { λ r. ⌜ r ≡ refusedIn column answer ⌝ }
 {
     Outcome {
         answer,
@@ -134,6 +138,7 @@ fn without(answer: Answer) -> Outcome
             name: [0; 11],
             scale: 0,
         },
+        column,
     }
 }
 
@@ -153,11 +158,12 @@ pub fn read_as(
     ensures { λ r. ⌜ now (points .exit) ≡ written (r .answer) (tablesIn (reading mode (now (src .entry))) .points) (now (points .entry)) ⌝ }
 {
     if src.len() > FILE_MOST {
-        return without(Answer::Refused {
+        let refused = Answer::Refused {
             number: TOO_LONG,
             record: 0,
             offset: 0,
-        });
+        };
+        return without(refused, 0);
     }
     let headed = header_at(src, mode);
     let ahead = headed.ahead;
@@ -167,21 +173,28 @@ pub fn read_as(
             number,
             record,
             offset,
-        } => without(Answer::Refused {
-            number,
-            record,
-            offset,
-        }),
+        } => {
+            let refused = Answer::Refused {
+                number,
+                record,
+                offset,
+            };
+            without(refused, column_at(src, offset, mode, Want::Real, number))
+        }
         Ahead::Sections { at } => match judge(src, mode, at) {
             Judged::Refused {
                 number,
                 record,
                 offset,
-            } => without(Answer::Refused {
-                number,
-                record,
-                offset,
-            }),
+                column,
+            } => {
+                let refused = Answer::Refused {
+                    number,
+                    record,
+                    offset,
+                };
+                without(refused, column)
+            }
             Judged::Fine(needs) => {
                 if !has_room(
                     needs,
@@ -190,12 +203,13 @@ pub fn read_as(
                     islands.len(),
                     points.len(),
                 ) {
-                    return without(Answer::NoRoom(needs));
+                    return without(Answer::NoRoom(needs), 0);
                 }
                 fill(src, mode, at, rows, letters, islands, points);
                 Outcome {
                     answer: Answer::Read(needs),
                     header,
+                    column: 0,
                 }
             }
         },

@@ -13,7 +13,12 @@ use mir.Facts.{toZ-pos, toZ-ofZ}
 use borrow.Author.Tests.{eq-eqb, ne-eqb}
 use native.Mathlib.Omega.{arith}
 use Rattle.laws.proofs.Choice.{cond-true, cond-false}
+use Rattle.record.specs.declared.Mode.{Mode}
 use Rattle.record.specs.declared.Mode.the-variants.{Loose, Exact}
+use Rattle.number.proofs.NumberLaws.{integer-most}
+use Rattle.column.specs.declared.PlacedInteger.the-variants as PlacedInteger
+use Rattle.column.specs.Columns.{integerPlaced, unplacedWhole}
+use Rattle.column.proofs.PlacedLaws.{integer-unplaced}
 use Rattle.heading.specs.declared.Header.{Header}
 use Rattle.heading.specs.Heading.{noHeader}
 use Rattle.reader.specs.declared.Outcome.{Outcome}
@@ -60,6 +65,9 @@ a-header kind name held scale b e q p =
 -- an integer is at most 9999
 pub small-fits : (n : ℕ) → n ≤ 9999 → SFits w64 (pos n)
 small-fits n h = record { sfits = omega arith }
+
+pub placed-most : (mode : Mode) (c : List ℕ) (n : ℕ) → integerPlaced mode c ≡ PlacedInteger.Is n → n ≤ 9999
+placed-most mode c n e = integer-most mode c n (sym (integer-unplaced mode c) ∙ ap unplacedWhole e)
 
 pub small-reads : (n : ℕ) → n ≤ 9999 → toZ w64 n ≡ pos n
 small-reads n h = toZ-pos w64 {n = n} (omega arith)

@@ -4,9 +4,10 @@ use Prim.Native.Nat.{ℕ}
 use Rattle.record.specs.declared.Found.{Found}
 use Rattle.record.specs.declared.Found.the-variants as Found
 use Rattle.record.specs.Record as Record
-use Rattle.number.specs.declared.Whole.{Whole}
-use Rattle.number.specs.declared.Decimal.{Decimal}
 use Rattle.number.specs.Number.{integerNumber, integerValue, realNumber, realValue}
+use Rattle.column.specs.declared.PlacedInteger.{PlacedInteger}
+use Rattle.column.specs.declared.PlacedReal.{PlacedReal}
+use Rattle.column.specs.Columns.{unplacedWhole, unplacedDecimal, columnOfInteger, columnOfReal}
 use Rattle.heading.specs.declared.Header.{Header}
 use Rattle.reader.specs.declared.Needs.{Needs}
 use Rattle.reader.specs.declared.Answer.{Answer}
@@ -28,7 +29,7 @@ use Rattle.told.specs.declared.CxfListed.{CxfListed}
 
 -- the number of the interface: it rises whenever a struct, a width or a meaning changes, so that an old binding can refuse a new library
 abbrev pub interfaceNumber : ℕ
-interfaceNumber = 1
+interfaceNumber = 2
 
 -- a value of a record that is found; 0 where it is refused
 abbrev pub ofFound : (ℕ → ℕ → ℕ → ℕ) → Found → ℕ
@@ -39,18 +40,19 @@ abbrev pub recordTold : Found → CxfRecord
 recordTold a =
     record { number = Record.numberOf a; start = ofFound (λ start len next. start) a; length = ofFound (λ start len next. len) a; next = ofFound (λ start len next. next) a }
 
-abbrev pub integerTold : Whole → CxfNumber
-integerTold a = record { number = integerNumber a; value = integerValue a }
+abbrev pub integerTold : PlacedInteger → CxfNumber
+integerTold a = record { number = integerNumber (unplacedWhole a); column = columnOfInteger a; value = integerValue (unplacedWhole a) }
 
-abbrev pub realTold : Decimal → CxfNumber
-realTold a = record { number = realNumber a; value = realValue a }
+abbrev pub realTold : PlacedReal → CxfNumber
+realTold a = record { number = realNumber (unplacedDecimal a); column = columnOfReal a; value = realValue (unplacedDecimal a) }
 
-abbrev pub readingOf : ℕ → ℕ → ℕ → Needs → Header → CxfReading
-readingOf number nth offset a h =
+abbrev pub readingOf : ℕ → ℕ → ℕ → ℕ → Needs → Header → CxfReading
+readingOf number nth offset column a h =
     record {
       number = number;
       nth = nth;
       offset = offset;
+      column = column;
       rows = a .rows;
       letters = a .letters;
       islands = a .islands;
@@ -61,11 +63,11 @@ readingOf number nth offset a h =
     }
 
 -- the counts are used where it is read, needed where there is no room (14)
-abbrev pub answerTold : Answer → Header → CxfReading
-answerTold a h = readingOf (Read.numberOf a) (Read.recordOf a) (Read.offsetOf a) (Read.countsOf a) h
+abbrev pub answerTold : Answer → ℕ → Header → CxfReading
+answerTold a column h = readingOf (Read.numberOf a) (Read.recordOf a) (Read.offsetOf a) column (Read.countsOf a) h
 
 abbrev pub readTold : Outcome → CxfReading
-readTold o = answerTold (o .answer) (o .header)
+readTold o = answerTold (o .answer) (o .column) (o .header)
 
 abbrev pub writeTold : Written → CxfWritten
 writeTold w = record { number = Write.numberOf w; row = Write.rowOf w; length = Write.lengthOf w }

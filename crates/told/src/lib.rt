@@ -25,6 +25,7 @@ pub struct CxfReading {
     pub number: usize,
     pub nth: usize,
     pub offset: usize,
+    pub column: usize,
     pub rows: usize,
     pub letters: usize,
     pub islands: usize,
@@ -59,6 +60,7 @@ pub struct CxfRecord {
 #[repr(C)]
 pub struct CxfNumber {
     pub number: usize,
+    pub column: usize,
     pub value: i64,
 }
 
@@ -103,14 +105,22 @@ pub fn header_of(kind: usize, name: &[u8], scale: i64) -> Header
 }
 
 // The answer's numbers, counts and header side by side.
-fn laid_out(number: usize, nth: usize, offset: usize, counts: Needs, header: Header) -> CxfReading
-    ensures { λ r. ⌜ r ≡ readingOf number nth offset counts header ⌝ }
+fn laid_out(
+    number: usize,
+    nth: usize,
+    offset: usize,
+    column: usize,
+    counts: Needs,
+    header: Header,
+) -> CxfReading
+    ensures { λ r. ⌜ r ≡ readingOf number nth offset column counts header ⌝ }
 {
     let name = header.name;
     CxfReading {
         number,
         nth,
         offset,
+        column,
         rows: counts.rows,
         letters: counts.letters,
         islands: counts.islands,
@@ -126,6 +136,7 @@ pub fn reading_of(o: Outcome) -> CxfReading
 {
     let answer = o.answer;
     let header = o.header;
+    let column = o.column;
     let none = Needs {
         rows: 0,
         letters: 0,
@@ -133,13 +144,13 @@ pub fn reading_of(o: Outcome) -> CxfReading
         points: 0,
     };
     match answer {
-        Answer::Read(used) => laid_out(0, 0, 0, used, header),
-        Answer::NoRoom(needed) => laid_out(NO_ROOM, 0, 0, needed, header),
+        Answer::Read(used) => laid_out(0, 0, 0, column, used, header),
+        Answer::NoRoom(needed) => laid_out(NO_ROOM, 0, 0, column, needed, header),
         Answer::Refused {
             number,
             record,
             offset,
-        } => laid_out(number, record, offset, none, header),
+        } => laid_out(number, record, offset, column, none, header),
     }
 }
 

@@ -5,7 +5,7 @@ use Rattle.listing.proofs.put_listing.Statement.{statement}
 use Rattle.listing.proofs.put_listing.Tie as tie
 
 put-refused-requires : tie.Need-put-refused-requires
-put-refused-requires c κs = refused-fits 1 0 0 _ ((c .before .before .before .before) .pre)
+put-refused-requires c κs = refused-fits 1 0 0 0 _ ((c .before .before .before .before) .pre)
 
 same-length : tie.Need-same-length
 same-length c = search needs

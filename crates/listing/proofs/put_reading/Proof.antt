@@ -25,7 +25,7 @@ enum-known-answer : tie.Need-enum-known-answer
 enum-known-answer c = search needs
 
 put-refused-requires : tie.Need-put-refused-requires
-put-refused-requires c κs = refused-fits _ _ _ _ ((c .before .before .before .before .before .before .before .before .before .before .before .before .before .before .before .before) .pre .1)
+put-refused-requires c κs = refused-fits _ _ _ _ _ ((c .before .before .before .before .before .before .before .before .before .before .before .before .before .before .before .before) .pre .1)
 
 enum-told : tie.Need-enum-told
 enum-told c = search needs

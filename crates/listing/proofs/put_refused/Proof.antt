@@ -12,7 +12,7 @@ slice-aggregate-put-line-2 : tie.Need-slice-aggregate-put-line-2
 slice-aggregate-put-line-2 c = search needs
 
 put-line-requires : tie.Need-put-line-requires
-put-line-requires c κs = refused-room ((c .before .before .before .before) .args .number) ((c .before .before .before .before) .args .place) ((c .before .before .before .before) .args .offset) _ ((c .before .before .before .before) .pre)
+put-line-requires c κs = refused-room ((c .before .before .before .before) .args .number) ((c .before .before .before .before) .args .place) ((c .before .before .before .before) .args .offset) ((c .before .before .before .before) .args .column) _ ((c .before .before .before .before) .pre)
 
 same-length : tie.Need-same-length
 same-length c = search needs

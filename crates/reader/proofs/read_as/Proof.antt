@@ -10,13 +10,16 @@ without-requires : tie.Need-without-requires
 without-requires c κs = search needs
 
 returns : tie.Need-returns
-returns c = said-refused _ _ _ _ _ _ _ _ _ _ _ (c .without .ensures) (answer-long _ ((c .before .before .before .before .before) .args .src .now) _ (c .before .if1 .taken))
+returns c = said-refused _ _ _ _ _ _ _ _ _ _ _ _ (c .without .ensures) (answer-long _ ((c .before .before .before .before .before) .args .src .now) _ (c .before .if1 .taken))
 
 header-at-requires : tie.Need-header-at-requires
 header-at-requires c κs = search needs
 
 enum-known-ahead : tie.Need-enum-known-ahead
 enum-known-ahead c = search needs
+
+column-at-requires : tie.Need-column-at-requires
+column-at-requires c κs = search needs
 
 without-requires-2 : tie.Need-without-requires-2
 without-requires-2 c κs = search needs
@@ -49,10 +52,10 @@ fill-requires : tie.Need-fill-requires
 fill-requires c κs = fill-asks _ ((c .before .before .before .before .before .before .before .before .before .before .before .before .before .before .before .before .before .before .before) .args .src .now) _ _ _ _ _ _ _ _ (starts-inside _ ((c .before .before .before .before .before .before .before .before .before .before .before .before .before .before .before .before .before .before .before) .args .src .now) (roomsOf 0 0 0 0) (c .before .before .before .before .before .before .before .before .before .before .before .before .before .before .before .if1 .left) (c .before .before .before .before .before .before .before .before .before .before .before .before .before .before .header-at .result) (c .before .before .before .before .before .before .before .before .before .before .before .before .before .before .header-at .ensures) _ (c .before .before .before .before .before .before .before .before .before .before .before .ahead2 .given .1)) (c .before .before .before .before .before .before .before .before .before .before .before .before .before .before .before .if1 .left) (c .before .before .before .before .before .before .before .before .before .judge .ensures) (c .before .before .before .before .before .before .before .needs .given .1) (c .before .before .before .before .before .has-room .ensures) (not-false _ (c .before .before .before .before .if2 .left))
 
 returns-3 : tie.Need-returns-3
-returns-3 c = said-refused _ _ _ _ _ _ _ _ _ _ _ (c .without2 .ensures) (answer-header _ ((c .before .before .before .before .before .before .before .before .before .before) .args .src .now) _ (c .before .before .before .before .before .before .if1 .left) (c .before .before .before .before .before .header-at .result) (c .before .before .before .before .before .header-at .ensures) _ _ _ (c .before .before .ahead .given .1))
+returns-3 c = said-refused _ _ _ _ _ _ _ _ _ _ _ _ (c .without2 .ensures) (answer-header _ ((c .before .before .before .before .before .before .before .before .before .before .before) .args .src .now) _ ((c .before .before .before .before .before .before .before) .if1 .left) ((c .before .before .before .before .before .before) .header-at .result) ((c .before .before .before .before .before .before) .header-at .ensures) _ _ _ _ ((c .before .before .before) .ahead .given .1) ((c .before) .column-at .ensures))
 
 returns-4 : tie.Need-returns-4
-returns-4 c = said-refused _ _ _ _ _ _ _ _ _ _ _ (c .without3 .ensures) (answer-refused _ ((c .before .before .before .before .before .before .before .before .before .before .before .before .before .before) .args .src .now) _ (c .before .before .before .before .before .before .before .before .before .before .if1 .left) (c .before .before .before .before .before .before .before .before .before .header-at .result) (c .before .before .before .before .before .before .before .before .before .header-at .ensures) _ (c .before .before .before .before .before .before .ahead2 .given .1) _ (c .before .before .before .before .judge .ensures) _ _ _ (c .before .before .number .given .1))
+returns-4 c = said-refused _ _ _ _ _ _ _ _ _ _ _ _ (c .without3 .ensures) (answer-refused _ ((c .before .before .before .before .before .before .before .before .before .before .before .before .before .before) .args .src .now) _ (c .before .before .before .before .before .before .before .before .before .before .if1 .left) (c .before .before .before .before .before .before .before .before .before .header-at .result) (c .before .before .before .before .before .before .before .before .before .header-at .ensures) _ (c .before .before .before .before .before .before .ahead2 .given .1) _ (c .before .before .before .before .judge .ensures) _ _ _ _ (c .before .before .number .given .1))
 
 same-length : tie.Need-same-length
 same-length c = search needs
@@ -77,6 +80,7 @@ read-as-spec =
     returns
     header-at-requires
     enum-known-ahead
+    column-at-requires
     without-requires-2
     enum-known-ahead-2
     judge-requires
