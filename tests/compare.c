@@ -35,6 +35,8 @@ static uint64_t listing_says[NUMBERS];
 static uint64_t classes[7], eleven[2][7], rings_simple, pairs_self, pairs_next, pairs_ends, pairs_other, rights, centroids, both_texts, lists_whole;
 static uint64_t whole_files, rewritten;
 static uint64_t sup_kinds[4], sup_listed_most, sup_equal_codes, sup_minus, sup_wide[9], sup_wide_listed, sup_past[2];
+#define COLUMNS 16
+static uint64_t columns[2][2][COLUMNS]; /* of integers and reals, loose and exact; the last holds all further ones */
 static uint64_t masks_empty, masks_full, masks_part, masks_through, masks_level, masks_flat;
 static uint64_t answers, differences, shown_most = 1;
 
@@ -123,6 +125,7 @@ static flat of_reading(cxf_reading a) {
     put(&f, "number", a.number);
     put(&f, "record", a.record);
     put(&f, "offset", a.offset);
+    put(&f, "column", a.column);
     put(&f, "rows", a.rows);
     put(&f, "letters", a.letters);
     put(&f, "islands", a.islands);
@@ -219,6 +222,7 @@ static flat of_record(cxf_record a) {
 static flat of_number(cxf_number a) {
     flat f = {.count = 0};
     put(&f, "number", a.number);
+    put(&f, "column", a.column);
     put(&f, "value", (uint64_t)a.value);
     return f;
 }
@@ -408,6 +412,7 @@ static void try_number(rng *g, const bytes *content, uint64_t mode, bool real) {
     const cxf_number theirs = real ? cxf_real(lent, content->len, mode) : cxf_integer(lent, content->len, mode);
     const cxf_number mine = real ? ref_real(content->at, content->len, mode) : ref_integer(content->at, content->len, mode);
     judge(of_number(theirs), of_number(mine), holds(&SRC, content->at) ? NULL : "the input was altered, or what lies around it");
+    if (mine.number != 0) columns[real][mode != 0][mine.column < COLUMNS ? mine.column : COLUMNS - 1]++;
 }
 
 static void try_tile(int64_t corner_x, int64_t corner_y, int64_t x, int64_t y) {
@@ -1113,6 +1118,28 @@ static void one_case(rng *g) {
     else tile_case(g);
 }
 
+/* Every byte value at every place of an exact number, and behind it, in both modes. */
+static void every_byte(rng *g, const char *number, bool real) {
+    const size_t n = strlen(number);
+    for (size_t place = 0; place <= n; place++)
+        for (int byte = 0; byte < 256; byte++)
+            for (uint64_t mode = 0; mode < 2; mode++) {
+                file.len = 0;
+                add_bytes(&file, number, n);
+                if (place == n) add_byte(&file, (uint8_t)byte);
+                else file.at[place] = (uint8_t)byte;
+                try_number(g, &file, mode, real);
+            }
+}
+
+static void every_byte_of_numbers(void) {
+    static const char *const integers[] = {"   0", "  18", " 205", "9999"};
+    static const char *const reals[] = {"       0.000", "      -0.005", "    1000.000", "  -14364.252", "-9999999.999", "99999999.999"};
+    rng g = seeded(0, 0);
+    for (size_t i = 0; i < sizeof integers / sizeof integers[0]; i++) every_byte(&g, integers[i], false);
+    for (size_t i = 0; i < sizeof reals / sizeof reals[0]; i++) every_byte(&g, reals[i], true);
+}
+
 static void print_counts(void) {
     printf("\nhow often the reference gave each number (0: answered)\n");
     for (int e = 0; e < ENTRIES; e++)
@@ -1147,6 +1174,12 @@ static void print_counts(void) {
            (unsigned long long)sup_wide_listed);
     for (int i = 1; i <= 7; i++) printf(" %llu", (unsigned long long)sup_wide[i]);
     printf("; TOTALE past the limit %llu, below zero %llu\n", (unsigned long long)sup_past[0], (unsigned long long)sup_past[1]);
+    for (int real = 0; real < 2; real++)
+        for (int exact = 0; exact < 2; exact++) {
+            printf("  columns of %s %s, 1 to %d and further:", exact ? "exact" : "loose", real ? "reals" : "integers", COLUMNS - 2);
+            for (int c = 1; c < COLUMNS; c++) printf(" %llu", (unsigned long long)columns[real][exact][c]);
+            printf("\n");
+        }
     printf("  masks: empty %llu, full %llu, in part %llu; with a centre on an edge %llu, a vertex at a centre's height %llu, a level edge there %llu\n",
            (unsigned long long)masks_empty, (unsigned long long)masks_full, (unsigned long long)masks_part, (unsigned long long)masks_through,
            (unsigned long long)masks_level, (unsigned long long)masks_flat);
@@ -1180,6 +1213,7 @@ int main(int argc, char **argv) {
     const struct itimerval patience = {{0, 0}, {600, 0}};
     const uint64_t wrong = examples();
     differences += wrong;
+    if (first == 0) every_byte_of_numbers();
     for (uint64_t i = first; i < first + count; i++) {
         rng g = seeded(seed, i);
         now.seed = seed;

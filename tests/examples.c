@@ -37,6 +37,63 @@ static void number(const interface *i, int real, const char *text, uint64_t mode
     expect(i, text, n.number == refusal && n.value == value);
 }
 
+/* T-04: the column of a malformed number. */
+static void column(const interface *i, int real, const char *text, uint64_t mode, uint64_t at) {
+    const cxf_number n = (real ? i->real : i->integer)((const uint8_t *)text, strlen(text), mode);
+    expect(i, text, n.number == 8 && n.column == at && n.value == 0);
+}
+
+static void columns(const interface *i) {
+    char blanks[256];
+    column(i, 1, "      -0.000", 1, 12);
+    column(i, 0, " 018", 1, 2);
+    column(i, 0, "0000", 1, 1);
+    column(i, 1, "1.000", 1, 2);
+    column(i, 0, "18", 1, 3);
+    column(i, 0, "    ", 1, 4);
+    column(i, 1, "            ", 1, 8);
+    column(i, 1, "      00.500", 1, 7);
+    column(i, 1, "-10000000.000", 0, 9);
+    column(i, 0, "12345", 0, 5);
+    column(i, 1, "1.2345", 0, 6);
+    for (int real = 0; real < 2; real++)
+        for (uint64_t mode = 0; mode < 2; mode++) column(i, real, "", mode, 1);
+    memset(blanks, ' ', 255);
+    blanks[255] = 0;
+    column(i, 0, blanks, 0, 256);
+    column(i, 1, blanks, 0, 256);
+    column(i, 0, blanks, 1, 4);
+    column(i, 1, blanks, 1, 8);
+    /* a byte behind a full exact number */
+    column(i, 0, "  18 ", 1, 5);
+    column(i, 0, "99990", 1, 5);
+    column(i, 1, "       0.005 ", 1, 13);
+    column(i, 1, "99999999.9990", 1, 13);
+    /* loose: signs, a blank inside, zeros in front and what is wanting */
+    column(i, 0, "-1", 0, 1);
+    column(i, 0, "  x", 0, 3);
+    column(i, 0, "12x", 0, 3);
+    column(i, 0, "1.0", 0, 2);
+    column(i, 1, "--1.000", 0, 2);
+    column(i, 1, "- 1.000", 0, 2);
+    column(i, 1, "1", 0, 2);
+    column(i, 1, "1.00", 0, 5);
+    column(i, 1, "  1.00 note", 0, 7);
+    column(i, 1, ".500", 0, 1);
+    column(i, 1, "+123456789.000", 0, 9);
+    column(i, 1, "123456789.000", 0, 9);
+    column(i, 1, "000000001.000", 0, 9);
+    /* exact: a sign too far right for any digit, a zero with no point behind it, a minus zero at its last digit alone */
+    column(i, 1, "       -.000", 1, 8);
+    column(i, 1, "      +1.000", 1, 7);
+    column(i, 1, "     -00.005", 1, 7);
+    column(i, 1, "     -0.0050", 1, 7);
+    column(i, 1, "      -0.00x", 1, 12);
+    column(i, 1, "-99999999.99", 1, 9);
+    column(i, 0, "  0 ", 1, 3);
+    column(i, 0, "1 00", 1, 2);
+}
+
 static void both_modes(const interface *i, int real, const char *text, uint64_t refusal, int64_t value) {
     number(i, real, text, 0, refusal, value);
     number(i, real, text, 1, refusal, value);
@@ -63,6 +120,7 @@ static void numbers(const interface *i) {
     both_modes(i, 1, "     - 1.000", 8, 0);
     number(i, 1, "      00.005", 0, 0, 5);
     number(i, 1, "      00.005", 1, 8, 0);
+    columns(i);
 }
 
 /* ---- Files ---- */
@@ -102,7 +160,14 @@ static void refused(const interface *i, const char *what, const char *records, u
                     uint64_t offset) {
     held h;
     read_into(i, records, mode, &h);
-    expect(i, what, h.r.number == refusal && h.r.record == record && h.r.offset == offset);
+    expect(i, what, h.r.number == refusal && h.r.record == record && h.r.offset == offset && h.r.column == 0);
+}
+
+static void refused_number(const interface *i, const char *what, const char *records, uint64_t mode, uint64_t record, uint64_t offset,
+                           uint64_t column) {
+    held h;
+    read_into(i, records, mode, &h);
+    expect(i, what, h.r.number == 8 && h.r.record == record && h.r.offset == offset && h.r.column == column);
 }
 
 #define HEAD "MAPPA,Z999_000100,    1000.000,"
@@ -127,7 +192,14 @@ static void files(const interface *i) {
     refused(i, "RIFERIMENTO_RASTER", HEAD "RIFERIMENTO_RASTER,", 0, 7, 4, 34);
     refused(i, "two blanks in the first word", "MAPPA  FONDIARIO,", 0, 6, 1, 0);
     refused(i, "a scale of minus zero, loose", "MAPPA,Z999_000100,-0.000,", 0, 6, 3, 20);
-    refused(i, "a scale of minus zero, exact", "MAPPA,Z999_000100,      -0.000,", 1, 8, 3, 20);
+    refused_number(i, "a scale of minus zero, exact", "MAPPA,Z999_000100,      -0.000,", 1, 3, 20, 12);
+    refused_number(i, "a scale of five blanks, loose", "MAPPA,Z999_000100,     ,", 0, 3, 20, 6);
+    refused_number(i, "a size with a letter", HEAD "TESTO,a,1x,", 0, 6, 44, 2);
+    refused_number(i, "an island count with a zero in front, exact", HEAD "BORDO,7,  18," PLACE "  01,", 1, 12, 120, 3);
+    refused_number(i, "a code that is malformed before it is unlisted", HEAD "LINEA,  99 ,", 1, 5, 41, 5);
+    refused_number(i, "a count that is malformed before it is too small", HEAD "LINEA,   1,   -,", 1, 6, 47, 4);
+    refused_number(i, "a vertex with two points", HEAD "LINEA,1,2,0.000,1..00,", 0, 8, 54, 3);
+    refused(i, "a code that is unlisted", HEAD "LINEA,  99,", 1, 10, 5, 41);
     refused(i, "kind 3 without QU", "QUADRO D'UNIONE,Z999_000100,", 0, 6, 2, 17);
 
     /* (i) ring (0,0),(10,10),(10,0),(0,10),(0,0): doubled area 0, faulty pair (0,2) */
@@ -197,6 +269,20 @@ static void specification(const interface *i) {
     expect(i, "the specification's surface right", i->text_at(THE_SHEET(&h), 2).surface_right == 1);
 }
 
+static void listing_says(const interface *i, const char *records, const char *text) {
+    uint8_t src[2000], out[1000];
+    const cxf_listed l = i->listing(src, file_of(records, src), out, sizeof out);
+    expect(i, text, l.number == 0 && l.length == strlen(text) && memcmp(out, text, strlen(text)) == 0);
+}
+
+/* "more input gives `REFUSED 1 0 0`", and T-04 a fourth number. */
+static void listing_too_long(const interface *i) {
+    static uint8_t src[8193];
+    uint8_t out[100];
+    const cxf_listed l = i->listing(src, sizeof src, out, sizeof out);
+    expect(i, "a listing of 8,193 bytes", l.number == 0 && l.length == 16 && memcmp(out, "REFUSED 1 0 0 0\n", 16) == 0);
+}
+
 static void listing(const interface *i) {
     static const char *const text = "MAP 1 Z999_000100 1000000\nCONFINE 0 0 0 0\nOTHER 0 0 0 0\nROAD 0 0 0 0\nWATER 0 0 0 0\n"
                                     "BUILDING 0 0 0 0\nPARCEL 1 400000000 0 0\nROWS 2\n";
@@ -207,6 +293,12 @@ static void listing(const interface *i) {
     expect(i, "the listing", l.number == 0 && l.length == strlen(text) && memcmp(out, text, strlen(text)) == 0);
     l = i->listing(src, n, out, strlen(text) - 1);
     expect(i, "the listing with no room", l.number == 14 && l.length == strlen(text));
+    listing_says(i, HEAD "TESTO,a,1x,", "REFUSED 8 6 44 2\n");
+    listing_says(i, "MAPPA,Z999_000100,    ,", "REFUSED 8 3 20 5\n");
+    listing_says(i, HEAD "TESTI,", "REFUSED 7 4 34 0\n");
+    listing_says(i, HEAD "TESTO,a,0,0.000,0.000,0.000,BORDO,7,18,0.000,0.000,0.000,0.000,0.000,0,4,"
+                 "0.000,0.000,20000.001,0.000,0.000,0.000,0.000,0.000,EOF,", "REFUSED 17 1 0 0\n");
+    listing_too_long(i);
 }
 
 /* T-02: "OTHER holds only for header kind 3. In kinds 1 and 2 such letters go on to the later rules." Sides of 1 m, 2 m and

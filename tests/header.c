@@ -60,6 +60,7 @@ WHOLE(reading);
 SAME(reading, number);
 SAME(reading, record);
 SAME(reading, offset);
+SAME(reading, column);
 SAME(reading, rows);
 SAME(reading, letters);
 SAME(reading, islands);
@@ -123,6 +124,7 @@ SAME(record, next);
 
 WHOLE(number);
 SAME(number, number);
+SAME(number, column);
 SAME(number, value);
 
 WHOLE(mask);

@@ -1,4 +1,4 @@
-/* The reference: document 01's base, and T-01 to T-03 of document 02, in plain C, written from the papers for clarity, not for
+/* The reference: document 01's base, and T-01 to T-04 of document 02, in plain C, written from the papers for clarity, not for
    speed. It shares no line with the library. The sentences in comments are document 01's, or the interface paper's; those
    of the SUP file are T-01's, those of masks T-03's. */
 #include "reference.h"
@@ -110,8 +110,8 @@ cxf_record ref_record_at(const uint8_t *src, size_t src_len, uint64_t at, uint64
 
 /* "Exact: 4 characters, right aligned with blanks, no zero in front except for 0 itself. Loose: any blanks, 1 to 4
    digits, then the end, or a blank and any tail" */
-cxf_number ref_integer(const uint8_t *content, size_t content_len, uint64_t mode) {
-    const cxf_number refused = {NO_NUMBER, 0};
+static cxf_number integer_of(const uint8_t *content, size_t content_len, uint64_t mode) {
+    const cxf_number refused = {NO_NUMBER, 0, 0};
     size_t i = 0;
     while (i < content_len && content[i] == ' ') i++;
     const size_t first = i;
@@ -128,14 +128,14 @@ cxf_number ref_integer(const uint8_t *content, size_t content_len, uint64_t mode
     } else if (i < content_len && content[i] != ' ') {
         return refused;
     }
-    return (cxf_number){0, value};
+    return (cxf_number){0, 0, value};
 }
 
 /* "Token: optional sign, 1 to 8 digits, a point, 3 digits, at most 12 characters altogether. Loose: blanks, token, end
    or blank and tail; `+` and a minus before zero are read. Exact: 12 characters, right aligned, no `+`, no minus
    zero, no needless zero in front." The range follows from the token's 12 characters. */
-cxf_number ref_real(const uint8_t *content, size_t content_len, uint64_t mode) {
-    const cxf_number refused = {NO_NUMBER, 0};
+static cxf_number real_of(const uint8_t *content, size_t content_len, uint64_t mode) {
+    const cxf_number refused = {NO_NUMBER, 0, 0};
     size_t i = 0;
     while (i < content_len && content[i] == ' ') i++;
     const size_t token = i;
@@ -170,7 +170,57 @@ cxf_number ref_real(const uint8_t *content, size_t content_len, uint64_t mode) {
         return refused;
     }
     /* The sign is the token's, not the whole part's: -0.005 is -5. */
-    return (cxf_number){0, minus ? -value : value};
+    return (cxf_number){0, 0, minus ? -value : value};
+}
+
+/* What may be wanting of an integer, and of a real, after some beginning of it. Loose mode needs the first lines alone; of exact
+   mode's fixed length blanks or digits are wanting too. Behind a first digit zeros do for any digits; a last 1 keeps a minus
+   from a zero. */
+static const char *const INTEGER_ENDINGS[] = {"", "0", "00", "000", " 0", "  0", "   0", NULL};
+static const char *const REAL_ENDINGS[] = {
+    "", "1", "01", "001", ".001", "0.001",
+    "00.001", "000.001", "0000.001", "00000.001", "000000.001", "0000000.001",                   /* digits behind the first */
+    "10.001", "100.001", "1000.001", "10000.001", "100000.001", "1000000.001", "10000000.001",   /* with the first */
+    " 0.001", "  0.001", "   0.001", "    0.001", "     0.001", "      0.001", "       0.001",   /* with blanks */
+    NULL,
+};
+enum { ENDING_MOST = 12 };
+
+typedef cxf_number (*number_form)(const uint8_t *, size_t, uint64_t);
+
+/* Whether some accepted number begins with these n bytes. Behind them `text` has room for an ending. */
+static bool begins_number(number_form form, const char *const *endings, uint8_t *text, size_t n, uint64_t mode) {
+    for (; *endings != NULL; endings++) {
+        memcpy(text + n, *endings, strlen(*endings));
+        if (form(text, n + strlen(*endings), mode).number == 0) return true;
+    }
+    return false;
+}
+
+/* T-04: "the column, from 1, of the first byte that no accepted number could have there after the same beginning in that mode,
+   record length apart, or one past the end if it only stops early". */
+static uint64_t column_of(number_form form, const char *const *endings, const uint8_t *content, size_t content_len, uint64_t mode) {
+    uint8_t *text = malloc(content_len + ENDING_MOST);
+    if (text == NULL) exit(2);
+    size_t n = 0;
+    for (; n < content_len; n++) {
+        text[n] = content[n];
+        if (!begins_number(form, endings, text, n + 1, mode)) break;
+    }
+    free(text);
+    return n + 1;
+}
+
+cxf_number ref_integer(const uint8_t *content, size_t content_len, uint64_t mode) {
+    cxf_number answer = integer_of(content, content_len, mode);
+    if (answer.number != 0) answer.column = column_of(integer_of, INTEGER_ENDINGS, content, content_len, mode);
+    return answer;
+}
+
+cxf_number ref_real(const uint8_t *content, size_t content_len, uint64_t mode) {
+    cxf_number answer = real_of(content, content_len, mode);
+    if (answer.number != 0) answer.column = column_of(real_of, REAL_ENDINGS, content, content_len, mode);
+    return answer;
 }
 
 /* ---- Header, codes ---- */
@@ -228,6 +278,12 @@ static bool refuse(pass *p, uint64_t number) {
     return false;
 }
 
+/* "Every refusal 8 carries it" (T-04). */
+static bool refuse_number(pass *p, cxf_number n) {
+    p->answer.column = n.column;
+    return refuse(p, n.number);
+}
+
 /* Takes the next record. A record that can't be taken is refused as the one that was wanted. */
 static bool take(pass *p, bool keyword_due) {
     const cxf_record r = ref_record_at(p->src, p->len, p->place, p->mode, keyword_due ? 1 : 0);
@@ -263,7 +319,7 @@ static bool says(const pass *p, const char *word) {
 static bool take_integer(pass *p, int64_t *value) {
     if (!take(p, false)) return false;
     const cxf_number n = ref_integer(p->text, p->length, p->mode);
-    if (n.number != 0) return refuse(p, n.number);
+    if (n.number != 0) return refuse_number(p, n);
     *value = n.value;
     return true;
 }
@@ -271,7 +327,7 @@ static bool take_integer(pass *p, int64_t *value) {
 static bool take_real(pass *p, int64_t *value) {
     if (!take(p, false)) return false;
     const cxf_number n = ref_real(p->text, p->length, p->mode);
-    if (n.number != 0) return refuse(p, n.number);
+    if (n.number != 0) return refuse_number(p, n);
     *value = n.value;
     return true;
 }
@@ -443,6 +499,7 @@ cxf_reading ref_read(const uint8_t *src, size_t src_len, uint64_t mode, int64_t 
         refused.number = judge.answer.number;
         refused.record = judge.answer.record;
         refused.offset = judge.answer.offset;
+        refused.column = judge.answer.column;
         return refused;
     }
     const cxf_reading need = judge.answer;
@@ -961,17 +1018,18 @@ static size_t listing_text(const uint8_t *src, size_t src_len, char *text, size_
     static uint8_t letters[LISTING_LIMIT];
     static uint16_t islands[LISTING_LIMIT / 2];
     size_t n = 0;
+    /* "The listing program prints it as a fourth number on each refusal line" (T-04): 0 but for 8 */
     if (src_len > LISTING_LIMIT) /* "more input gives `REFUSED 1 0 0`" */
-        return (size_t)snprintf(text, room, "REFUSED 1 0 0\n");
+        return (size_t)snprintf(text, room, "REFUSED 1 0 0 0\n");
     const cxf_reading r = ref_read(src, src_len, 0, rows, LISTING_LIMIT / 2 * ROW_WIDTH, letters, LISTING_LIMIT, islands,
                                    LISTING_LIMIT / 2, points, LISTING_LIMIT);
     if (r.number != 0)
-        return (size_t)snprintf(text, room, "REFUSED %llu %llu %llu\n", (unsigned long long)r.number,
-                                (unsigned long long)r.record, (unsigned long long)r.offset);
+        return (size_t)snprintf(text, room, "REFUSED %llu %llu %llu %llu\n", (unsigned long long)r.number,
+                                (unsigned long long)r.record, (unsigned long long)r.offset, (unsigned long long)r.column);
     const cxf_tally t = ref_tally_sheet(r.kind, r.name, NAME_LENGTH, r.scale, r.rows, rows, (size_t)r.rows * ROW_WIDTH, letters,
                                         (size_t)r.letters, islands, (size_t)r.islands, points, (size_t)r.points * 2);
     if (t.number != 0) /* "17 and 18 give the row and 0" */
-        return (size_t)snprintf(text, room, "REFUSED %llu %llu 0\n", (unsigned long long)t.number, (unsigned long long)t.row);
+        return (size_t)snprintf(text, room, "REFUSED %llu %llu 0 0\n", (unsigned long long)t.number, (unsigned long long)t.row);
     n += (size_t)snprintf(text + n, room - n, "MAP %llu %.11s %lld\n", (unsigned long long)r.kind, (const char *)r.name,
                           (long long)r.scale);
     for (int c = 0; c < 6; c++)

@@ -9,6 +9,7 @@
 typedef struct {
     uint64_t number;
     uint64_t record, offset;                 /* the refusal's place; 0 and 0 with 1 and 14 */
+    uint64_t column;                         /* T-04: in that record, from 1, with 8; else 0 */
     uint64_t rows, letters, islands, points; /* used where number is 0, needed where it is 14 */
     uint64_t kind;                           /* the header, where number is 0 */
     int64_t scale;
@@ -33,7 +34,7 @@ typedef struct { uint64_t number, row; int64_t figures[24]; } cxf_tally;
 typedef struct { uint64_t number, row, simple, first, second; } cxf_ring;
 typedef struct { uint64_t number; float east, south; } cxf_tile;
 typedef struct { uint64_t number, start, length, next; } cxf_record;
-typedef struct { uint64_t number; int64_t value; } cxf_number;
+typedef struct { uint64_t number, column; int64_t value; } cxf_number; /* T-04: the column with 8 */
 typedef struct { uint64_t number, length; } cxf_listed;
 typedef struct { uint64_t number, row, line, length; } cxf_sup; /* T-01; line, from 1, with 23 */
 typedef struct { uint64_t number, row; uint64_t rows[64]; uint64_t covered; } cxf_mask; /* T-03; the northern row first, west in the highest bit */
