@@ -38,7 +38,7 @@ enum {
     CXF_NAME_LENGTH = 11,        /* bytes of a sheet's name */
     CXF_INTEGER_MOST = 9999,     /* an integer is 0 to this */
     CXF_FIGURES = 24,            /* figures of a tally */
-    CXF_REACH = 20000000,        /* millimetres from a ring's first vertex, in x and in y, for areas and ring check */
+    CXF_REACH = 20000000,        /* millimetres from a ring's first vertex, in x and in y, for areas, tallies, SUP files, ring check and masks */
     CXF_TILE_MOST = 16777215,    /* millimetres from a tile's corner, to the east and to the south */
     CXF_MASK_SIDE = 64,          /* rows of a mask, and cells of a row */
     CXF_CELL_MOST = 10000,       /* millimetres of a cell's side, from 1 on */
@@ -153,7 +153,7 @@ enum {
 typedef struct {
     uint64_t number;
     uint64_t record, offset;                 /* the refused record, from 1, and its first byte; 0 and 0 with 1 and 14 */
-    uint64_t column;                         /* with 8: the column of the malformed number in that record; else 0 */
+    uint64_t column;                         /* with 8: where in that record the number goes wrong, from 1 (see cxf_integer); else 0 */
     uint64_t rows, letters, islands, points; /* used where number is 0, needed where it is 14 */
     uint64_t kind;                           /* the header, where number is 0: CXF_MAPPA to CXF_QUADRO_UNIONE; */
     int64_t scale;                           /* the scale in thousandths; */
@@ -226,7 +226,7 @@ static inline cxf_sheet cxf_sheet_of(const cxf_reading *r, const int64_t *rows, 
    So a question takes the time that the whole sheet takes to judge, and questions on all rows together take time that grows with
    the square of the sheet. Of a
    sheet that is well made, as what a reading answered is, each row may be asked alone instead, as a sheet of one row with its own
-   parts of the tables: class, texts, areas and ring check are the same. All rows together then take the time of one question:
+   parts of the tables: class, texts, areas, ring check and mask are the same. All rows together then take the time of one question:
        for (cxf_sheet rest = sheet; rest.count > 0; rest = cxf_later_rows(rest)) {
            cxf_sheet row = cxf_first_row(rest);
            .. cxf_border_at(CXF_SPREAD(row), 0) .. */
@@ -394,8 +394,8 @@ typedef struct {
 } cxf_number;
 
 /* The content of a record as an integer, 0 to 9999, or as a real; 8 where it is malformed. The column, from 1, is that of the first
-   byte that no accepted number of that form and mode has there after the same beginning, or one past the end if the content only
-   stops early. */
+   byte that no accepted number of that form and mode has there after the same beginning, however long the record, or one past the end if
+   the content only stops early. */
 cxf_number cxf_integer(const uint8_t *content, size_t content_len, uint64_t mode);
 cxf_number cxf_real(const uint8_t *content, size_t content_len, uint64_t mode);
 

@@ -1,5 +1,5 @@
-/* Answers that the papers themselves give: document 01's marked examples and listing, T-02's letters, and the
-   specification's own examples, padded. They hold the reference to something that was not written with it. */
+/* Answers that the papers themselves give: document 01's marked examples and listing, T-02's letters, the
+   specification's own examples, padded, and columns as docs/DECISIONS.md, 91, reads T-04. They hold the reference to something that was not written with it. */
 #include "examples.h"
 #include "reference.h"
 
