@@ -131,13 +131,17 @@ enum { CXF_LOOSE = 0, CXF_EXACT = 1 };
 enum { CXF_MAPPA = 1, CXF_MAPPA_FONDIARIO = 2, CXF_QUADRO_UNIONE = 3 };
 
 /* The kinds of an element. */
-enum { CXF_BORDO = 1, CXF_TESTO = 2, CXF_SIMBOLO = 3, CXF_FIDUCIALE = 4, CXF_LINEA = 5 };
-
-/* A row, CXF_ROW numbers for each element of the sheet. What its section lacks is 0. */
 enum {
-    CXF_ROW_KIND = 0,     /* CXF_BORDO to CXF_LINEA */
+    CXF_BORDO = 1, CXF_TESTO = 2, CXF_SIMBOLO = 3, CXF_FIDUCIALE = 4, CXF_LINEA = 5,
+    CXF_RIFERIMENTO_RASTER = 6, CXF_LIBRETTO = 7 /* of scanned sheets */
+};
+
+/* A row, CXF_ROW numbers for each element of the sheet. What its section lacks is 0, but that a CXF_RIFERIMENTO_RASTER, which has four
+   points and no record that counts them, has 4 vertices. */
+enum {
+    CXF_ROW_KIND = 0,     /* CXF_BORDO to CXF_LIBRETTO */
     CXF_ROW_OUTSIDE = 1,  /* 1 where the keyword has a final backslash, else 0 */
-    CXF_ROW_CODE = 2,
+    CXF_ROW_CODE = 2,     /* of a LIBRETTO its type of line */
     CXF_ROW_SIZE = 3,
     CXF_ROW_ANGLE = 4,
     CXF_ROW_X = 5,

@@ -37,6 +37,7 @@ static uint64_t whole_files, rewritten;
 static uint64_t sup_kinds[4], sup_listed_most, sup_equal_codes, sup_minus, sup_wide[9], sup_wide_listed, sup_past[2];
 #define COLUMNS 16
 static uint64_t columns[2][2][COLUMNS]; /* of integers and reals, loose and exact; the last holds all further ones */
+static uint64_t kinds_read[LAST_KIND + 1], joined_files, joined_tallies;
 static uint64_t masks_empty, masks_full, masks_part, masks_through, masks_level, masks_flat;
 static uint64_t answers, differences, shown_most = 1;
 
@@ -939,6 +940,7 @@ static void file_case(rng *g, bool whole_sheet) {
     const rooms enough = {(size_t)need[0].rows * ROW_WIDTH, (size_t)need[0].letters, (size_t)need[0].islands, (size_t)need[0].points * 2};
     const cxf_reading whole = try_read(g, &file, 0, enough);
     tables t = as_tables(&whole);
+    for (uint64_t row = 0; row < t.count; row++) kinds_read[t.rows[ROW_WIDTH * row]]++;
     if (faults == 0) {
         whole_files++;
         if (!same_tables(&t, &sheet)) own_fault("the loose mode reads another sheet than the one the file was made from");
@@ -951,6 +953,60 @@ static void file_case(rng *g, bool whole_sheet) {
         rewritten++;
     }
     question_sheet(g, &t, false);
+}
+
+/* "put a second accepted map's elements just before the EOF record of a first, .. with equal header values": of the second text what
+   stands behind its third record, of the first all but its last five bytes. False where a code is unlisted, so one is not written. */
+static bool join_texts(const tables *a, const tables *b, bytes *out) {
+    const cxf_written first = ref_write(OWN(a), NULL, 0), last = ref_write(OWN(b), NULL, 0);
+    if (first.number != 14 || last.number != 14) return false;
+    uint8_t *text = malloc((size_t)(first.length + last.length));
+    if (text == NULL) exit(2);
+    ref_write(OWN(a), text, (size_t)first.length);
+    out->len = 0;
+    add_bytes(out, text, (size_t)first.length - 5);
+    ref_write(OWN(b), text, (size_t)last.length);
+    size_t elements = 0;
+    for (int records = 0; records < 3; elements++)
+        if (text[elements] == '\n') records++;
+    add_bytes(out, text + elements, (size_t)last.length - elements);
+    free(text);
+    return true;
+}
+
+static bool joined_so(const tables *t, const tables *a, const tables *b) {
+#define FOLLOWED(table)                                                                                                                \
+    (t->table##_len == a->table##_len + b->table##_len && memcmp(t->table, a->table, a->table##_len * sizeof a->table[0]) == 0 &&       \
+     memcmp(t->table + a->table##_len, b->table, b->table##_len * sizeof b->table[0]) == 0)
+    return t->count == a->count + b->count && FOLLOWED(rows) && FOLLOWED(letters) && FOLLOWED(islands) && FOLLOWED(points);
+#undef FOLLOWED
+}
+
+/* Two maps joined: "its elements are the first map's followed by the second's, and every tally is the sum of the two". */
+static void joined_case(rng *g) {
+    make_sheet(g, SHORT, &sheet);
+    make_sheet(g, SHORT, &second);
+    second.kind = sheet.kind;
+    second.scale = sheet.scale;
+    memcpy(second.name, sheet.name, sizeof second.name);
+    if (!join_texts(&sheet, &second, &file)) return;
+    const cxf_reading need = needs_of(&file, 1);
+    const rooms enough = {(size_t)need.rows * ROW_WIDTH, (size_t)need.letters, (size_t)need.islands, (size_t)need.points * 2};
+    for (uint64_t mode = 0; mode < 2; mode++) {
+        const cxf_reading r = try_read(g, &file, mode, enough);
+        const tables t = as_tables(&r);
+        if (r.number != 0 || !joined_so(&t, &sheet, &second)) own_fault("two maps joined are not the first followed by the second");
+    }
+    joined_files++;
+    const cxf_reading r = try_read(g, &file, 0, enough);
+    tables t = as_tables(&r);
+    lend_sheet(g, &t);
+    try_tally(&t);
+    const cxf_tally a = ref_tally_sheet(OWN(&sheet)), b = ref_tally_sheet(OWN(&second)), both = ref_tally_sheet(OWN(&t));
+    if (a.number != 0 || b.number != 0) return;
+    for (int i = 0; i < 24; i++)
+        if (both.number != 0 || both.figures[i] != a.figures[i] + b.figures[i]) own_fault("the tally of two maps joined is not their sum");
+    joined_tallies++;
 }
 
 /* A sheet handed in, well made or damaged. */
@@ -1108,6 +1164,7 @@ static void one_case(rng *g) {
     else if (draw < 1800) mask_case(g, LONG);
     else if (draw < 9000) sup_case(g, one_in(g, 2) ? SHORT : MIDDLE);
     else if (draw < 15000) mask_case(g, one_in(g, 2) ? SHORT : MIDDLE);
+    else if (draw < 18000) joined_case(g);
     else if (draw < 42000) sheet_file_case(g, SHORT);
     else if (draw < 55000) sheet_file_case(g, MIDDLE);
     else if (draw < 74000) sheet_case(g, SHORT);
@@ -1183,6 +1240,9 @@ static void print_counts(void) {
     printf("  masks: empty %llu, full %llu, in part %llu; with a centre on an edge %llu, a vertex at a centre's height %llu, a level edge there %llu\n",
            (unsigned long long)masks_empty, (unsigned long long)masks_full, (unsigned long long)masks_part, (unsigned long long)masks_through,
            (unsigned long long)masks_level, (unsigned long long)masks_flat);
+    printf("  rows read, by their kinds 1 to %d:", LAST_KIND);
+    for (int k = 1; k <= LAST_KIND; k++) printf(" %llu", (unsigned long long)kinds_read[k]);
+    printf("; maps joined %llu, with their tallies %llu\n", (unsigned long long)joined_files, (unsigned long long)joined_tallies);
     printf("  files with no fault read as they were made %llu, written again as they stood %llu\n", (unsigned long long)whole_files,
            (unsigned long long)rewritten);
 }

@@ -10,6 +10,7 @@
 typedef struct {
     const char *side;
     cxf_reading (*read)(const uint8_t *, size_t, uint64_t, int64_t *, size_t, uint8_t *, size_t, uint16_t *, size_t, int64_t *, size_t);
+    cxf_written (*write)(CXF_SHEET, uint8_t *, size_t);
     cxf_border (*border_at)(CXF_SHEET, uint64_t);
     cxf_text (*text_at)(CXF_SHEET, uint64_t);
     cxf_area (*ring_area)(CXF_SHEET, uint64_t, uint64_t);
@@ -189,7 +190,6 @@ static void files(const interface *i) {
     refused(i, "EOF with no line end, exact", HEAD "EOF", 1, 2, 4, 34);
     read_into(i, HEAD "EOF", 0, &h);
     expect(i, "EOF with no line end, loose", h.r.number == 0 && h.r.rows == 0 && h.r.scale == 1000000 && h.r.kind == 1);
-    refused(i, "RIFERIMENTO_RASTER", HEAD "RIFERIMENTO_RASTER,", 0, 7, 4, 34);
     refused(i, "two blanks in the first word", "MAPPA  FONDIARIO,", 0, 6, 1, 0);
     refused(i, "a scale of minus zero, loose", "MAPPA,Z999_000100,-0.000,", 0, 6, 3, 20);
     refused_number(i, "a scale of minus zero, exact", "MAPPA,Z999_000100,      -0.000,", 1, 3, 20, 12);
@@ -269,6 +269,87 @@ static void specification(const interface *i) {
     expect(i, "the specification's surface right", i->text_at(THE_SHEET(&h), 2).surface_right == 1);
 }
 
+/* ---- T-05 ---- */
+
+#define CORNERS "   14000.000,  -29000.000,   15000.000,  -29000.000,   14000.000,  -30000.000,   15000.000,  -30000.000,"
+#define SCANNED                                                                                                        \
+    HEAD "RIFERIMENTO_RASTER,D458_021200.TIF," CORNERS                                                                 \
+         "LIBRETTO,(0),   1,   3,   15181.145,  -29700.213,   15179.456,  -29699.078,   15181.315,  -29698.258,EOF,"
+
+/* One number of a row is altered, and the sheet is judged. */
+static void altered(const interface *i, const char *what, const held *from, int place, int64_t value, uint64_t row) {
+    held h = *from;
+    uint8_t out[1000];
+    h.rows[12 * row + (uint64_t)place] = value;
+    const cxf_text t = i->text_at(THE_SHEET(&h), 0);
+    const cxf_written w = i->write(THE_SHEET(&h), out, sizeof out);
+    expect(i, what, t.number == 15 && t.row == row && w.number == 15 && w.row == row && w.length == 0);
+}
+
+/* The sections of a scanned sheet (000, 1.1.13 and 1.1.14), which has no example of them. */
+static void scanned(const interface *i) {
+    static const int64_t rows[2][12] = {{6, 0, 0, 0, 0, 0, 0, 0, 0, 15, 0, 4}, {7, 0, 1, 0, 0, 0, 0, 0, 0, 3, 0, 3}};
+    static const int64_t points[14] = {14000000, -29000000, 15000000,  -29000000, 14000000,  -30000000, 15000000,
+                                       -30000000, 15181145, -29700213, 15179456,  -29699078, 15181315,  -29698258};
+    uint8_t text[1000], out[1000];
+    held h;
+    for (uint64_t mode = 0; mode < 2; mode++) { /* first and last corner differ: they are no ring */
+        read_into(i, SCANNED, mode, &h);
+        expect(i, "a scanned sheet", h.r.number == 0 && h.r.rows == 2 && h.r.letters == 18 && h.r.islands == 0 && h.r.points == 7 &&
+                                         memcmp(h.rows, rows, sizeof rows) == 0 && memcmp(h.letters, "D458_021200.TIF(0)", 18) == 0 &&
+                                         memcmp(h.points, points, sizeof points) == 0);
+    }
+    const size_t n = file_of(SCANNED, text);
+    cxf_written w = i->write(THE_SHEET(&h), out, sizeof out);
+    expect(i, "a scanned sheet, written", w.number == 0 && w.length == n && memcmp(out, text, n) == 0);
+    cxf_text t = i->text_at(THE_SHEET(&h), 0);
+    expect(i, "a question on kind 6", t.number == 0 && t.surface_right == 0 && t.centroid == 0);
+    t = i->text_at(THE_SHEET(&h), 1);
+    expect(i, "a question on kind 7", t.number == 0 && t.surface_right == 0 && t.centroid == 0);
+    for (uint64_t row = 0; row < 2; row++)
+        expect(i, "a border's question on a raster row", i->border_at(THE_SHEET(&h), row).number == 19 &&
+                   i->ring_area(THE_SHEET(&h), row, 0).number == 19 && i->net_area(THE_SHEET(&h), row).number == 19 &&
+                   i->ring_check(THE_SHEET(&h), row, 0).number == 19);
+
+    altered(i, "kind 6 with 3 vertices", &h, 11, 3, 0);
+    altered(i, "kind 6 with 5 vertices", &h, 11, 5, 0);
+    altered(i, "kind 6 with no vertices", &h, 11, 0, 0);
+    altered(i, "kind 6 outside", &h, 1, 1, 0);
+    altered(i, "kind 6 with a code", &h, 2, 1, 0);
+    altered(i, "kind 6 with no letters", &h, 9, 0, 0);
+    altered(i, "kind 6 with an island", &h, 10, 1, 0);
+    altered(i, "kind 7 outside", &h, 1, 1, 1);
+    altered(i, "kind 7 with one vertex", &h, 11, 1, 1);
+    altered(i, "kind 7 with a size", &h, 3, 1, 1);
+    altered(i, "kind 7 with a place", &h, 5, 1, 1);
+    altered(i, "kind 8", &h, 0, 8, 1);
+    h.rows[12 + 2] = 2; /* well made, and a loose file can have it, but it is not written */
+    w = i->write(THE_SHEET(&h), out, sizeof out);
+    expect(i, "kind 7 with an unlisted type", w.number == 10 && w.row == 1 && i->text_at(THE_SHEET(&h), 1).number == 0);
+
+    read_into(i, HEAD "RIFERIMENTO_RASTER, a.tif ,1.000,2.000,3.000,4.000,5.000,6.000,7.000,-0.000 note,LIBRETTO,0,2,2,0.000,0.000,0.000,0.000,EOF", 0, &h);
+    expect(i, "a scanned sheet, loose", h.r.number == 0 && h.r.rows == 2 && h.r.letters == 6 && memcmp(h.letters, "a.tif0", 6) == 0 &&
+                                            h.points[0] == 1000 && h.points[6] == 7000 && h.points[7] == 0 && h.rows[12 + 2] == 2);
+}
+
+static void scanned_refused(const interface *i) {
+#define REAL "       1.000,"
+    for (uint64_t mode = 0; mode < 2; mode++) {
+        refused(i, "RIFERIMENTO_RASTER outside", HEAD "RIFERIMENTO_RASTER\\,a," CORNERS "EOF,", mode, 7, 4, 34);
+        refused(i, "LIBRETTO outside", HEAD "LIBRETTO\\,0,   1,   2," REAL REAL REAL REAL "EOF,", mode, 7, 4, 34);
+        refused_number(i, "kind 6 with 3 points", HEAD "RIFERIMENTO_RASTER,a," REAL REAL REAL REAL REAL REAL "EOF,", mode, 12, 141, 1);
+        refused(i, "kind 6 with 5 points", HEAD "RIFERIMENTO_RASTER,a," CORNERS REAL REAL "EOF,", mode, 7, 14, 169);
+        refused(i, "kind 6 with no letters", HEAD "RIFERIMENTO_RASTER,," CORNERS "EOF,", mode, 9, 5, 54);
+        refused(i, "kind 6 and then nothing", HEAD "RIFERIMENTO_RASTER,", mode, 2, 5, 54);
+        refused(i, "kind 7 with one vertex", HEAD "LIBRETTO,0,   1,   1," REAL REAL "EOF,", mode, 11, 7, 53);
+        refused_number(i, "kind 7 with a malformed type", HEAD "LIBRETTO,0,  x2,", mode, 6, 47, 3);
+    }
+    refused(i, "kind 7 with an unlisted type, exact", HEAD "LIBRETTO,0,   2,   2," REAL REAL REAL REAL "EOF,", 1, 10, 6, 47);
+#undef REAL
+}
+
+/* ---- Listing ---- */
+
 static void listing_says(const interface *i, const char *records, const char *text) {
     uint8_t src[2000], out[1000];
     const cxf_listed l = i->listing(src, file_of(records, src), out, sizeof out);
@@ -347,7 +428,7 @@ static void records(const interface *i) {
 }
 
 #define SIDE(name, P)                                                                                                              \
-    {name, P##_read, P##_border_at, P##_text_at, P##_ring_area, P##_net_area, P##_ring_check, P##_tile_point, P##_record_at, P##_integer, \
+    {name, P##_read, P##_write, P##_border_at, P##_text_at, P##_ring_area, P##_net_area, P##_ring_check, P##_tile_point, P##_record_at, P##_integer, \
      P##_real, P##_listing}
 
 uint64_t examples(void) {
@@ -356,6 +437,8 @@ uint64_t examples(void) {
     for (int k = 0; k < 2; k++) {
         numbers(&sides[k]);
         files(&sides[k]);
+        scanned(&sides[k]);
+        scanned_refused(&sides[k]);
         specification(&sides[k]);
         listing(&sides[k]);
         eleven_letters(&sides[k]);

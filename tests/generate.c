@@ -11,7 +11,7 @@
 #define REACH 20000000LL
 
 enum { KIND, OUTSIDE, CODE, SIZE, ANGLE, X, Y, SECOND_X, SECOND_Y, LETTERS, ISLANDS, VERTICES, WIDTH };
-enum { BORDO = 1, TESTO, SIMBOLO, FIDUCIALE, LINEA };
+enum { BORDO = 1, TESTO, SIMBOLO, FIDUCIALE, LINEA, RASTER, LIBRETTO };
 
 /* ---- Chance ---- */
 
@@ -274,11 +274,13 @@ trimmed:
     return n;
 }
 
+static bool has_code(int64_t kind) { return (kind >= SIMBOLO && kind <= LINEA) || kind == LIBRETTO; }
+
 static int64_t listed_code(rng *g, int64_t kind) {
     static const int64_t symbols[] = {1, 2, 3, 4, 5, 6, 7, 8, 9, 10, 11, 13, 14, 15, 16, 20};
     static const int64_t fiducials[] = {8, 20};
     static const int64_t lines[] = {1, 5, 6, 11, 12, 29, 30, 31, 32, 33, 34, 35};
-    return kind == SIMBOLO ? PICK(g, symbols) : kind == FIDUCIALE ? PICK(g, fiducials) : PICK(g, lines);
+    return kind == SIMBOLO ? PICK(g, symbols) : kind == FIDUCIALE ? PICK(g, fiducials) : kind == LIBRETTO ? 1 : PICK(g, lines);
 }
 
 /* Codes that a table lacks for some kind: next to the listed ones, 0, the ends. */
@@ -358,14 +360,14 @@ static void add_border(rng *g, tables *t, size_class size, at origin) {
 static void add_element(rng *g, tables *t, size_class size, at origin) {
     int64_t row[WIDTH] = {0};
     uint8_t text[255];
-    const int64_t kind = one_in(g, 3) ? BORDO : between(g, BORDO, LINEA);
+    const int64_t kind = one_in(g, 3) ? BORDO : between(g, BORDO, LIBRETTO);
     if (kind == BORDO) {
         add_border(g, t, size, origin);
         return;
     }
     row[KIND] = kind;
-    row[OUTSIDE] = one_in(g, 3) ? 1 : 0;
-    if (kind == TESTO || kind == FIDUCIALE) {
+    row[OUTSIDE] = kind <= LINEA && one_in(g, 3) ? 1 : 0;
+    if (kind == TESTO || kind == FIDUCIALE || kind >= RASTER) {
         row[LETTERS] = (int64_t)make_letters(g, t, text);
         if (kind == TESTO && one_in(g, 3)) { /* a surface right, or nearly */
             if (!one_in(g, 6)) text[0] = '(';
@@ -373,10 +375,10 @@ static void add_element(rng *g, tables *t, size_class size, at origin) {
         }
         add_letters(t, text, (size_t)row[LETTERS]);
     }
-    if (kind != TESTO) row[CODE] = one_in(g, 20) ? other_code(g) : listed_code(g, kind);
+    if (has_code(kind)) row[CODE] = one_in(g, 20) ? other_code(g) : listed_code(g, kind);
     if (kind == TESTO) row[SIZE] = one_in(g, 3) ? 0 : (int64_t)below(g, 10000);
     if (kind == TESTO || kind == SIMBOLO) row[ANGLE] = some_real(g, 0);
-    if (kind != LINEA) {
+    if (kind < LINEA) {
         row[X] = some_real(g, origin.x);
         row[Y] = some_real(g, origin.y);
     }
@@ -384,9 +386,10 @@ static void add_element(rng *g, tables *t, size_class size, at origin) {
         row[SECOND_X] = some_real(g, origin.x);
         row[SECOND_Y] = some_real(g, origin.y);
     }
-    if (kind == LINEA) {
+    if (kind >= LINEA) {
         size_t n = 2 + below(g, size == SHORT ? 4 : 30);
         if (size == LONG && one_in(g, 4)) n = one_in(g, 8) ? 9999 : 2 + below(g, 2000);
+        if (kind == RASTER) n = 4;
         row[VERTICES] = (int64_t)n;
         for (size_t i = 0; i < n; i++) add_point(t, some_real(g, origin.x), some_real(g, origin.y));
     }
@@ -423,7 +426,16 @@ void make_odd(rng *g, tables *t) {
     make_sheet(g, SHORT, t);
     const at origin = some_origin(g);
     int64_t row[WIDTH] = {0};
-    switch (below(g, 5)) {
+    switch (below(g, 7)) {
+    case 5: /* a raster sheet's points, 3 and 5 among them; a LIBRETTO's vertices */
+    case 6:
+        row[KIND] = one_in(g, 2) ? RASTER : LIBRETTO;
+        row[CODE] = row[KIND] == LIBRETTO ? 1 : 0;
+        row[LETTERS] = 1;
+        add_letters(t, (const uint8_t *)"r", 1);
+        row[VERTICES] = row[KIND] == RASTER ? between(g, 2, 6) : (int64_t)(one_in(g, 10) ? PICK(g, many) : PICK(g, few));
+        add_points(g, t, (size_t)row[VERTICES], origin);
+        break;
     case 0: /* letters: none, 255, 256 */
         begin_border(g, t, row, origin);
         t->letters_len -= (size_t)row[LETTERS];
@@ -1032,8 +1044,7 @@ void damage_sheet(rng *g, tables *t) {
     }
     if (one_in(g, 3) && t->count > 0 && t->rows_len >= WIDTH) /* a code that is well made but unlisted */
         for (size_t k = 0; k < t->rows_len / WIDTH; k++)
-            if (t->rows[WIDTH * k + KIND] >= SIMBOLO && t->rows[WIDTH * k + KIND] <= LINEA && one_in(g, 4))
-                t->rows[WIDTH * k + CODE] = other_code(g);
+            if (has_code(t->rows[WIDTH * k + KIND]) && one_in(g, 4)) t->rows[WIDTH * k + CODE] = other_code(g);
 }
 
 /* ---- Files ---- */
@@ -1088,7 +1099,7 @@ static bool is_real(role what) { return what == SCALE || (what >= REAL && what <
 
 static void sheet_pieces(const tables *t) {
     static const char *const firsts[] = {"", "MAPPA", "MAPPA FONDIARIO", "QUADRO D'UNIONE"};
-    static const char *const words[] = {"", "BORDO", "TESTO", "SIMBOLO", "FIDUCIALE", "LINEA"};
+    static const char *const words[] = {"", "BORDO", "TESTO", "SIMBOLO", "FIDUCIALE", "LINEA", "RIFERIMENTO_RASTER", "LIBRETTO"};
     size_t letters = 0, islands = 0, points = 0;
     piece_count = 0;
     pool.len = 0;
@@ -1102,15 +1113,15 @@ static void sheet_pieces(const tables *t) {
             add_byte(&pool, '\\');
             pieces[piece_count - 1].length++;
         }
-        if (n[KIND] == BORDO || n[KIND] == TESTO || n[KIND] == FIDUCIALE) add_word(TEXT, t->letters + letters, (size_t)n[LETTERS]);
+        if (n[KIND] != SIMBOLO && n[KIND] != LINEA) add_word(TEXT, t->letters + letters, (size_t)n[LETTERS]);
         letters += (size_t)n[LETTERS];
         if (n[KIND] == BORDO || n[KIND] == TESTO) add_value(SIZE_OF, n[SIZE]);
-        else add_value(CODE_OF, n[CODE]);
+        if (has_code(n[KIND])) add_value(CODE_OF, n[CODE]);
         if (n[KIND] <= SIMBOLO) add_value(REAL, n[ANGLE]);
-        if (n[KIND] != LINEA) add_value(REAL, n[X]), add_value(REAL, n[Y]);
+        if (n[KIND] < LINEA) add_value(REAL, n[X]), add_value(REAL, n[Y]);
         if (n[KIND] == BORDO || n[KIND] == FIDUCIALE) add_value(REAL, n[SECOND_X]), add_value(REAL, n[SECOND_Y]);
         if (n[KIND] == BORDO) add_value(ISLANDS_OF, n[ISLANDS]);
-        if (n[KIND] == BORDO || n[KIND] == LINEA) add_value(VERTICES_OF, n[VERTICES]);
+        if (n[KIND] == BORDO || n[KIND] == LINEA || n[KIND] == LIBRETTO) add_value(VERTICES_OF, n[VERTICES]);
         size_t outer = (size_t)n[VERTICES];
         for (int64_t i = 0; i < n[ISLANDS]; i++) {
             add_value(ISLAND, t->islands[islands + (size_t)i]);
@@ -1242,7 +1253,7 @@ static void damage_keyword(rng *g, piece *p) {
     static const char *const wrong[] = {
         "", " ", "BORDO\\", "BORDO ", " TESTO", "TESTO\\ ", "TESTO \\", "TESTO\\\\", "\\", "testo", "EOF\\", "EOF note", "EOF ", " EOF",
         "EOFF", "EO", "LIBRETTO", "RIFERIMENTO_RASTER", "BORD", "BORDOX", "LINEE", "SIMBOLO\\x", "FIDUCIALI", "TESTI\\", "EOF",
-        "BORDO", "TESTO", "LINEA", "SIMBOLO\\", "FIDUCIALE", "MAPPA", "LINEA\\",
+        "BORDO", "TESTO", "LINEA", "SIMBOLO\\", "FIDUCIALE", "MAPPA", "LINEA\\", "LIBRETTO\\", "RIFERIMENTO_RASTER\\", "RIFERIMENTO RASTER",
     };
     const char *text = PICK(g, wrong);
     set_text(p, KEYWORD, text, strlen(text));

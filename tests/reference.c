@@ -1,4 +1,4 @@
-/* The reference: document 01's base, and T-01 to T-04 of document 02, in plain C, written from the papers for clarity, not for
+/* The reference: document 01's base, and T-01 to T-05 of document 02, in plain C, written from the papers for clarity, not for
    speed. It shares no line with the library. The sentences in comments are document 01's, or the interface paper's; those
    of the SUP file are T-01's, those of masks T-03's. */
 #include "reference.h"
@@ -36,21 +36,25 @@ enum {
 /* "Each element is a row of 12 numbers": their places. */
 enum { KIND, OUTSIDE, CODE_AT, SIZE, ANGLE, X, Y, SECOND_X, SECOND_Y, LETTERS, ISLANDS, VERTICES };
 
-/* "kind 1 to 5 in the table's order" */
-enum { BORDO = 1, TESTO = 2, SIMBOLO = 3, FIDUCIALE = 4, LINEA = 5 };
+/* "kind 1 to 5 in the table's order"; T-05: "kinds 6 and 7" */
+enum { BORDO = 1, TESTO = 2, SIMBOLO = 3, FIDUCIALE = 4, LINEA = 5, RASTER = 6, LIBRETTO = 7 };
 
 /* "MAPPA (kind 1), MAPPA FONDIARIO (2) or QUADRO D'UNIONE (3)" */
 enum { MAPPA = 1, FONDIARIO = 2, QUADRO = 3 };
 
-/* What a section of each kind has, from the table of sections. A place (x, y) belongs to all but LINEA. */
-static const struct { const char *word; bool letters, code, size, angle, place, second, vertices; } SECTIONS[6] = {
-    {"", false, false, false, false, false, false, false},
-    {"BORDO", true, false, true, true, true, true, true},
-    {"TESTO", true, false, true, true, true, false, false},
-    {"SIMBOLO", false, true, false, true, true, false, false},
-    {"FIDUCIALE", true, true, false, false, true, true, false},
-    {"LINEA", false, true, false, false, false, false, true},
+/* What a section of each kind has, from the table of sections and T-05. "All but BORDO may carry a final `\`", and of the raster
+   kinds "neither takes a final backslash". RASTER has vertices with no count of them: "its row says 4 vertices". */
+static const struct { const char *word; bool outside, letters, code, size, angle, place, second, vertices; } SECTIONS[8] = {
+    {"", false, false, false, false, false, false, false, false},
+    {"BORDO", false, true, false, true, true, true, true, true},
+    {"TESTO", true, true, false, true, true, true, false, false},
+    {"SIMBOLO", true, false, true, false, true, true, false, false},
+    {"FIDUCIALE", true, true, true, false, false, true, true, false},
+    {"LINEA", true, false, true, false, false, false, false, true},
+    {"RIFERIMENTO_RASTER", false, true, false, false, false, false, false, true},
+    {"LIBRETTO", false, true, true, false, false, false, false, true},
 };
+#define RASTER_POINTS 4
 
 static bool is_digit(uint8_t b) { return b >= '0' && b <= '9'; }
 static bool is_capital(uint8_t b) { return b >= 'A' && b <= 'Z'; }
@@ -246,6 +250,7 @@ static bool listed(int64_t kind, int64_t code) {
     case SIMBOLO: return (code >= 1 && code <= 11) || (code >= 13 && code <= 16) || code == 20;
     case FIDUCIALE: return code == 8 || code == 20;
     case LINEA: return code == 1 || code == 5 || code == 6 || code == 11 || code == 12 || (code >= 29 && code <= 35);
+    case LIBRETTO: return code == 1; /* T-05: "only type 1 is listed" */
     default: return true; /* no code */
     }
 }
@@ -391,9 +396,10 @@ static bool take_rings(pass *p, int64_t *row) {
     return true;
 }
 
-/* "A line has at least 2." */
-static bool take_line(pass *p, int64_t *row) {
-    if (!take_integer(p, &row[VERTICES])) return false;
+/* "A line has at least 2." A LIBRETTO too; a RASTER has "four points, no count record". */
+static bool take_points(pass *p, int64_t *row) {
+    if (row[KIND] == RASTER) row[VERTICES] = RASTER_POINTS;
+    else if (!take_integer(p, &row[VERTICES])) return false;
     if (row[VERTICES] < 2) return refuse(p, COUNT);
     for (int64_t i = 0; i < row[VERTICES]; i++) {
         int64_t x, y;
@@ -417,8 +423,7 @@ static bool take_section(pass *p, int64_t kind, bool outside) {
     if (SECTIONS[kind].angle && !take_real(p, &row[ANGLE])) return false;
     if (SECTIONS[kind].place && (!take_real(p, &row[X]) || !take_real(p, &row[Y]))) return false;
     if (SECTIONS[kind].second && (!take_real(p, &row[SECOND_X]) || !take_real(p, &row[SECOND_Y]))) return false;
-    if (kind == BORDO && !take_rings(p, row)) return false;
-    if (kind == LINEA && !take_line(p, row)) return false;
+    if (SECTIONS[kind].vertices && !(kind == BORDO ? take_rings(p, row) : take_points(p, row))) return false;
     if (p->fill)
         for (size_t i = 0; i < ROW_WIDTH; i++) p->rows[ROW_WIDTH * p->answer.rows + i] = row[i];
     p->answer.rows++;
@@ -451,13 +456,12 @@ static bool take_keyword(pass *p, int64_t *kind, bool *outside) {
         *kind = 0;
         return true;
     }
-    for (*kind = BORDO; *kind <= LINEA; ++*kind) {
+    for (*kind = BORDO; *kind <= LAST_KIND; ++*kind) {
         *outside = false;
         if (says(p, SECTIONS[*kind].word)) return true;
-        /* "All but BORDO may carry a final `\`: outside." */
-        *outside = true;
+        *outside = true; /* "a final `\`: outside" */
         const size_t n = strlen(SECTIONS[*kind].word);
-        if (*kind != BORDO && p->length == n + 1 && memcmp(p->text, SECTIONS[*kind].word, n) == 0 && p->text[n] == '\\')
+        if (SECTIONS[*kind].outside && p->length == n + 1 && memcmp(p->text, SECTIONS[*kind].word, n) == 0 && p->text[n] == '\\')
             return true;
     }
     return refuse(p, NO_KEYWORD);
@@ -575,9 +579,9 @@ static spot after_row(const sheet *s, uint64_t row, spot at) {
 
 /* A row's twelve numbers: "A field the section lacks is 0"; the others as a file could give them. */
 static bool numbers_made(const int64_t *n) {
-    if (n[KIND] < BORDO || n[KIND] > LINEA) return false;
+    if (n[KIND] < BORDO || n[KIND] > LAST_KIND) return false;
     const int k = (int)n[KIND];
-    if (n[OUTSIDE] != 0 && (n[OUTSIDE] != 1 || k == BORDO)) return false;
+    if (n[OUTSIDE] != 0 && (n[OUTSIDE] != 1 || !SECTIONS[k].outside)) return false;
     if (SECTIONS[k].code ? !in_integer_range(n[CODE_AT]) : n[CODE_AT] != 0) return false;
     if (SECTIONS[k].size ? !in_integer_range(n[SIZE]) : n[SIZE] != 0) return false;
     if (SECTIONS[k].angle ? !in_real_range(n[ANGLE]) : n[ANGLE] != 0) return false;
@@ -589,7 +593,8 @@ static bool numbers_made(const int64_t *n) {
     if (k == BORDO ? !in_integer_range(n[ISLANDS]) : n[ISLANDS] != 0) return false;
     if (SECTIONS[k].vertices ? !in_integer_range(n[VERTICES]) : n[VERTICES] != 0) return false;
     if (k == BORDO && n[VERTICES] < 4 + 4 * n[ISLANDS]) return false;
-    if (k == LINEA && n[VERTICES] < 2) return false;
+    if ((k == LINEA || k == LIBRETTO) && n[VERTICES] < 2) return false;
+    if (k == RASTER && n[VERTICES] != RASTER_POINTS) return false;
     return true;
 }
 
@@ -685,7 +690,7 @@ static void put_row(writer *w, const sheet *s, uint64_t row, spot at) {
         put_real(w, n[SECOND_Y]);
     }
     if (k == BORDO) put_integer(w, n[ISLANDS]);
-    if (SECTIONS[k].vertices) put_integer(w, n[VERTICES]);
+    if (SECTIONS[k].vertices && k != RASTER) put_integer(w, n[VERTICES]);
     for (size_t i = 0; i < (size_t)n[ISLANDS]; i++) put_integer(w, s->islands[at.islands + i]);
     for (size_t i = 0; i < (size_t)n[VERTICES]; i++) {
         put_real(w, point_x(s, at.points + i));

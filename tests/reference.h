@@ -68,6 +68,9 @@ DECLARE_SUP(ref)
 uint64_t cxf_interface(void);
 #endif
 
+/* T-05: kinds 6 and 7 */
+enum { LAST_KIND = 7 };
+
 #define DECLARE_MASK(P) cxf_mask P##_mask_of(CXF_SHEET, uint64_t row, int64_t corner_x, int64_t corner_y, int64_t cell);
 
 #ifndef STRUCTS_ALONE

@@ -10,7 +10,7 @@ use Rattle.heading.specs.declared.Header.{Header}
 use Rattle.sheet.specs.Tables.{Tables}
 use Rattle.made.specs.declared.Verdict.the-variants.{BadHeader, Faulty}
 use Rattle.made.specs.Made.{tablesOf}
-use Rattle.made.specs.Examples.{header, labelled, ring}
+use Rattle.made.specs.Examples.{header, labelled, raster, book, ring}
 use Rattle.row.specs.Examples.{computed as computedSought}
 use Rattle.classes.specs.declared.Class.the-variants.{Building}
 use Rattle.classes.specs.Examples.{computed as computedClass}
@@ -46,6 +46,16 @@ surface = (refl, refl)
 pub both : (said 2 0 3 "(7)" ≡ record { surface = true; centroid = true }) × (said 1 0 3 "(7)" ≡ record { surface = false; centroid = false })
 unfolding said
 both = (refl, refl)
+
+-- a raster's row and a survey book's are any other row: no border, and neither as a text, whatever their letters
+abbrev rasterSheet : Tables
+rasterSheet = tablesOf (raster 0 0 4 ++ book 0 1 2) (text "77") [] (ring 0 ++ ring 0)
+
+pub other-rows : (said 6 0 3 "(7)" ≡ record { surface = false; centroid = false }) × (said 7 0 3 "(7)" ≡ record { surface = false; centroid = false })
+    × (borderAt (header 1) 2 rasterSheet 0 ≡ Border.Missing) × (borderAt (header 1) 2 rasterSheet 1 ≡ Border.Missing)
+    × (textAt (header 1) 2 rasterSheet 0 ≡ Told.Is (record { surface = false; centroid = false }))
+unfolding said computed
+other-rows = (refl, refl, refl, refl, refl)
 
 -- ---- a sheet of a text `(7)`, a border `8+` whose numbers all differ, and a text `9` of size 0
 

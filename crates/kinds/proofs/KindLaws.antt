@@ -14,7 +14,8 @@ use Rattle.laws.specs.Lists.{all, below, holds, same, packed, packedAt}
 use Rattle.laws.proofs.Choice.{and-left, and-right, cond-elim}
 use Rattle.laws.proofs.ListLaws.{below-at, values, values-at}
 use Rattle.laws.proofs.Packed.{packed-from, packed-to, packed-is}
-use Rattle.kinds.specs.Kinds.{rowWidth, schedule, nextIn, nextOf, codes, isListed}
+use Rattle.token.specs.Lex.{kindMost}
+use Rattle.kinds.specs.Kinds.{rowWidth, schedule, nextIn, nextOf, fixed, fixedVertices, codes, isListed}
 
 -- what holds of 0 and of every place of a list holds of the next place
 next-in : (P : ℕ → Bool) (p : ℕ) (qs : List ℕ) → P 0 ≡ true → all P qs ≡ true → P (nextIn p qs) ≡ true
@@ -31,7 +32,7 @@ next-in P p (q ∷ qs) z e =
 
 -- the rows of each table
 abbrev kinds : ℕ
-kinds = 6
+kinds = kindMost + 1
 
 fields-test : (P : ℕ → Bool) → ℕ → Bool
 fields-test P kind = all P (getD schedule kind [])
@@ -40,9 +41,9 @@ fields-all : (P : ℕ → Bool) → below kinds (fields-test P) ≡ true → (ki
 unfolding fields-test all schedule
 fields-all P e kind = go (ltb kind kinds) refl
   where
-    go : (x : Bool) → ltb kind 6 ≡ x → all P (getD schedule kind []) ≡ true
-    go true f = below-at 6 (fields-test P) kind e (ltb-true kind 6 f)
-    go false f = rw (List·getD-eq-default schedule [] {n = kind} (ltb-false kind 6 f))
+    go : (x : Bool) → ltb kind kinds ≡ x → all P (getD schedule kind []) ≡ true
+    go true f = below-at kinds (fields-test P) kind e (ltb-true kind kinds f)
+    go false f = rw (List·getD-eq-default schedule [] {n = kind} (ltb-false kind kinds f))
 
 -- what holds of 0 and of every place of the schedule holds of the next field
 next-rule : (P : ℕ → Bool) → P 0 ≡ true → below kinds (fields-test P) ≡ true → (kind p : ℕ) → P (nextOf kind p) ≡ true
@@ -66,14 +67,14 @@ most-all = fields-all most11 refl
 unfoldable pub nextTable : List (List ℕ)
 nextTable = values (λ (kind : ℕ). values (nextOf kind) rowWidth) kinds
 
-pub next-at : (kind p n : ℕ) → kind ≤ 5 → p < rowWidth → n ≡ getD (getD nextTable kind []) p 0 → n ≡ nextOf kind p
+pub next-at : (kind p n : ℕ) → kind ≤ kindMost → p < rowWidth → n ≡ getD (getD nextTable kind []) p 0 → n ≡ nextOf kind p
 unfolding nextTable
 next-at kind p n h k e =
     e
     ∙ ap (λ (row : List ℕ). getD row p 0) (values-at (λ (kind : ℕ). values (nextOf kind) rowWidth) kinds kind [] (omega arith))
     ∙ values-at (nextOf kind) rowWidth p 0 k
 
-pub next-no-kind : (kind p : ℕ) → 5 < kind → 0 ≡ nextOf kind p
+pub next-no-kind : (kind p : ℕ) → kindMost < kind → 0 ≡ nextOf kind p
 unfolding nextOf nextIn schedule
 next-no-kind kind p h =
     rw (List·getD-eq-default schedule [] {n = kind} h) (cond-elim (λ (n : ℕ). 0 ≡ n) (eqb 0 p) _ _ (λ _. refl) (λ _. refl))
@@ -89,35 +90,41 @@ pub next-no-place : (kind p : ℕ) → 12 ≤ p → 0 ≡ nextOf kind p
 unfolding nextOf all most11
 next-no-place kind p h = sym (past p (0 ∷ getD schedule kind []) h (most-all kind))
 
+-- ---- the vertices that are not counted
+
+pub fixed-none : (kind : ℕ) → kindMost < kind → 0 ≡ fixedVertices kind
+unfolding fixedVertices fixed
+fixed-none kind h = rw (List·getD-eq-default fixed 0 {n = kind} h)
+
 -- ---- the code's tables of the listed codes: one list behind the other, and where each begins
 
 unfoldable pub codeTable : List ℕ
 codeTable = flatten codes
 
 unfoldable pub codeStarts : List ℕ
-codeStarts = values (λ (k : ℕ). length (flatten (take k codes))) 7
+codeStarts = values (λ (k : ℕ). length (flatten (take k codes))) (kinds + 1)
 
 codes-packed : packed codeTable codeStarts codes ≡ true
 unfolding codeTable codeStarts packed packedAt below same values codes flatten
 codes-packed = refl
 
-module _ (kind : ℕ) (h : kind ≤ 5) where
-  six : kind < length codes
+module _ (kind : ℕ) (h : kind ≤ kindMost) where
+  a-list : kind < length codes
   unfolding codes
-  six = omega arith
+  a-list = omega arith
 
   pub codes-from : getD codeStarts kind 0 ≤ getD codeStarts (kind + 1) 0
-  codes-from = packed-from codeTable codeStarts codes codes-packed kind six
+  codes-from = packed-from codeTable codeStarts codes codes-packed kind a-list
 
   pub codes-to : getD codeStarts (kind + 1) 0 ≤ length codeTable
-  codes-to = packed-to codeTable codeStarts codes codes-packed kind six
+  codes-to = packed-to codeTable codeStarts codes codes-packed kind a-list
 
   pub codes-are : (code : ℕ) (r : Bool)
       → r ≡ holds (take (getD codeStarts (kind + 1) 0 - getD codeStarts kind 0) (drop (getD codeStarts kind 0) codeTable)) code → r ≡ isListed kind code
   unfolding isListed
-  codes-are code r e = e ∙ ap (λ (l : List ℕ). holds l code) (packed-is codeTable codeStarts codes codes-packed kind six)
+  codes-are code r e = e ∙ ap (λ (l : List ℕ). holds l code) (packed-is codeTable codeStarts codes codes-packed kind a-list)
 
-pub codes-none : (kind code : ℕ) → 5 < kind → false ≡ isListed kind code
+pub codes-none : (kind code : ℕ) → kindMost < kind → false ≡ isListed kind code
 unfolding isListed codes holds
 codes-none kind code h = rw (List·getD-eq-default codes [] {n = kind} h)
 
@@ -127,31 +134,31 @@ unfoldable pub fieldTable : List ℕ
 fieldTable = flatten schedule
 
 unfoldable pub fieldStarts : List ℕ
-fieldStarts = values (λ (k : ℕ). length (flatten (take k schedule))) 7
+fieldStarts = values (λ (k : ℕ). length (flatten (take k schedule))) (kinds + 1)
 
 fields-packed : packed fieldTable fieldStarts schedule ≡ true
 unfolding fieldTable fieldStarts packed packedAt below same values schedule flatten
 fields-packed = refl
 
-module _ (kind : ℕ) (h : kind ≤ 5) where
+module _ (kind : ℕ) (h : kind ≤ kindMost) where
   abbrev from : ℕ
   from = getD fieldStarts kind 0
 
   abbrev to : ℕ
   to = getD fieldStarts (kind + 1) 0
 
-  six-kinds : kind < length schedule
+  a-schedule : kind < length schedule
   unfolding schedule
-  six-kinds = omega arith
+  a-schedule = omega arith
 
   pub fields-from : from ≤ to
-  fields-from = packed-from fieldTable fieldStarts schedule fields-packed kind six-kinds
+  fields-from = packed-from fieldTable fieldStarts schedule fields-packed kind a-schedule
 
   pub fields-to : to ≤ length fieldTable
-  fields-to = packed-to fieldTable fieldStarts schedule fields-packed kind six-kinds
+  fields-to = packed-to fieldTable fieldStarts schedule fields-packed kind a-schedule
 
   fields-are : take (to - from) (drop from fieldTable) ≡ getD schedule kind []
-  fields-are = packed-is fieldTable fieldStarts schedule fields-packed kind six-kinds
+  fields-are = packed-is fieldTable fieldStarts schedule fields-packed kind a-schedule
 
   pub field-in : (place : ℕ) (r : Bool) → r ≡ holds (take (to - from) (drop from fieldTable)) place → r ≡ holds (getD schedule kind []) place
   field-in place r e = e ∙ ap (λ (l : List ℕ). holds l place) fields-are
@@ -172,7 +179,7 @@ module _ (kind : ℕ) (h : kind ≤ 5) where
         let l = length-take (to - from) (drop from fieldTable) in
         sym (rw (← fields-are) (List·getD-eq-default (take (to - from) (drop from fieldTable)) 0 {n = j} (omega arith)))
 
-module _ (kind : ℕ) (h : 5 < kind) where
+module _ (kind : ℕ) (h : kindMost < kind) where
   pub field-no-kind : (place : ℕ) → false ≡ holds (getD schedule kind []) place
   unfolding schedule holds
   field-no-kind place = rw (List·getD-eq-default schedule [] {n = kind} h)

@@ -1,16 +1,18 @@
 -- Each kind's records and listed codes, computed: document 01's table of sections. Assumes nothing.
-use Prim.Native.Nat.{ℕ}
+use Prim.Native.Nat.{ℕ, _+_}
 use mathlib.Core.Path.{_≡_, refl}
 use mathlib.Core.List.{List, [], _∷_, map}
 use mathlib.Core.Bool.{Bool, true, false}
+use lib.ListN.{length}
 use Rattle.laws.specs.Lists.{holds}
+use Rattle.token.specs.Lex.{kindMost}
 use Rattle.token.specs.declared.Want.{Want}
 use Rattle.token.specs.declared.Want.the-variants.{Text, Int, Real}
-use Rattle.kinds.specs.Kinds.{codePlace, sizePlace, anglePlace, xPlace, yPlace, x2Place, y2Place, lettersPlace, islandsPlace, verticesPlace, wantAt, schedule, nextIn, nextOf, codes, isListed}
+use Rattle.kinds.specs.Kinds.{codePlace, sizePlace, anglePlace, xPlace, yPlace, x2Place, y2Place, lettersPlace, islandsPlace, verticesPlace, wantAt, schedule, nextIn, nextOf, fixed, fixedVertices, unsaid, codes, isListed}
 
 -- the definitions opened, so that they compute
 unfoldable pub computed : ℕ → ℕ → ℕ × (Want × Bool)
-unfolding nextOf nextIn schedule wantAt isListed codes holds
+unfolding nextOf nextIn schedule wantAt isListed codes holds fixedVertices fixed unsaid
 computed kind n = (nextOf kind n, (wantAt n, isListed kind n))
 
 -- what follows each of the places, and what each of the codes is
@@ -43,10 +45,27 @@ fiducial-fields : follows 4 (0 ∷ lettersPlace ∷ codePlace ∷ xPlace ∷ yPl
 unfolding follows
 fiducial-fields = refl
 
--- LINEA: code, vertices; there is no kind 0 and none after 5
-line-fields : (follows 5 (0 ∷ codePlace ∷ verticesPlace ∷ []) ≡ codePlace ∷ verticesPlace ∷ 0 ∷ []) × (follows 0 (0 ∷ []) ≡ 0 ∷ []) × (follows 6 (0 ∷ []) ≡ 0 ∷ [])
+-- LINEA: code, vertices
+line-fields : follows 5 (0 ∷ codePlace ∷ verticesPlace ∷ []) ≡ codePlace ∷ verticesPlace ∷ 0 ∷ []
 unfolding follows
-line-fields = (refl, refl, refl)
+line-fields = refl
+
+-- RIFERIMENTO_RASTER: letters; LIBRETTO: letters, code, vertices; there is no kind 0 and none after 7
+raster-fields : (follows 6 (0 ∷ lettersPlace ∷ []) ≡ lettersPlace ∷ 0 ∷ []) × (follows 7 (0 ∷ lettersPlace ∷ codePlace ∷ verticesPlace ∷ []) ≡ lettersPlace ∷ codePlace ∷ verticesPlace ∷ 0 ∷ [])
+    × (follows 0 (0 ∷ []) ≡ 0 ∷ []) × (follows 8 (0 ∷ []) ≡ 0 ∷ [])
+unfolding follows
+raster-fields = (refl, refl, refl, refl)
+
+-- a raster has four points and no record that counts them; no other kind, and nothing else in its row, is given so
+raster-vertices : (map fixedVertices (0 ∷ 1 ∷ 2 ∷ 3 ∷ 4 ∷ 5 ∷ 6 ∷ 7 ∷ 8 ∷ []) ≡ 0 ∷ 0 ∷ 0 ∷ 0 ∷ 0 ∷ 0 ∷ 4 ∷ 0 ∷ 0 ∷ [])
+    × (map (unsaid 6) (codePlace ∷ sizePlace ∷ xPlace ∷ islandsPlace ∷ verticesPlace ∷ []) ≡ 0 ∷ 0 ∷ 0 ∷ 0 ∷ 4 ∷ []) × (unsaid 7 verticesPlace ≡ 0)
+unfolding computed
+raster-vertices = (refl, refl, refl)
+
+-- each table has a row for every kind
+rows-of-tables : (length schedule ≡ kindMost + 1) × (length codes ≡ kindMost + 1) × (length fixed ≡ kindMost + 1)
+unfolding computed
+rows-of-tables = (refl, refl, refl)
 
 -- letters are text; angle and coordinates are reals; code, size, islands and vertices integers
 wanted : map wantAt (codePlace ∷ sizePlace ∷ anglePlace ∷ xPlace ∷ yPlace ∷ x2Place ∷ y2Place ∷ lettersPlace ∷ islandsPlace ∷ verticesPlace ∷ [])
@@ -69,3 +88,8 @@ line-codes : listed 5 (0 ∷ 1 ∷ 2 ∷ 4 ∷ 5 ∷ 6 ∷ 7 ∷ 10 ∷ 11 ∷ 1
     ≡ false ∷ true ∷ false ∷ false ∷ true ∷ true ∷ false ∷ false ∷ true ∷ true ∷ false ∷ false ∷ true ∷ true ∷ false ∷ []
 unfolding listed
 line-codes = refl
+
+-- a survey book's lines 1 alone; a raster has no code
+book-codes : (listed 7 (0 ∷ 1 ∷ 2 ∷ 5 ∷ []) ≡ false ∷ true ∷ false ∷ false ∷ []) × (listed 6 (0 ∷ 1 ∷ []) ≡ false ∷ false ∷ [])
+unfolding listed
+book-codes = (refl, refl)

@@ -1,4 +1,4 @@
--- The sections: document 01's table of the records after each keyword, and its listed codes. Assumes nothing: these are definitions.
+-- The sections: document 01's table of the records after each keyword, and its listed codes; T-05's two sections of scanned sheets. Assumes nothing: these are definitions.
 -- A kind is a row of each table here, from 1; its index 0 is empty.
 use Prim.Native.Nat.{ℕ}
 use mathlib.Core.List.{List, [], _∷_}
@@ -56,7 +56,9 @@ schedule =
     (lettersPlace ∷ sizePlace ∷ anglePlace ∷ xPlace ∷ yPlace ∷ []) ∷
     (codePlace ∷ anglePlace ∷ xPlace ∷ yPlace ∷ []) ∷
     (lettersPlace ∷ codePlace ∷ xPlace ∷ yPlace ∷ x2Place ∷ y2Place ∷ []) ∷
-    (codePlace ∷ verticesPlace ∷ []) ∷ []
+    (codePlace ∷ verticesPlace ∷ []) ∷
+    (lettersPlace ∷ []) ∷
+    (lettersPlace ∷ codePlace ∷ verticesPlace ∷ []) ∷ []
 
 -- the place that stands after p, 0 after the last
 unfoldable pub nextIn : ℕ → List ℕ → ℕ
@@ -67,13 +69,26 @@ nextIn p (q ∷ qs) = cond (eqb q p) (getD qs 0 0) (nextIn p qs)
 unfoldable pub nextOf : ℕ → ℕ → ℕ
 nextOf kind p = nextIn p (0 ∷ getD schedule kind [])
 
--- listed codes: symbols 1-11, 13-16, 20; fiducials 8, 20; lines 1, 5, 6, 11, 12, 29-35
+-- the vertices of a section that has points and no record of their count, else 0: a raster has four
+unfoldable pub fixed : List ℕ
+fixed = 0 ∷ 0 ∷ 0 ∷ 0 ∷ 0 ∷ 0 ∷ 4 ∷ 0 ∷ []
+
+unfoldable pub fixedVertices : ℕ → ℕ
+fixedVertices kind = getD fixed kind 0
+
+-- what a row has at a place for which its section has no record: 0, or those vertices
+unfoldable pub unsaid : ℕ → ℕ → ℕ
+unsaid kind p = cond (eqb p verticesPlace) (fixedVertices kind) 0
+
+-- listed codes: symbols 1-11, 13-16, 20; fiducials 8, 20; lines 1, 5, 6, 11, 12, 29-35; a survey book's lines 1
 unfoldable pub codes : List (List ℕ)
 codes =
     [] ∷ [] ∷ [] ∷
     (1 ∷ 2 ∷ 3 ∷ 4 ∷ 5 ∷ 6 ∷ 7 ∷ 8 ∷ 9 ∷ 10 ∷ 11 ∷ 13 ∷ 14 ∷ 15 ∷ 16 ∷ 20 ∷ []) ∷
     (8 ∷ 20 ∷ []) ∷
-    (1 ∷ 5 ∷ 6 ∷ 11 ∷ 12 ∷ 29 ∷ 30 ∷ 31 ∷ 32 ∷ 33 ∷ 34 ∷ 35 ∷ []) ∷ []
+    (1 ∷ 5 ∷ 6 ∷ 11 ∷ 12 ∷ 29 ∷ 30 ∷ 31 ∷ 32 ∷ 33 ∷ 34 ∷ 35 ∷ []) ∷
+    [] ∷
+    (1 ∷ []) ∷ []
 
 unfoldable pub isListed : ℕ → ℕ → Bool
 isListed kind code = holds (getD codes kind []) code

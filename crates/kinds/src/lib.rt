@@ -4,10 +4,11 @@ ghost use mathlib.Core.Path.{_≡_};
 ghost use mathlib.Core.List.{[]};
 ghost use lib.ListN.{getD};
 ghost use Rattle.laws.specs.Lists.{holds};
-ghost use Rattle.kinds.specs.Kinds.{schedule, nextOf, isListed, wantAt};
+ghost use Rattle.kinds.specs.Kinds.{schedule, nextOf, fixedVertices, isListed, wantAt};
 use token::Want;
 
-const KINDS: usize = 5;
+// How many kinds there are.
+const KINDS: usize = 7;
 
 const PLACES: usize = 12;
 
@@ -19,7 +20,7 @@ const SECOND_Y_PLACE: usize = 8;
 const LETTERS_PLACE: usize = 9;
 
 // The listed codes by kind, from 0, and where each kind's begin.
-const CODES: [u8; 30] = [
+const CODES: [u8; 31] = [
     1,
     2,
     3,
@@ -50,12 +51,13 @@ const CODES: [u8; 30] = [
     33,
     34,
     35,
+    1,
 ];
 
-const CODE_STARTS: [usize; 7] = [0, 0, 0, 0, 16, 18, 30];
+const CODE_STARTS: [usize; 9] = [0, 0, 0, 0, 16, 18, 30, 30, 31];
 
 // The fields of each kind as places of its row, in the file's order, from 0, and where each kind's begin.
-const FIELDS: [u8; 26] = [
+const FIELDS: [u8; 30] = [
     9,
     3,
     4,
@@ -82,19 +84,28 @@ const FIELDS: [u8; 26] = [
     8,
     2,
     11,
+    9,
+    9,
+    2,
+    11,
 ];
 
-const FIELD_STARTS: [usize; 7] = [0, 0, 9, 14, 18, 24, 26];
+const FIELD_STARTS: [usize; 9] = [0, 0, 9, 14, 18, 24, 26, 27, 30];
 
 // By kind, from 0, the place that follows each place of a row in the file; at 0 the first, and 0 after the last.
-const NEXT: [[u8; PLACES]; 6] = [
+const NEXT: [[u8; PLACES]; 8] = [
     [0, 0, 0, 0, 0, 0, 0, 0, 0, 0, 0, 0],
     [9, 0, 0, 4, 5, 6, 7, 8, 10, 3, 11, 0],
     [9, 0, 0, 4, 5, 6, 0, 0, 0, 3, 0, 0],
     [2, 0, 4, 0, 5, 6, 0, 0, 0, 0, 0, 0],
     [9, 0, 5, 0, 0, 6, 7, 8, 0, 2, 0, 0],
     [2, 0, 11, 0, 0, 0, 0, 0, 0, 0, 0, 0],
+    [9, 0, 0, 0, 0, 0, 0, 0, 0, 0, 0, 0],
+    [9, 0, 11, 0, 0, 0, 0, 0, 0, 2, 0, 0],
 ];
+
+// By kind, from 0, the vertices of a section that has no record of their count.
+const FIXED: [u8; 8] = [0, 0, 0, 0, 0, 0, 4, 0];
 
 fn wide(b: u8) -> usize
     ensures { λ r. ⌜ r ≡ b ⌝ }
@@ -113,6 +124,16 @@ pub fn next_field(kind: usize, place: usize) -> usize
         return 0;
     }
     wide(NEXT[kind][place])
+}
+
+// The vertices of a section that has points and no record of their count, or 0.
+pub fn fixed_vertices(kind: usize) -> usize
+    ensures { λ r. ⌜ r ≡ fixedVertices kind ⌝ }
+{
+    if kind > KINDS {
+        return 0;
+    }
+    wide(FIXED[kind])
 }
 
 // One of the bytes is n.

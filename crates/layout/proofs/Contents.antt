@@ -1,5 +1,5 @@
 -- The contents that a writer gives are read as what they spell, in either mode. Assumes nothing.
-use Prim.Native.Nat.{ℕ, _-_, _≤_, _<_}
+use Prim.Native.Nat.{ℕ, _+_, _-_, _≤_}
 use mathlib.Core.Path.{_≡_, refl, sym, subst}
 use mathlib.Core.List.{List, [], _∷_, _++_, append-assoc}
 use mathlib.Core.Bool.{Bool, true, false, not, _&&_, _||_}
@@ -24,7 +24,7 @@ use Rattle.token.specs.declared.Token.the-variants.{Say}
 use Rattle.token.specs.declared.Want.{Want}
 use Rattle.token.specs.declared.Want.the-variants.{Key, Text, Int, Real}
 use Rattle.token.specs.Lex.{lift, keywords, mayLieOutside, isKey, keyText, lexOf}
-use Rattle.token.proofs.TokenLaws.{key-spelt}
+use Rattle.token.proofs.TokenLaws.{keyMost, key-spelt}
 use Rattle.machine.specs.declared.State.{State}
 use Rattle.machine.specs.declared.Step.the-variants.{Go}
 use Rattle.machine.specs.Machine.{wantOf, stepOf}
@@ -64,13 +64,13 @@ letters-read s p some few first last =
 abbrev isShort : ℕ → Bool
 isShort t = not (isKey t) || all plain (keyText t) && leb (length (keyText t)) 255
 
-all-short : below 12 isShort ≡ true
+all-short : below (keyMost + 1) isShort ≡ true
 unfolding below isKey keyText mayLieOutside keywords all
 all-short = refl
 
-pub key-reads : (t : ℕ) → t < 12 → isKey t ≡ true → Reads Key (keyText t) t
+pub key-reads : (t : ℕ) → t ≤ keyMost → isKey t ≡ true → Reads Key (keyText t) t
 key-reads t l h =
-    let s = rw h at (below-at 12 isShort t all-short l) in
+    let s = rw h at (below-at (keyMost + 1) isShort t all-short (omega arith)) in
     record {
       good = and-left (all plain (keyText t)) (leb (length (keyText t)) 255) s;
       most = leb-true (length (keyText t)) 255 (and-right (all plain (keyText t)) (leb (length (keyText t)) 255) s);

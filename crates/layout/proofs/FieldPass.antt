@@ -22,17 +22,18 @@ use Rattle.number.specs.Words.{blank, trimmed}
 use Rattle.number.proofs.WordLaws.{untrimmed}
 use Rattle.token.specs.declared.Want.{Want}
 use Rattle.token.specs.declared.Want.the-variants.{Key, Text, Int, Real}
-use Rattle.token.specs.Lex.{lift}
+use Rattle.token.specs.Lex.{kindMost, lift}
 use Rattle.token.proofs.TokenLaws.{lift-unlift}
 use Rattle.machine.specs.declared.State.{State}
 use Rattle.machine.specs.declared.State.the-variants.{Due, Field, Island, X}
 use Rattle.machine.specs.declared.Step.the-variants.{Go}
-use Rattle.kinds.specs.Kinds.{schedule, nextIn, nextOf, isListed, wantAt}
-use Rattle.machine.specs.Machine.{wantOf, freshRing, verticesOf, fieldOf, stepOf}
+use Rattle.kinds.specs.Kinds.{schedule, nextIn, nextOf, fixedVertices, unsaid, isListed, wantAt}
+use Rattle.machine.specs.Machine.{wantOf, freshRing, verticesOf, fieldsEnd, fieldOf, stepOf}
 use Rattle.sheet.specs.Tables.{Tables, cellOf, setLast, put}
 use Rattle.sheet.proofs.Pass.{Pass, done}
 use Rattle.made.specs.Made.{cellAt, natOf, countAt, kindOf, lettersOf, sum, fourAtLeast, inRange, hasField, isCell, areLetters, areCounts, isCoded}
 use Rattle.layout.specs.Sheet.{fieldText, fieldsText}
+use Rattle.layout.proofs.ScheduleLaws.{bare-kind, fixed-enough}
 use Rattle.layout.proofs.RingPass.{go-cond}
 use Rattle.layout.proofs.Contents.{Reads, integer-reads, real-reads, letters-read, line-pass}
 
@@ -48,9 +49,13 @@ partly t ps = record { rows = values (cellDue t ps) 12; letters = cond (holds ps
 abbrev pub islandsDue : Tables → List ℕ → ℕ
 islandsDue t ps = cond (holds ps 10) 0 (countAt t 10)
 
+-- a kind has points: its section counts them, or has so many
+abbrev pub hasPoints : ℕ → Bool
+hasPoints kind = hasField kind 11 || not (eqb (fixedVertices kind) 0)
+
 -- the state behind the fields
 abbrev pub behind : ℕ → ℕ → ℕ → State
-behind kind i v = cond (hasField kind 11) (cond (eqb kind 1) (cond (eqb i 0) (X (freshRing true 0 v)) (Island i v i)) (X (freshRing false 0 v))) Due
+behind kind i v = cond (hasPoints kind) (cond (eqb kind 1) (cond (eqb i 0) (X (freshRing true 0 v)) (Island i v i)) (X (freshRing false 0 v))) Due
 
 abbrev pub stateAt : Tables → List ℕ → State
 stateAt t [] = behind (kindOf t) (countAt t 10) (countAt t 11)
@@ -106,7 +111,7 @@ isWalk kind ps =
 isScheduled : ℕ → Bool
 isScheduled kind = eqb kind 0 || isWalk kind (getD schedule kind [])
 
-all-scheduled : below 6 isScheduled ≡ true
+all-scheduled : below (kindMost + 1) isScheduled ≡ true
 unfolding below isScheduled walks hasField holds nextOf nextIn schedule
 all-scheduled = refl
 
@@ -118,7 +123,7 @@ pub record Scheduled (kind : ℕ) (ps : List ℕ) : Type 0 where
   pub some : getD ps 0 0 ≡ 0 → ⊥
   pub border : (eqb kind 1 || not (hasField kind 10)) ≡ true
 
-pub scheduled : (kind : ℕ) → 1 ≤ kind → kind ≤ 5 → Scheduled kind (getD schedule kind [])
+pub scheduled : (kind : ℕ) → 1 ≤ kind → kind ≤ kindMost → Scheduled kind (getD schedule kind [])
 unfolding isScheduled
 scheduled kind l h =
     let ps = getD schedule kind [] in
@@ -128,7 +133,7 @@ scheduled kind l h =
     let d = eqb (nextOf kind 0) (getD ps 0 0) in
     let f = not (eqb (getD ps 0 0) 0) in
     let g = eqb kind 1 || not (hasField kind 10) in
-    let e₆ = rw (ne-eqb kind 0 (λ z. omega arith)) at (below-at 6 isScheduled kind all-scheduled (omega arith)) in
+    let e₆ = rw (ne-eqb kind 0 (λ z. omega arith)) at (below-at (kindMost + 1) isScheduled kind all-scheduled (omega arith)) in
     let e₅ = and-left (a && b && c && d && f) g e₆ in
     let e₄ = and-left (a && b && c && d) f e₅ in
     let e₃ = and-left (a && b && c) d e₄ in
@@ -232,10 +237,10 @@ module _ (mode : Mode) (t : Tables) (cells : (p : ℕ) → p < 12 → isCell (ki
   unfolding isCell
   field-in p l h e = rw (ne-eqb p 0 (λ z. omega arith), ne-eqb p 1 (λ z. omega arith), e) at (cells p (omega arith))
 
-  -- a field that the kind lacks is 0
-  pub field-none : (p : ℕ) → 2 ≤ p → p ≤ 11 → hasField (kindOf t) p ≡ false → cellAt t p ≡ pos 0
+  -- a field that the kind lacks is as its section leaves it
+  pub field-none : (p : ℕ) → 2 ≤ p → p ≤ 11 → hasField (kindOf t) p ≡ false → cellAt t p ≡ pos (unsaid (kindOf t) p)
   unfolding isCell
-  field-none p l h e = eqZ-same (cellAt t p) (pos 0) (rw (ne-eqb p 0 (λ z. omega arith), ne-eqb p 1 (λ z. omega arith), e) at (cells p (omega arith)))
+  field-none p l h e = eqZ-same (cellAt t p) (pos (unsaid (kindOf t) p)) (rw (ne-eqb p 0 (λ z. omega arith), ne-eqb p 1 (λ z. omega arith), e) at (cells p (omega arith)))
 
   field-reads : (p : ℕ) (w : Want) → wantAt p ≡ w → inRange w (cellAt t p) ≡ true → Reads w (fieldText t p w) (tokenOf w (cellAt t p))
   unfolding inRange
@@ -327,20 +332,37 @@ module _ (mode : Mode) (t : Tables) (cells : (p : ℕ) → p < 12 → isCell (ki
           rw (e, q, le-leb (4 + 4 * countAt t 10) (countAt t 11) (b .enough)) (go-cond (eqb (countAt t 10) 0) (X (freshRing true 0 (countAt t 11))) (Island (countAt t 10) (countAt t 11) (countAt t 10)))
       go false q = rw (e, q, le-leb 2 (countAt t 11) (line-is (kindOf t) (countAt t 10) (countAt t 11) (t .islands) q e counts))
 
+  kind-low : kindOf t ≤ kindMost
+  unfolding isCell
+  kind-low = counted 1 kindMost (cellAt t 0) (cells 0 (omega arith)) .2
+
+  -- and so does the last field of a section that has points and does not count them
+  end-on : hasField (kindOf t) 11 ≡ false → fieldsEnd (kindOf t) ≡ Go (behind (kindOf t) (countAt t 10) (countAt t 11))
+  unfolding fieldsEnd verticesOf unsaid
+  end-on e = go (eqb (fixedVertices (kindOf t)) 0) refl
+    where
+      go : (x : Bool) → eqb (fixedVertices (kindOf t)) 0 ≡ x
+          → cond x (Go Due) (verticesOf (kindOf t) 0 (fixedVertices (kindOf t))) ≡ Go (behind (kindOf t) (countAt t 10) (countAt t 11))
+      go true q = rw (e, q)
+      go false q =
+          let v : countAt t 11 ≡ fixedVertices (kindOf t) = ap natOf (field-none 11 (omega arith) (omega arith) e) in
+          let l = fixed-enough (kindOf t) kind-low (eqb-false (fixedVertices (kindOf t)) 0 q) in
+          rw (e, q, bare-kind (kindOf t) e, v, le-leb 2 (fixedVertices (kindOf t)) l)
+
   field-on : (p : ℕ) (ps : List ℕ) → Place (kindOf t) p ps → (n : ℕ) → (p ≡ 2 → n ≡ countAt t 2) → (p ≡ 10 → n ≡ countAt t 10) → (p ≡ 11 → n ≡ countAt t 11)
       → fieldOf mode (kindOf t) p (islandsDue t (p ∷ ps)) n ≡ Go (stateAt t ps)
   unfolding fieldOf holds
   field-on p [] h n f g k = rw (code-passes p [] h n f) (go (eqb p 11) refl)
     where
       go : (x : Bool) → eqb p 11 ≡ x
-          → cond x (verticesOf (kindOf t) (islandsDue t (p ∷ [])) n) (cond (eqb (nextOf (kindOf t) p) 0) (Go Due) (Go (Field (kindOf t) (nextOf (kindOf t) p) (cond (eqb p 10) n (islandsDue t (p ∷ []))))))
+          → cond x (verticesOf (kindOf t) (islandsDue t (p ∷ [])) n) (cond (eqb (nextOf (kindOf t) p) 0) (fieldsEnd (kindOf t)) (Go (Field (kindOf t) (nextOf (kindOf t) p) (cond (eqb p 10) n (islandsDue t (p ∷ []))))))
           ≡ Go (stateAt t [])
       go true e =
           let q : p ≡ 11 = eqb-true p 11 e in
           rw (k q, q) (vertices-on (rw q at (h .has)))
       go false e =
           let none : hasField (kindOf t) 11 ≡ false = not-true (hasField (kindOf t) 11) (rw e at (h .last)) in
-          rw (h .next, none)
+          rw (h .next) (end-on none)
   field-on p (q ∷ qs) h n f g k =
       let a = and-left (not (eqb p 11)) (not (eqb q 0)) (h .last) in
       let b = and-right (not (eqb p 11)) (not (eqb q 0)) (h .last) in

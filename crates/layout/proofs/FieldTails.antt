@@ -20,18 +20,18 @@ use Rattle.number.specs.Words.{trimmed}
 use Rattle.number.proofs.WordLaws.{trimmed-first, trimmed-last, trimmed-plain}
 use Rattle.token.specs.declared.Token.the-variants.{Say}
 use Rattle.token.specs.Lex.{lexOf}
-use Rattle.kinds.specs.Kinds.{schedule, nextOf, isListed, wantAt}
-use Rattle.machine.specs.Machine.{freshRing, verticesOf, fieldOf}
-use Rattle.machine.specs.declared.State.the-variants.{Due, Field}
+use Rattle.kinds.specs.Kinds.{nextOf, fixedVertices, unsaid, isListed, wantAt}
+use Rattle.machine.specs.Machine.{freshRing, verticesOf, fieldsEnd, fieldOf}
+use Rattle.machine.specs.declared.State.the-variants.{Field}
 use Rattle.machine.specs.declared.Step.{Step}
 use Rattle.machine.specs.declared.Step.the-variants.{Go, No, End}
 use Rattle.kinds.proofs.KindLaws.{next-most}
 use Rattle.sheet.specs.Tables.{Tables, cellOf, setLast, put}
 use Rattle.made.specs.Made.{cellAt, countAt, natOf, hasField, sum, fourAtLeast, areCounts, areReals, areClosed, isClosed, ringSizes, arePoints}
 use Rattle.layout.specs.Sheet.{line, fieldText, fieldsText, integersText, realsText}
-use Rattle.layout.proofs.ScheduleLaws.{ahead, ahead-step, ahead-once, next-field, ahead-end, vertices-last, line-islands, bare-end}
+use Rattle.layout.proofs.ScheduleLaws.{ahead, ahead-step, ahead-once, next-field, ahead-end, vertices-last, line-islands, bare-end, bare-kind}
 use Rattle.layout.proofs.TokenSays.{field-ranged, field-spelt, text-says, line-spelt}
-use Rattle.layout.proofs.Tails.{sizesLeft, closing, PointsTail, IslandsTail, Lettered, Body, Zeros, FieldsTail, AtField, StepTail}
+use Rattle.layout.proofs.Tails.{sizesLeft, closing, PointsTail, IslandsTail, Lettered, Body, Lacking, FieldsTail, AtField, StepTail}
 
 -- one of two numbers, or another
 by-cases : {A : Type 0} (q p : ℕ) → (q ≡ p → A) → ((q ≡ p → ⊥) → A) → A
@@ -79,11 +79,6 @@ module _ (kind i v : ℕ) (now : Tables) (a : countAt now 10 ≡ i) (b : countAt
   line-body : eqb kind 1 ≡ false → i ≡ 0 → now .islands ≡ [] → (not (hasField kind 11) || leb 2 v) ≡ true → Body kind now
   unfolding areCounts
   line-body e z m g = body-make (rw (m, z)) (λ after. rw e g) (λ after. rw e)
-
--- a border has vertices
-bare-kind : (kind : ℕ) → hasField kind 11 ≡ false → eqb kind 1 ≡ false
-unfolding hasField holds schedule
-bare-kind kind h = ne-eqb kind 1 (λ e. true≢false (subst (λ (k : ℕ). hasField k 11 ≡ false) e h))
 
 -- what holds of the section's end, by what follows
 step-map : (mode : Mode) (part : Tables) (P Q : Tables → List ℕ → Type 0) (s : Step) → ((now : Tables) (cs : List ℕ) → P now cs → Q now cs) → StepTail mode part P s → StepTail mode part Q s
@@ -172,7 +167,7 @@ module _ (mode : Mode) (c e : List ℕ) (t : ℕ) (l : LineEnd mode e) (kind p i
   abbrev Fielded : Tables → List ℕ → Type 0
   Fielded now cs = FieldsTail mode kind ps part₁ now cs
 
-  fields-end : next ≡ 0 → (now : Tables) (cs : List ℕ) → now .rows ≡ part₁ .rows → now .letters ≡ part₁ .letters → (Zeros kind now → Body kind now)
+  fields-end : next ≡ 0 → (now : Tables) (cs : List ℕ) → now .rows ≡ part₁ .rows → now .letters ≡ part₁ .letters → (Lacking kind now → Body kind now)
       → (mode ≡ Exact → integersText (now .islands) ++ realsText (now .points) ≡ cs) → Fielded now cs
   unfolding holds fieldsText
   fields-end z now cs f g b t = rw (ahead-end kind p (k .low) (k .most) (k .field) z) (record {
@@ -187,15 +182,50 @@ module _ (mode : Mode) (c e : List ℕ) (t : ℕ) (l : LineEnd mode e) (kind p i
   })
 
   -- no points follow
-  due-fields : next ≡ 0 → (p ≡ 11 → ⊥) → (now : Tables) (cs : List ℕ) → (now ≡ part₁) × (cs ≡ []) → Fielded now cs
-  unfolding areReals integersText realsText
-  due-fields z n now cs w =
+  due-fields : next ≡ 0 → (p ≡ 11 → ⊥) → fixedVertices kind ≡ 0 → (now : Tables) (cs : List ℕ) → (now ≡ part₁) × (cs ≡ []) → Fielded now cs
+  unfolding areReals integersText realsText unsaid
+  due-fields z n f now cs w =
       let (h, j) = bare-end kind p (k .low) (k .most) (k .field) z n in
       let I : now .islands ≡ [] = ap (λ (o : Tables). o .islands) (w .0) ∙ k .islands in
       let P : now .points ≡ [] = ap (λ (o : Tables). o .points) (w .0) ∙ k .points in
       fields-end z now cs (ap (λ (o : Tables). o .rows) (w .0)) (ap (λ (o : Tables). o .letters) (w .0))
-      (λ zeros. line-body kind 0 0 now (ap natOf (zeros 10 (omega arith) h)) (ap natOf (zeros 11 (omega arith) j)) (rw P) (rw P) (bare-kind kind j) refl I (rw j))
+      (λ zeros. line-body kind 0 0 now (ap natOf (zeros 10 (omega arith) (omega arith) h)) (ap natOf (zeros 11 (omega arith) (omega arith) j) ∙ f) (rw P) (rw P) (bare-kind kind j) refl I (rw j))
       (λ m. rw (I, P) (sym (w .1)))
+
+  -- the points of one ring, or of a line, follow
+  module _ (z : next ≡ 0) (n : ℕ) (closed : Bool) (now : Tables) (cs : List ℕ) (w : PointsTail mode (freshRing closed 0 n) [] part₁ now cs) where
+    rows-now : now .rows ≡ part₁ .rows
+    rows-now = ap (λ (o : Tables). o .rows) (w .is)
+
+    islands-now : now .islands ≡ []
+    islands-now = ap (λ (o : Tables). o .islands) (w .is) ∙ k .islands
+
+    points-now : now .points ≡ w .more
+    points-now = ap (λ (o : Tables). o .points) (w .is) ∙ rw (k .points)
+
+    none-behind : sizesLeft (freshRing closed 0 n) part₁ ≡ []
+    none-behind = rw (k .islands)
+
+    long-now : length (now .points) ≡ 2 * n
+    unfolding sum
+    long-now = rw points-now (omega (arith, rw none-behind at (w .long)))
+
+    one-fields : (Lacking kind now → Body kind now) → Fielded now cs
+    unfolding integersText
+    one-fields b = fields-end z now cs rows-now (ap (λ (o : Tables). o .letters) (w .is)) b (λ m. rw (islands-now, points-now) (w .text m))
+
+    reals-now : areReals (now .points) ≡ true
+    reals-now = rw points-now (w .reals)
+
+  -- points that no record counts follow
+  fixed-fields : next ≡ 0 → (p ≡ 11 → ⊥) → (now : Tables) (cs : List ℕ) → PointsTail mode (freshRing false 0 (fixedVertices kind)) [] part₁ now cs → Fielded now cs
+  unfolding unsaid
+  fixed-fields z n now cs w =
+      let (h, j) = bare-end kind p (k .low) (k .most) (k .field) z n in
+      let v = fixedVertices kind in
+      one-fields z v false now cs w
+      (λ zeros. line-body kind 0 v now (ap natOf (zeros 10 (omega arith) (omega arith) h)) (ap natOf (zeros 11 (omega arith) (omega arith) j))
+      (long-now z v false now cs w) (reals-now z v false now cs w) (bare-kind kind j) refl (islands-now z v false now cs w) (rw j))
 
   module _ (v : p ≡ 11) where
     last : next ≡ 0
@@ -208,40 +238,16 @@ module _ (mode : Mode) (c e : List ℕ) (t : ℕ) (l : LineEnd mode e) (kind p i
     unfolding wantAt
     vertices-said = ap natOf (subst (λ (q : ℕ). cellAt part₁ q ≡ cellOf (wantAt q) t) v cell-here)
 
-    -- the points of one ring, or of a line, follow
-    module _ (closed : Bool) (now : Tables) (cs : List ℕ) (w : PointsTail mode (freshRing closed 0 t) [] part₁ now cs) where
-      rows-now : now .rows ≡ part₁ .rows
-      rows-now = ap (λ (o : Tables). o .rows) (w .is)
-
-      islands-now : now .islands ≡ []
-      islands-now = ap (λ (o : Tables). o .islands) (w .is) ∙ k .islands
-
-      points-now : now .points ≡ w .more
-      points-now = ap (λ (o : Tables). o .points) (w .is) ∙ rw (k .points)
-
-      none-behind : sizesLeft (freshRing closed 0 t) part₁ ≡ []
-      none-behind = rw (k .islands)
-
-      long-now : length (now .points) ≡ 2 * t
-      unfolding sum
-      long-now = rw points-now (omega (arith, rw none-behind at (w .long)))
-
-      one-fields : (Zeros kind now → Body kind now) → Fielded now cs
-      unfolding integersText
-      one-fields b = fields-end last now cs rows-now (ap (λ (o : Tables). o .letters) (w .is)) b (λ m. rw (islands-now, points-now) (w .text m))
-
-      counts-now : countAt now 11 ≡ t
-      counts-now = rw rows-now vertices-said
-
-      reals-now : areReals (now .points) ≡ true
-      reals-now = rw points-now (w .reals)
+    counts-now : (closed : Bool) (now : Tables) (cs : List ℕ) → PointsTail mode (freshRing closed 0 t) [] part₁ now cs → countAt now 11 ≡ t
+    counts-now closed now cs w = rw (rows-now last t closed now cs w) vertices-said
 
     -- a line's points follow
     line-fields : eqb kind 1 ≡ false → 2 ≤ t → (now : Tables) (cs : List ℕ) → PointsTail mode (freshRing false 0 t) [] part₁ now cs → Fielded now cs
+    unfolding unsaid
     line-fields n h now cs w =
-        one-fields false now cs w
-        (λ zeros. line-body kind 0 t now (ap natOf (zeros 10 (omega arith) (line-islands kind p (k .low) (k .most) (k .field) v n))) (counts-now false now cs w)
-        (long-now false now cs w) (reals-now false now cs w) n refl (islands-now false now cs w) (either (hasField kind 11)))
+        one-fields last t false now cs w
+        (λ zeros. line-body kind 0 t now (ap natOf (zeros 10 (omega arith) (omega arith) (line-islands kind p (k .low) (k .most) (k .field) v n))) (counts-now false now cs w)
+        (long-now last t false now cs w) (reals-now last t false now cs w) n refl (islands-now last t false now cs w) (either (hasField kind 11)))
       where
         either : (b : Bool) → (not b || leb 2 t) ≡ true
         either true = le-leb 2 t h
@@ -251,12 +257,12 @@ module _ (mode : Mode) (c e : List ℕ) (t : ℕ) (l : LineEnd mode e) (kind p i
     ring-fields : eqb kind 1 ≡ true → 4 + 4 * i ≤ t → i ≡ 0 → (now : Tables) (cs : List ℕ) → PointsTail mode (freshRing true 0 t) [] part₁ now cs → Fielded now cs
     unfolding sum all closing areClosed isClosed
     ring-fields n h z now cs w =
-        let I = islands-now true now cs w in
+        let I = islands-now last t true now cs w in
         let o : t - 0 ≡ t = omega arith in
-        one-fields true now cs w
-        (λ _. border-body kind i t now (rw (rows-now true now cs w) islands-said) (counts-now true now cs w) (long-now true now cs w) (reals-now true now cs w)
+        one-fields last t true now cs w
+        (λ _. border-body kind i t now (rw (rows-now last t true now cs w) islands-said) (counts-now true now cs w) (long-now last t true now cs w) (reals-now last t true now cs w)
         n h (rw (I, z)) (rw I) (rw I (omega arith))
-        (λ after. rw (I, points-now true now cs w, o) (rw (none-behind true now cs w) at (w .closes refl after))))
+        (λ after. rw (I, points-now last t true now cs w, o) (rw (none-behind last t true now cs w) at (w .closes refl after))))
 
     -- a border's island counts, and its points
     islands-fields : eqb kind 1 ≡ true → 4 + 4 * i ≤ t → (now : Tables) (cs : List ℕ) → IslandsTail mode i t part₁ now cs → Fielded now cs
@@ -293,10 +299,10 @@ module _ (mode : Mode) (c e : List ℕ) (t : ℕ) (l : LineEnd mode e) (kind p i
   four-none = rw (k .islands)
 
   abbrev leads : Step
-  leads = cond (eqb p 11) (verticesOf kind i t) (cond (eqb next 0) (Go Due) (Go (Field kind next (cond (eqb p 10) t i))))
+  leads = cond (eqb p 11) (verticesOf kind i t) (cond (eqb next 0) (fieldsEnd kind) (Go (Field kind next (cond (eqb p 10) t i))))
 
   next-tail : StepTail mode part₁ Fielded leads
-  unfolding verticesOf
+  unfolding verticesOf fieldsEnd
   next-tail =
       let Q = StepTail mode part₁ Fielded in
       cond-elim Q (eqb p 11) _ _
@@ -312,7 +318,15 @@ module _ (mode : Mode) (c e : List ℕ) (t : ℕ) (l : LineEnd mode e) (kind p i
       (λ h. let h₁ = leb-true 2 t h in (record { some = omega arith; all-in = omega arith; four = four-none }, line-fields v₁ n h₁))
       (λ _. tt)))
       (λ v. cond-elim Q (eqb next 0) _ _
-      (λ z. (tt, due-fields (eqb-true next 0 z) (eqb-false p 11 v)))
+      (λ z. let z₁ = eqb-true next 0 z in
+      let v₁ = eqb-false p 11 v in
+      cond-elim Q (eqb (fixedVertices kind) 0) _ _
+      (λ f. (tt, due-fields z₁ v₁ (eqb-true (fixedVertices kind) 0 f)))
+      (λ _. cond-elim Q (eqb kind 1) _ _
+      (λ n. absurd (true≢false (sym n ∙ bare-kind kind (bare-end kind p (k .low) (k .most) (k .field) z₁ v₁ .1))))
+      (λ _. cond-elim Q (leb 2 (fixedVertices kind)) _ _
+      (λ h. let h₁ = leb-true 2 (fixedVertices kind) h in (record { some = omega arith; all-in = omega arith; four = four-none }, fixed-fields z₁ v₁))
+      (λ _. tt))))
       (λ z. (more-known (eqb-false next 0 z), λ now cs w. w)))
 
   abbrev Whole : Tables → List ℕ → Type 0

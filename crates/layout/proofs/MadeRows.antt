@@ -2,7 +2,7 @@
 use mathlib.Core.Path.{_≡_, refl, sym, _∙_, ap, ap₂}
 use mathlib.Core.List.{List, [], _++_}
 use mathlib.Core.Bool.{Bool, true, false, not, _&&_, _||_}
-use Prim.Native.Nat.{ℕ, zero, suc, _+_, _*_, _/_, _%_, _≤_}
+use Prim.Native.Nat.{ℕ, suc, _+_, _*_, _/_, _%_, _≤_}
 use native.Mathlib.Omega.{arith}
 use lib.ListN.{length, getD, take, length-append, List·getD-append}
 use lib.Seq.{take-at, drop-at}
@@ -11,26 +11,27 @@ use lib.IntN.{pos}
 use borrow.Author.Tests.{leb-true, eqb-true, eqb-false, le-leb, eq-eqb, ne-eqb}
 use Rattle.laws.specs.Lists.{all, below, holds}
 use Rattle.laws.proofs.Choice.{and-left, and-right, and-both, cond-elim}
-use Rattle.laws.proofs.ListLaws.{below-all, alike-at}
+use Rattle.laws.proofs.ListLaws.{below-all}
 use Rattle.record.specs.declared.Mode.{Mode}
 use Rattle.record.specs.declared.Mode.the-variants.{Exact}
 use Rattle.record.specs.Record.{isLoose}
 use Rattle.record.specs.RecordView.{LineEnd}
 use Rattle.token.specs.declared.Token.the-variants.{Say}
 use Rattle.token.specs.declared.Want.the-variants.{Key}
-use Rattle.token.specs.Lex.{mayLieOutside, isKey, keyText, lexOf}
+use Rattle.token.specs.Lex.{kindMost, mayLieOutside, isKey, keyText, lexOf}
 use Rattle.token.proofs.TokenLaws.{key-text, key-only}
-use Rattle.kinds.specs.Kinds.{codePlace, lettersPlace, islandsPlace, verticesPlace, schedule, nextOf, isListed}
+use Rattle.kinds.specs.Kinds.{codePlace, lettersPlace, islandsPlace, verticesPlace, schedule, nextOf, unsaid, isListed}
 use Rattle.machine.specs.Machine.{keyStep}
 use Rattle.machine.specs.declared.State.the-variants.{Due}
 use Rattle.kinds.proofs.KindLaws.{next-most}
 use Rattle.sheet.specs.Tables.{Tables, empty, _then_, newRow, put}
+use Rattle.sheet.proofs.Okay.{new-at}
 use Rattle.made.specs.declared.Verdict.the-variants.{Fine}
 use Rattle.made.specs.Made.{cellAt, countAt, natOf, kindOf, firstOf, restOf, hasField, isOutside, isCell, cellTest, areNumbers, areLetters, isMade, isCoded, judgeRows, usedOf}
 use Rattle.layout.specs.Sheet.{fieldsText, integersText, realsText, rowText, rowsText}
 use Rattle.layout.proofs.ScheduleLaws.{first-field, field-low}
 use Rattle.layout.proofs.TokenSays.{line-spelt}
-use Rattle.layout.proofs.Tails.{Lettered, Body, Zeros, Begins, FieldsTail, StepTail}
+use Rattle.layout.proofs.Tails.{Lettered, Body, Lacking, Begins, FieldsTail, StepTail}
 
 -- ---- a section
 
@@ -48,14 +49,8 @@ pub record MadeRow (mode : Mode) (now : Tables) (cs : List ℕ) : Type 0 where
 cell-front : (now o : Tables) → length (now .rows) ≡ 12 → (q : ℕ) → q ≤ 11 → cellAt (now then o) q ≡ cellAt now q
 cell-front now o h q k = List·getD-append (now .rows) (o .rows) (pos 0) q (omega arith)
 
--- the rest of a new row is 0
-new-at : (t q : ℕ) → 2 ≤ q → getD (newRow t) q (pos 0) ≡ pos 0
-new-at t zero h = absurd (omega arith)
-new-at t (suc zero) h = absurd (omega arith)
-new-at t (suc (suc q)) h = alike-at 10 q (pos 0)
-
 -- kind and outside are no fields
-no-field : (kind q : ℕ) → kind ≤ 5 → q ≤ 1 → hasField kind q ≡ false
+no-field : (kind q : ℕ) → kind ≤ kindMost → q ≤ 1 → hasField kind q ≡ false
 no-field kind q h k = go (hasField kind q) refl
   where
     go : (x : Bool) → hasField kind q ≡ x → x ≡ false
@@ -65,19 +60,19 @@ no-field kind q h k = go (hasField kind q) refl
 -- a keyword's number
 pub record SaysKey (t : ℕ) : Type 0 where
   pub some : 1 ≤ t / 2
-  pub most : t / 2 ≤ 5
+  pub most : t / 2 ≤ kindMost
   pub outside : (eqb (t % 2) 0 || mayLieOutside (t / 2)) ≡ true
 
 key-says : (t : ℕ) → (t ≡ 0 → ⊥) → isKey t ≡ true → SaysKey t
 unfolding isKey
 key-says t n e =
-    let a = leb 1 (t / 2) && leb (t / 2) 5 in
+    let a = leb 1 (t / 2) && leb (t / 2) kindMost in
     let o = eqb (t % 2) 0 || mayLieOutside (t / 2) in
     let f : (a && o) ≡ true = rw (ne-eqb t 0 n) at e in
     let g = and-left a o f in
     record {
-      some = leb-true 1 (t / 2) (and-left (leb 1 (t / 2)) (leb (t / 2) 5) g);
-      most = leb-true (t / 2) 5 (and-right (leb 1 (t / 2)) (leb (t / 2) 5) g);
+      some = leb-true 1 (t / 2) (and-left (leb 1 (t / 2)) (leb (t / 2) kindMost) g);
+      most = leb-true (t / 2) kindMost (and-right (leb 1 (t / 2)) (leb (t / 2) kindMost) g);
       outside = and-right a o f;
     }
 
@@ -96,19 +91,19 @@ module _ (mode : Mode) (t : ℕ) (k : SaysKey t) (now : Tables) (cs : List ℕ)
   outside-now : cellAt now 1 ≡ pos (t % 2)
   outside-now = cell-kept 1 (no-field kind 1 (k .most) (omega arith))
 
-  zeros-now : Zeros kind now
-  zeros-now q h f = cell-kept q f ∙ new-at t q h
+  zeros-now : Lacking kind now
+  zeros-now q h l f = cell-kept q f ∙ new-at t q h l
 
   body-now : Body kind now
   body-now = w .body zeros-now
 
   letters-now : Lettered (countAt now 9) (now .letters)
-  unfolding hasField all
+  unfolding hasField all unsaid
   letters-now = go (hasField kind 9) refl
     where
       go : (x : Bool) → hasField kind 9 ≡ x → Lettered (countAt now 9) (now .letters)
       go true e = w .lettered e
-      go false e = rw (zeros-now 9 (omega arith) e, w .noLetters e) (record { counted = refl; good = refl; first = refl; last = refl })
+      go false e = rw (zeros-now 9 (omega arith) (omega arith) e, w .noLetters e) (record { counted = refl; good = refl; first = refl; last = refl })
 
   outside-right : isOutside kind (pos (t % 2)) ≡ true
   unfolding isOutside
@@ -118,17 +113,17 @@ module _ (mode : Mode) (t : ℕ) (k : SaysKey t) (now : Tables) (cs : List ℕ)
       go true e f = refl
       go false e f = let n = eqb-false (t % 2) 0 e in rw (eq-eqb (t % 2) 1 (omega arith)) f
 
-  cell-right : (q : ℕ) → isCell kind q (cellAt now q) ≡ true
+  cell-right : (q : ℕ) → q ≤ 11 → isCell kind q (cellAt now q) ≡ true
   unfolding isCell hasField
-  cell-right q =
+  cell-right q l =
       let Q : Bool → Type 0 = λ x. x ≡ true in
       cond-elim Q (eqb q 0) _ _
-      (λ e. rw (eqb-true q 0 e, kind-now, le-leb 1 kind (k .some), le-leb kind 5 (k .most)))
+      (λ e. rw (eqb-true q 0 e, kind-now, le-leb 1 kind (k .some), le-leb kind kindMost (k .most)))
       (λ n₀. cond-elim Q (eqb q 1) _ _
       (λ e. rw (eqb-true q 1 e, outside-now) outside-right)
       (λ n₁. let a = eqb-false q 0 n₀ in
       let b = eqb-false q 1 n₁ in
-      cond-elim Q (holds (getD schedule kind []) q) _ _ (λ f. w .ranged q f) (λ f. rw (zeros-now q (omega arith) f))))
+      cond-elim Q (holds (getD schedule kind []) q) _ _ (λ f. w .ranged q f) (λ f. rw (zeros-now q (omega arith) l f, eq-eqb (unsaid kind q) (unsaid kind q) refl))))
 
   module _ (after : Tables) where
     abbrev all-of : Tables
@@ -156,7 +151,7 @@ module _ (mode : Mode) (t : ℕ) (k : SaysKey t) (now : Tables) (cs : List ℕ)
     unfolding areNumbers
     numbers-right =
         and-both (leb 12 (length (all-of .rows))) (below 12 (cellTest (all-of .rows))) (le-leb 12 (length (all-of .rows)) (omega (arith, w .wide, length-append (now .rows) (after .rows))))
-        (below-all 12 (cellTest (all-of .rows)) (λ q h. rw (kind-first, cell-first q (omega arith)) (cell-right q)))
+        (below-all 12 (cellTest (all-of .rows)) (λ q h. rw (kind-first, cell-first q (omega arith)) (cell-right q (omega arith))))
 
     letters-right : areLetters (countAt now 9) (all-of .letters) ≡ true
     unfolding areLetters

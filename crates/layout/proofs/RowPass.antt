@@ -4,31 +4,33 @@ use mathlib.Core.Path.{_≡_, refl, sym, _∙_, ap, subst}
 use mathlib.Core.List.{List, [], _∷_, _++_}
 use mathlib.Core.Bool.{Bool, true, false, cond, not, _&&_, _||_}
 use native.Mathlib.Omega.{arith}
-use lib.ListN.{length, getD, take, getD-replicate}
+use lib.ListN.{length, getD, take}
 use lib.Seq.{length-take-le, getD-take}
 use lib.Dec.{leb, eqb}
 use lib.IntN.{ℤ, pos}
-use borrow.Author.Tests.{leb-true, le-leb, ne-eqb, eqb-true, not-true}
+use borrow.Author.Tests.{leb-true, le-leb, ne-eqb, eqb-true, eqb-false, not-true, not-false}
 use Rattle.laws.specs.Lists.{below, holds}
 use Rattle.laws.specs.Whole.{eqZ}
 use Rattle.laws.proofs.Choice.{and-left, and-right, true≢false, cond-first}
 use Rattle.laws.proofs.Bits.{eqZ-same}
 use Rattle.laws.proofs.ListLaws.{below-at, values-are}
 use Rattle.record.specs.declared.Mode.{Mode}
-use Rattle.token.specs.Lex.{mayLieOutside, isKey, keyText}
+use Rattle.token.specs.Lex.{kindMost, mayLieOutside, isKey, keyText}
 use Rattle.machine.specs.declared.State.the-variants.{Due, Field, Island, X}
 use Rattle.machine.specs.declared.Step.the-variants.{Go}
-use Rattle.kinds.specs.Kinds.{codePlace, schedule, wantAt}
+use Rattle.kinds.specs.Kinds.{codePlace, schedule, fixedVertices, unsaid, wantAt}
 use Rattle.machine.specs.Machine.{wantOf, freshRing, keyStep, stepOf}
 use Rattle.sheet.specs.Tables.{Tables, empty, newRow, put}
+use Rattle.sheet.proofs.Okay.{new-at}
 use Rattle.sheet.proofs.Pass.{Pass, done}
 use Rattle.sheet.proofs.Join.{pass-join, pass-append, then-empty}
 use Rattle.made.specs.declared.Verdict.the-variants.{Fine, Faulty, Unlisted}
 use Rattle.made.specs.Made.{cellAt, natOf, countAt, kindOf, lettersOf, islandsOf, pointsOf, firstOf, restOf, inRange, hasField, isOutside, isCell, cellTest, areNumbers, areLetters, areCounts, areReals, areClosed, ringSizes, arePoints, isMade, isCoded, judgeRows, usedOf}
 use Rattle.layout.specs.Sheet.{fieldsText, integersText, realsText, rowText, rowsText}
 use Rattle.layout.proofs.Contents.{key-reads, line-pass}
+use Rattle.layout.proofs.ScheduleLaws.{said-none}
 use Rattle.layout.proofs.RingPass.{line-points-pass, border-pass}
-use Rattle.layout.proofs.FieldPass.{partly, islandsDue, stateAt, Scheduled, scheduled, counted, border-is, line-is, field-in, field-none, fields-pass}
+use Rattle.layout.proofs.FieldPass.{partly, islandsDue, hasPoints, stateAt, Scheduled, scheduled, counted, border-is, line-is, field-in, field-none, fields-pass}
 
 -- ---- what a well made row is
 
@@ -83,7 +85,7 @@ record Outside (kind : ℕ) (z : ℤ) : Type 0 where
   pub most : natOf z ≤ 1
   pub key : isKey (2 * kind + natOf z) ≡ true
 
-outside-is : (kind : ℕ) (z : ℤ) → 1 ≤ kind → kind ≤ 5 → isOutside kind z ≡ true → Outside kind z
+outside-is : (kind : ℕ) (z : ℤ) → 1 ≤ kind → kind ≤ kindMost → isOutside kind z ≡ true → Outside kind z
 unfolding isOutside isKey
 outside-is kind z l h e = go (eqZ z (pos 0)) refl e
   where
@@ -91,22 +93,22 @@ outside-is kind z l h e = go (eqZ z (pos 0)) refl e
     at-0 =
         let a : (2 * kind + 0) / 2 ≡ kind = omega arith in
         let b : (2 * kind + 0) % 2 ≡ 0 = omega arith in
-        record { is = refl; most = omega arith; key = rw (ne-eqb (2 * kind + 0) 0 (λ q. omega arith), a, b, le-leb 1 kind l, le-leb kind 5 h) }
+        record { is = refl; most = omega arith; key = rw (ne-eqb (2 * kind + 0) 0 (λ q. omega arith), a, b, le-leb 1 kind l, le-leb kind kindMost h) }
 
     at-1 : mayLieOutside kind ≡ true → Outside kind (pos 1)
     at-1 m =
         let a : (2 * kind + 1) / 2 ≡ kind = omega arith in
         let b : (2 * kind + 1) % 2 ≡ 1 = omega arith in
-        record { is = refl; most = omega arith; key = rw (ne-eqb (2 * kind + 1) 0 (λ q. omega arith), a, b, le-leb 1 kind l, le-leb kind 5 h, m) }
+        record { is = refl; most = omega arith; key = rw (ne-eqb (2 * kind + 1) 0 (λ q. omega arith), a, b, le-leb 1 kind l, le-leb kind kindMost h, m) }
 
     go : (x : Bool) → eqZ z (pos 0) ≡ x → (x || eqZ z (pos 1) && mayLieOutside kind) ≡ true → Outside kind z
     go true q f = subst (Outside kind) (sym (eqZ-same z (pos 0) q)) at-0
     go false q f = subst (Outside kind) (sym (eqZ-same z (pos 1) (and-left (eqZ z (pos 1)) (mayLieOutside kind) f))) (at-1 (and-right (eqZ z (pos 1)) (mayLieOutside kind) f))
 
 module _ (mode : Mode) (t : Tables) (r : Row t) (coded : isCoded mode (kindOf t) (countAt t 2) ≡ true) where
-  kind-in : (cellAt t 0 ≡ pos (kindOf t)) × (1 ≤ kindOf t) × (kindOf t ≤ 5)
+  kind-in : (cellAt t 0 ≡ pos (kindOf t)) × (1 ≤ kindOf t) × (kindOf t ≤ kindMost)
   unfolding isCell
-  kind-in = counted 1 5 (cellAt t 0) (r .cells 0 (omega arith))
+  kind-in = counted 1 kindMost (cellAt t 0) (r .cells 0 (omega arith))
 
   walk : Scheduled (kindOf t) (getD schedule (kindOf t) [])
   walk = scheduled (kindOf t) (kind-in .1) (kind-in .2)
@@ -121,14 +123,14 @@ module _ (mode : Mode) (t : Tables) (r : Row t) (coded : isCoded mode (kindOf t)
   half : keyToken / 2 ≡ kindOf t
   half = omega (arith, outside .most)
 
-  -- a field that the kind lacks is 0
-  lacks : (p : ℕ) → 2 ≤ p → p ≤ 11 → holds (getD schedule (kindOf t) []) p ≡ false → cellAt t p ≡ pos 0
+  -- a field that the kind lacks is as its section leaves it
+  lacks : (p : ℕ) → 2 ≤ p → p ≤ 11 → holds (getD schedule (kindOf t) []) p ≡ false → cellAt t p ≡ pos (unsaid (kindOf t) p)
   unfolding hasField
   lacks = field-none mode t (r .cells) (r .letters) (r .counts) coded
 
   -- it leads to the first field
   key-on : keyStep keyToken ≡ Go (stateAt t (getD schedule (kindOf t) []))
-  unfolding keyStep
+  unfolding keyStep unsaid
   key-on =
       let ps = getD schedule (kindOf t) [] in
       let none : islandsDue t ps ≡ 0 = none-due (holds ps 10) 0 (countAt t 10) (λ e. ap natOf (lacks 10 (omega arith) (omega arith) e)) in
@@ -145,17 +147,19 @@ module _ (mode : Mode) (t : Tables) (r : Row t) (coded : isCoded mode (kindOf t)
       ps : List ℕ
       ps = getD schedule (kindOf t) []
 
+      left : (q : ℕ) → 2 ≤ q → q ≤ 11 → (x : Bool) → holds ps q ≡ x → pos (unsaid (kindOf t) q) ≡ cond x (pos 0) (cellAt t q)
+      left q l h true e = ap pos (said-none (kindOf t) q (kind-in .2) h e)
+      left q l h false e = sym (lacks q l h e)
+
       cell : (q : ℕ) → q < 12 → getD (newRow keyToken) q (pos 0) ≡ cond (holds ps q) (pos 0) (cellAt t q)
       cell zero h = rw (half, walk .noKind) (sym (kind-in .0))
       cell (suc zero) h =
           let odd : keyToken % 2 ≡ countAt t 1 = omega (arith, outside .most) in
           rw (odd, walk .noOutside) (sym (outside .is))
-      cell (suc (suc q)) h =
-          getD-replicate 10 q (pos 0) (pos 0) (omega arith)
-          ∙ sym (none-due (holds ps (suc (suc q))) (pos 0) (cellAt t (suc (suc q))) (lacks (suc (suc q)) (omega arith) (omega arith)))
+      cell (suc (suc q)) h = new-at keyToken (suc (suc q)) (omega arith) (omega arith) ∙ rw half (left (suc (suc q)) (omega arith) (omega arith) (holds ps (suc (suc q))) refl)
 
   key-put : put Due keyToken (keyText keyToken) empty ≡ partly t (getD schedule (kindOf t) [])
-  unfolding put
+  unfolding put unsaid
   key-put =
       let ps = getD schedule (kindOf t) [] in
       let none : cond (holds ps 9) [] (lettersOf t) ≡ [] =
@@ -174,50 +178,72 @@ module _ (mode : Mode) (t : Tables) (r : Row t) (coded : isCoded mode (kindOf t)
       rw (sym (values-are (take 12 (t .rows)) (cellAt t) 12 (pos 0) (length-take-le 12 (t .rows) (r .held)) (λ q h. getD-take 12 (t .rows) q (pos 0) h)))
 
   no-islands : eqb (kindOf t) 1 ≡ false → countAt t 10 ≡ 0
-  unfolding hasField
+  unfolding hasField unsaid
   no-islands q = ap natOf (lacks 10 (omega arith) (omega arith) (not-true (hasField (kindOf t) 10) (rw q at (walk .border))))
 
-  no-vertices : hasField (kindOf t) 11 ≡ false → countAt t 11 ≡ 0
-  unfolding hasField
-  no-vertices e = ap natOf (lacks 11 (omega arith) (omega arith) e)
+  -- where the section does not count them, the vertices are as many as it has
+  fixed-vertices : hasField (kindOf t) 11 ≡ false → countAt t 11 ≡ fixedVertices (kindOf t)
+  unfolding hasField unsaid
+  fixed-vertices e = ap natOf (lacks 11 (omega arith) (omega arith) e)
+
+  no-vertices : hasPoints (kindOf t) ≡ false → countAt t 11 ≡ 0
+  no-vertices = go (hasField (kindOf t) 11) refl
+    where
+      go : (x : Bool) → hasField (kindOf t) 11 ≡ x → (x || not (eqb (fixedVertices (kindOf t)) 0)) ≡ false → countAt t 11 ≡ 0
+      go true e f = absurd (true≢false f)
+      go false e f = fixed-vertices e ∙ eqb-true (fixedVertices (kindOf t)) 0 (not-false (eqb (fixedVertices (kindOf t)) 0) f)
+
+  some-vertices : hasPoints (kindOf t) ≡ true → eqb (kindOf t) 1 ≡ false → 1 ≤ countAt t 11
+  some-vertices h q = go (hasField (kindOf t) 11) refl h
+    where
+      go : (x : Bool) → hasField (kindOf t) 11 ≡ x → (x || not (eqb (fixedVertices (kindOf t)) 0)) ≡ true → 1 ≤ countAt t 11
+      go true e f = let l = line-is (kindOf t) (countAt t 10) (countAt t 11) (t .islands) q e (r .counts) in omega arith
+      go false e f =
+          let n = eqb-false (fixedVertices (kindOf t)) 0 (not-true (eqb (fixedVertices (kindOf t)) 0) f) in
+          let v = fixed-vertices e in
+          omega arith
 
   vertices-most : hasField (kindOf t) 11 ≡ true → countAt t 11 ≤ 9999
   unfolding wantAt inRange
   vertices-most e = counted 0 9999 (cellAt t 11) (field-in mode t (r .cells) (r .letters) (r .counts) coded 11 (omega arith) (omega arith) e) .2
 
-  of-border : hasField (kindOf t) 11 ≡ true → eqb (kindOf t) 1 ≡ true
+  border-counts : eqb (kindOf t) 1 ≡ true → hasField (kindOf t) 11 ≡ true
+  unfolding hasField schedule holds
+  border-counts q = rw (eqb-true (kindOf t) 1 q)
+
+  of-border : eqb (kindOf t) 1 ≡ true
       → Pass mode (cond (eqb (countAt t 10) 0) (X (freshRing true 0 (countAt t 11))) (Island (countAt t 10) (countAt t 11) (countAt t 10))) whole
       (integersText (islandsOf t) ++ realsText (pointsOf t)) Due (firstOf t)
-  of-border e q =
+  of-border q =
       let b = border-is (kindOf t) (countAt t 10) (countAt t 11) (t .islands) q (r .counts) in
       let s = points-are (kindOf t) (countAt t 11) (islandsOf t) (t .points) (r .points) in
       let n : length (islandsOf t) ≡ countAt t 10 = length-take-le (countAt t 10) (t .islands) (b .held) in
-      rw n at (border-pass {mode = mode} (islandsOf t) (countAt t 11) (t .points) whole (b .fours) (b .spare) (vertices-most e) (s .held) (s .real) (s .closed q))
+      rw n at (border-pass {mode = mode} (islandsOf t) (countAt t 11) (t .points) whole (b .fours) (b .spare) (vertices-most (border-counts q)) (s .held) (s .real) (s .closed q))
 
-  of-line : hasField (kindOf t) 11 ≡ true → eqb (kindOf t) 1 ≡ false
+  of-line : hasPoints (kindOf t) ≡ true → eqb (kindOf t) 1 ≡ false
       → Pass mode (X (freshRing false 0 (countAt t 11))) whole (integersText (islandsOf t) ++ realsText (pointsOf t)) Due (firstOf t)
   unfolding integersText
   of-line e q =
       let s = points-are (kindOf t) (countAt t 11) (islandsOf t) (t .points) (r .points) in
-      let l = line-is (kindOf t) (countAt t 10) (countAt t 11) (t .islands) q e (r .counts) in
+      let l = some-vertices e q in
       rw (no-islands q) (line-points-pass (countAt t 11) (pointsOf t) whole (omega arith) (length-take-le (2 * countAt t 11) (t .points) (s .held)) (s .real))
 
-  of-none : hasField (kindOf t) 11 ≡ false → eqb (kindOf t) 1 ≡ false → Pass mode Due whole (integersText (islandsOf t) ++ realsText (pointsOf t)) Due (firstOf t)
+  of-none : hasPoints (kindOf t) ≡ false → eqb (kindOf t) 1 ≡ false → Pass mode Due whole (integersText (islandsOf t) ++ realsText (pointsOf t)) Due (firstOf t)
   unfolding integersText realsText
   of-none e q = rw (no-islands q, no-vertices e) done
 
   -- a border has vertices
-  no-border : hasField (kindOf t) 11 ≡ false → eqb (kindOf t) 1 ≡ true → ⊥
+  no-border : hasPoints (kindOf t) ≡ false → eqb (kindOf t) 1 ≡ true → ⊥
   unfolding hasField schedule holds
   no-border e q = true≢false (rw (eqb-true (kindOf t) 1 q) at e)
 
   points-pass : Pass mode (stateAt t []) (partly t []) (integersText (islandsOf t) ++ realsText (pointsOf t)) Due (firstOf t)
-  points-pass = rw row-whole (by-vertices (hasField (kindOf t) 11) refl (eqb (kindOf t) 1) refl)
+  points-pass = rw row-whole (by-vertices (hasPoints (kindOf t)) refl (eqb (kindOf t) 1) refl)
     where
-      by-vertices : (x : Bool) → hasField (kindOf t) 11 ≡ x → (y : Bool) → eqb (kindOf t) 1 ≡ y
+      by-vertices : (x : Bool) → hasPoints (kindOf t) ≡ x → (y : Bool) → eqb (kindOf t) 1 ≡ y
           → Pass mode (cond x (cond y (cond (eqb (countAt t 10) 0) (X (freshRing true 0 (countAt t 11))) (Island (countAt t 10) (countAt t 11) (countAt t 10))) (X (freshRing false 0 (countAt t 11)))) Due) whole
           (integersText (islandsOf t) ++ realsText (pointsOf t)) Due (firstOf t)
-      by-vertices true e true q = of-border e q
+      by-vertices true e true q = of-border q
       by-vertices true e false q = of-line e q
       by-vertices false e true q = absurd (no-border e q)
       by-vertices false e false q = of-none e q

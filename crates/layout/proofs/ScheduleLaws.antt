@@ -1,16 +1,17 @@
 -- How the machine goes along a kind's schedule: each rule is a test over kinds and places that is computed once. Assumes nothing.
-use mathlib.Core.Path.{_≡_, refl}
+use mathlib.Core.Path.{_≡_, refl, subst}
 use mathlib.Core.List.{List, [], _∷_}
 use mathlib.Core.Bool.{Bool, true, false, cond, not, _&&_, _||_}
-use Prim.Native.Nat.{ℕ, _≤_}
+use Prim.Native.Nat.{ℕ, _+_, _≤_}
 use native.Mathlib.Omega.{arith}
 use lib.ListN.{getD}
 use lib.Dec.{leb, eqb}
 use borrow.Author.Tests.{leb-true, eqb-true, eq-eqb, ne-eqb, not-true}
 use Rattle.laws.specs.Lists.{below, holds, same}
-use Rattle.laws.proofs.Choice.{and-left, and-right}
+use Rattle.laws.proofs.Choice.{and-left, and-right, true≢false}
 use Rattle.laws.proofs.ListLaws.{below-at, same-is}
-use Rattle.kinds.specs.Kinds.{schedule, nextIn, nextOf}
+use Rattle.token.specs.Lex.{kindMost}
+use Rattle.kinds.specs.Kinds.{schedule, nextIn, nextOf, fixed, fixedVertices, unsaid}
 use Rattle.made.specs.Made.{hasField}
 
 -- the places from p on
@@ -50,9 +51,12 @@ lastRule kind p = not (eqb p 11) || eqb (nextOf kind p) 0 && (eqb kind 1 || not 
 abbrev bareRule : ℕ → ℕ → Bool
 bareRule kind p = not (eqb (nextOf kind p) 0) || eqb p 11 || not (hasField kind 10) && not (hasField kind 11)
 
-module _ (kind p : ℕ) (h : kind ≤ 5) (k : p ≤ 11) (f : hasField kind p ≡ true) where
-  rule : (P : ℕ → ℕ → Bool) → below 6 (allRuled P) ≡ true → P kind p ≡ true
-  rule P e = rw f at (below-at 12 (ruled P kind) p (below-at 6 (allRuled P) kind e (omega arith)) (omega arith))
+abbrev saidRule : ℕ → ℕ → Bool
+saidRule kind p = eqb (unsaid kind p) 0
+
+module _ (kind p : ℕ) (h : kind ≤ kindMost) (k : p ≤ 11) (f : hasField kind p ≡ true) where
+  rule : (P : ℕ → ℕ → Bool) → below (kindMost + 1) (allRuled P) ≡ true → P kind p ≡ true
+  rule P e = rw f at (below-at 12 (ruled P kind) p (below-at (kindMost + 1) (allRuled P) kind e (omega arith)) (omega arith))
 
   -- the fields from p on are p and those from the next on
   pub ahead-step : ahead kind p ≡ p ∷ ahead kind (nextOf kind p)
@@ -93,12 +97,30 @@ module _ (kind p : ℕ) (h : kind ≤ 5) (k : p ≤ 11) (f : hasField kind p ≡
       let b = rw (eq-eqb (nextOf kind p) 0 e, ne-eqb p 11 n) at (rule bareRule refl) in
       (not-true _ (and-left (not (hasField kind 10)) _ b), not-true _ (and-right (not (hasField kind 10)) _ b))
 
+  -- what a record says is not given without it
+  pub said-none : unsaid kind p ≡ 0
+  unfolding below hasField holds schedule unsaid fixedVertices fixed
+  said-none = eqb-true (unsaid kind p) 0 (rule saidRule refl)
+
+-- a border counts its vertices
+pub bare-kind : (kind : ℕ) → hasField kind 11 ≡ false → eqb kind 1 ≡ false
+unfolding hasField holds schedule
+bare-kind kind h = ne-eqb kind 1 (λ e. true≢false (subst (λ (k : ℕ). hasField k 11 ≡ false) e h))
+
+abbrev enoughRule : ℕ → Bool
+enoughRule kind = eqb (fixedVertices kind) 0 || leb 2 (fixedVertices kind)
+
+-- vertices that no record counts are at least 2
+pub fixed-enough : (kind : ℕ) → kind ≤ kindMost → (fixedVertices kind ≡ 0 → ⊥) → 2 ≤ fixedVertices kind
+unfolding below fixedVertices fixed
+fixed-enough kind h n = leb-true 2 (fixedVertices kind) (rw (ne-eqb (fixedVertices kind) 0 n) at (below-at (kindMost + 1) enoughRule kind refl (omega arith)))
+
 abbrev firstRule : ℕ → Bool
 firstRule kind = eqb (nextOf kind 0) 0 || hasField kind (nextOf kind 0) && same (ahead kind (nextOf kind 0)) (getD schedule kind [])
 
 -- the first field of a kind, and from it on all of them
-pub first-field : (kind : ℕ) → kind ≤ 5 → (nextOf kind 0 ≡ 0 → ⊥) → (hasField kind (nextOf kind 0) ≡ true) × (ahead kind (nextOf kind 0) ≡ getD schedule kind [])
+pub first-field : (kind : ℕ) → kind ≤ kindMost → (nextOf kind 0 ≡ 0 → ⊥) → (hasField kind (nextOf kind 0) ≡ true) × (ahead kind (nextOf kind 0) ≡ getD schedule kind [])
 unfolding below hasField holds schedule ahead fromIn nextOf nextIn same
 first-field kind h n =
-    let b = rw (ne-eqb (nextOf kind 0) 0 n) at (below-at 6 firstRule kind refl (omega arith)) in
+    let b = rw (ne-eqb (nextOf kind 0) 0 n) at (below-at (kindMost + 1) firstRule kind refl (omega arith)) in
     (and-left (hasField kind (nextOf kind 0)) _ b, same-is _ _ (and-right (hasField kind (nextOf kind 0)) _ b))

@@ -12,8 +12,8 @@ use Rattle.record.specs.declared.Mode.{Mode}
 use Rattle.record.specs.declared.Mode.the-variants.{Exact}
 use Rattle.record.specs.Record.{isLoose, plain}
 use Rattle.number.specs.Words.{blank}
-use Rattle.token.specs.Lex.{unlift}
-use Rattle.kinds.specs.Kinds.{codePlace, lettersPlace, islandsPlace, verticesPlace, isListed, wantAt}
+use Rattle.token.specs.Lex.{kindMost, unlift}
+use Rattle.kinds.specs.Kinds.{codePlace, lettersPlace, islandsPlace, verticesPlace, unsaid, isListed, wantAt}
 use Rattle.machine.specs.declared.Ring.{Ring}
 use Rattle.machine.specs.declared.State.{State}
 use Rattle.machine.specs.declared.State.the-variants.{Due, Field, Island, X, Y}
@@ -76,9 +76,9 @@ pub record Body (kind : ℕ) (now : Tables) : Type 0 where
   pub counts : (after : List ℕ) → areCounts kind (countAt now islandsPlace) (countAt now verticesPlace) (now .islands ++ after) ≡ true
   pub closes : (after : List ℤ) → arePoints kind (countAt now verticesPlace) (now .islands) (now .points ++ after) ≡ true
 
--- a field that the section lacks is 0
-abbrev pub Zeros : ℕ → Tables → Type 0
-Zeros kind now = (p : ℕ) → 2 ≤ p → hasField kind p ≡ false → cellAt now p ≡ pos 0
+-- a field that the section lacks is as it leaves it
+abbrev pub Lacking : ℕ → Tables → Type 0
+Lacking kind now = (p : ℕ) → 2 ≤ p → p ≤ 11 → hasField kind p ≡ false → cellAt now p ≡ pos (unsaid kind p)
 
 -- tables that begin with these: their first row, and its letters
 pub record Begins (now o : Tables) : Type 0 where
@@ -93,7 +93,7 @@ pub record FieldsTail (mode : Mode) (kind : ℕ) (ps : List ℕ) (part now : Tab
   pub noLetters : holds ps lettersPlace ≡ false → now .letters ≡ part .letters
   pub lettered : holds ps lettersPlace ≡ true → Lettered (countAt now lettersPlace) (now .letters)
   pub coded : holds ps codePlace ≡ true → (isLoose mode || isListed kind (countAt now codePlace)) ≡ true
-  pub body : Zeros kind now → Body kind now
+  pub body : Lacking kind now → Body kind now
   pub text : mode ≡ Exact → (o : Tables) → Begins now o → fieldsText o ps ++ (integersText (now .islands) ++ realsText (now .points)) ≡ cs
 
 -- ---- by the state
@@ -107,7 +107,7 @@ Tail mode (Y r x) part now cs = PointsTail mode r (unlift x ∷ []) part now cs
 
 -- what is known of a section's tables on the way
 pub record AtField (kind p i : ℕ) (part : Tables) : Type 0 where
-  pub low : kind ≤ 5
+  pub low : kind ≤ kindMost
   pub most : p ≤ 11
   pub field : hasField kind p ≡ true
   pub wide : length (part .rows) ≡ 12

@@ -2,15 +2,17 @@
 -- is used of tables that were read into. Assumes nothing.
 use mathlib.Core.Path.{_≡_, refl, sym, _∙_, ap, ap₂}
 use mathlib.Core.List.{List, [], _∷_, _++_}
-use mathlib.Core.Bool.{true}
-use Prim.Native.Nat.{ℕ, zero, suc, _/_, _<_}
+use mathlib.Core.Bool.{Bool, true, false}
+use Prim.Native.Nat.{ℕ, zero, suc, _+_, _/_, _<_}
 use native.Mathlib.Omega.{arith}
 use lib.Dec.{leb}
-use lib.ListN.{length, getD}
-use borrow.Author.Tests.{leb-true}
-use Rattle.laws.specs.Lists.{all}
+use lib.ListN.{length, getD, List·getD-eq-default}
+use borrow.Author.Tests.{leb-true, leb-false}
+use Rattle.laws.specs.Lists.{all, below}
 use Rattle.laws.proofs.Choice.{and-left, and-right}
+use Rattle.laws.proofs.ListLaws.{below-at}
 use Rattle.record.specs.declared.Mode.{Mode}
+use Rattle.token.specs.Lex.{kindMost}
 use Rattle.token.specs.declared.Want.{Want}
 use Rattle.token.specs.declared.Want.the-variants.{Key, Text, Int, Real}
 use Rattle.kinds.specs.Kinds.{rowWidth, schedule, wantAt}
@@ -24,15 +26,16 @@ use Rattle.layout.specs.Sheet.{line, fieldText, fieldsText, rowText, row
 use Rattle.layout.proofs.ReadMade.{reading-made}
 
 -- every field of a kind is one of a row's numbers
+isLow : ℕ → Bool
+isLow kind = all (λ p. leb p 11) (getD schedule kind [])
+
 schedule-low : (kind : ℕ) → all (λ p. leb p 11) (getD schedule kind []) ≡ true
-unfolding schedule all
-schedule-low zero = refl
-schedule-low (suc zero) = refl
-schedule-low (suc (suc zero)) = refl
-schedule-low (suc (suc (suc zero))) = refl
-schedule-low (suc (suc (suc (suc zero)))) = refl
-schedule-low (suc (suc (suc (suc (suc zero))))) = refl
-schedule-low (suc (suc (suc (suc (suc (suc kind)))))) = refl
+unfolding isLow below schedule all
+schedule-low kind = go (leb kind kindMost) refl
+  where
+    go : (x : Bool) → leb kind kindMost ≡ x → all (λ p. leb p 11) (getD schedule kind []) ≡ true
+    go true e = below-at (kindMost + 1) isLow kind refl (omega (arith, leb-true kind kindMost e))
+    go false e = rw (List·getD-eq-default schedule [] {n = kind} (leb-false kind kindMost e))
 
 -- ---- a row is written by its own part
 

@@ -9,7 +9,7 @@ use Rattle.spelling.specs.Spelling.{digits, places, aligned, integerText, minus
 use Rattle.heading.specs.declared.Header.{Header}
 use Rattle.header.specs.Header.{firstWords}
 use Rattle.sheet.specs.Tables.{Tables}
-use Rattle.sheet.specs.Examples.{padded, specimenHeader, specimenTables}
+use Rattle.sheet.specs.Examples.{padded, specimenHeader, specimenTables, scanned, scannedHeader, scannedTables}
 use Rattle.made.specs.Made.{tablesOf}
 use Rattle.made.specs.Examples.{header, label, labelled, symbol, border, ring}
 use Rattle.layout.specs.Sheet.{fieldsText, integersText, realsText, rowText, rowsText, headerText, sheetText}
@@ -47,3 +47,8 @@ with-island = refl
 specimen : sheetText specimenHeader 6 specimenTables ≡ padded
 unfolding computed specimenTables padded
 specimen = refl
+
+-- so is a scanned sheet: a raster's points follow its letters with no count
+scanned-written : sheetText scannedHeader 2 scannedTables ≡ scanned
+unfolding computed scannedTables scanned
+scanned-written = refl

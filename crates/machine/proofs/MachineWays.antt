@@ -24,8 +24,8 @@ use Rattle.machine.specs.declared.State.the-variants.{Due, Field, Island
 use Rattle.machine.specs.declared.Step.{Step}
 use Rattle.machine.specs.declared.Step.the-variants.{Go, No, End}
 use Rattle.machine.specs.declared.One.{One}
-use Rattle.kinds.specs.Kinds.{codePlace, islandsPlace, verticesPlace, nextOf, isListed, wantAt}
-use Rattle.machine.specs.Machine.{wantOf, isDue, freshRing, verticesOf, fieldOf, islandOf, isShut, ringStep, vertexOf, keyStep, stepOf, ofStep, ofToken, ofLine, oneOf}
+use Rattle.kinds.specs.Kinds.{codePlace, islandsPlace, verticesPlace, nextOf, fixedVertices, isListed, wantAt}
+use Rattle.machine.specs.Machine.{wantOf, isDue, freshRing, verticesOf, fieldsEnd, fieldOf, islandOf, isShut, ringStep, vertexOf, keyStep, stepOf, ofStep, ofToken, ofLine, oneOf}
 
 -- ---- what a record must be
 
@@ -89,6 +89,19 @@ module _ (kind islands n : ℕ) where
 
 pub ruleset vertices-ways = (line-few, line-go, border-few, border-fewer, border-go, border-islands)
 
+-- ---- after the last field
+
+module _ (kind n : ℕ) (q : n ≡ fixedVertices kind) where
+  pub end-none : n ≡ 0 → Go Due ≡ fieldsEnd kind
+  unfolding fieldsEnd
+  end-none z = rw (← q, eq-eqb n 0 z)
+
+  pub end-points : (s : Step) → (n ≡ 0 → ⊥) → s ≡ verticesOf kind 0 n → s ≡ fieldsEnd kind
+  unfolding fieldsEnd
+  end-points s z v = rw (← q, ne-eqb n 0 z, v)
+
+pub ruleset end-ways = (end-none, end-points)
+
 -- ---- after an island's count: the code takes 4 from what is spare where the definition adds it
 
 module _ (left spare rings n : ℕ) where
@@ -147,9 +160,9 @@ module _ (mode : Mode) (kind p islands n : ℕ) (r : Bool) (q : r ≡ (eqb p cod
     field-vertices s e v = rw (← q, t, eq-eqb p verticesPlace e, v)
 
     module _ (e : p ≡ verticesPlace → ⊥) (next : ℕ) (f : next ≡ nextOf kind p) where
-      pub field-last : next ≡ 0 → Go Due ≡ fieldOf mode kind p islands n
+      pub field-last : (s : Step) → next ≡ 0 → s ≡ fieldsEnd kind → s ≡ fieldOf mode kind p islands n
       unfolding fieldOf
-      field-last z = rw (← q, t, ne-eqb p verticesPlace e, ← f, eq-eqb next 0 z)
+      field-last s z g = rw (← q, t, ne-eqb p verticesPlace e, ← f, eq-eqb next 0 z, g)
 
       pub field-islands : (next ≡ 0 → ⊥) → p ≡ islandsPlace → Go (Field kind next n) ≡ fieldOf mode kind p islands n
       unfolding fieldOf

@@ -9,7 +9,7 @@ use Rattle.record.specs.declared.Mode.{Mode}
 use Rattle.record.specs.declared.Mode.the-variants.{Loose, Exact}
 use Rattle.record.specs.Record.{endsCR, content, contentIs, lineIs, lineOf}
 use Rattle.token.specs.Examples.{computed as computedToken}
-use Rattle.kinds.specs.Kinds.{codePlace, anglePlace, lettersPlace, islandsPlace, verticesPlace}
+use Rattle.kinds.specs.Kinds.{codePlace, anglePlace, yPlace, lettersPlace, islandsPlace, verticesPlace}
 use Rattle.kinds.specs.Examples.{computed as computedKind}
 use Rattle.machine.specs.declared.Ring.{Ring}
 use Rattle.machine.specs.declared.State.{State}
@@ -17,11 +17,11 @@ use Rattle.machine.specs.declared.State.the-variants.{Due, Field, Island
 use Rattle.machine.specs.declared.Step.the-variants.{Go, No, End}
 use Rattle.machine.specs.declared.One.{One}
 use Rattle.machine.specs.declared.One.the-variants as One
-use Rattle.machine.specs.Machine.{wantOf, freshRing, verticesOf, fieldOf, islandOf, isShut, ringStep, vertexOf, keyStep, stepOf, oneOf}
+use Rattle.machine.specs.Machine.{wantOf, freshRing, verticesOf, fieldsEnd, fieldOf, islandOf, isShut, ringStep, vertexOf, keyStep, stepOf, oneOf}
 
 -- `oneOf` with every definition opened, so that it computes
 unfoldable pub computed : Mode → State → ℕ → List ℕ → One
-unfolding oneOf stepOf keyStep vertexOf ringStep isShut islandOf fieldOf verticesOf wantOf lineOf lineIs content contentIs endsCR run all same computedToken computedKind
+unfolding oneOf stepOf keyStep vertexOf ringStep isShut islandOf fieldOf fieldsEnd verticesOf wantOf lineOf lineIs content contentIs endsCR run all same computedToken computedKind
 computed mode st next bs = oneOf mode st next bs
 
 -- a border has at least 4 vertices, 4 more for each island: 7 with one island are too few
@@ -46,6 +46,17 @@ codes : (fieldOf Exact 3 codePlace 0 12 ≡ No 10) × (fieldOf Loose 3 codePlace
     × (fieldOf Exact 1 islandsPlace 0 12 ≡ Go (Field 1 verticesPlace 12))
 unfolding computed
 codes = (refl, refl, refl, refl)
+
+-- a raster's four points follow its letters, and are no ring; behind the last field of a text, a keyword is due
+raster-points : (fieldOf Exact 6 lettersPlace 0 15 ≡ Go (X (freshRing false 0 4))) × (fieldOf Exact 2 yPlace 0 15 ≡ Go Due)
+unfolding computed
+raster-points = (refl, refl)
+
+-- a survey book's line: type 1 alone is listed, its vertices are at least 2, and it is no ring
+book-line : (fieldOf Exact 7 codePlace 0 1 ≡ Go (Field 7 verticesPlace 0)) × (fieldOf Exact 7 codePlace 0 2 ≡ No 10) × (fieldOf Loose 7 codePlace 0 2 ≡ Go (Field 7 verticesPlace 0))
+    × (fieldOf Exact 7 verticesPlace 0 1 ≡ No 11) × (fieldOf Exact 7 verticesPlace 0 2 ≡ Go (X (freshRing false 0 2)))
+unfolding computed
+book-line = (refl, refl, refl, refl, refl)
 
 -- a ring is shut by its first x and its first y, a line by nothing
 shut : (isShut true 1 2 1 2 ≡ true) × (isShut true 1 2 3 2 ≡ false) × (isShut true 1 2 1 3 ≡ false) × (isShut true 1 2 2 1 ≡ false) × (isShut false 1 2 3 4 ≡ true)

@@ -8,7 +8,7 @@ use Rattle.record.specs.declared.Mode.{Mode}
 use Rattle.record.specs.declared.Line.{Line}
 use Rattle.record.specs.Record.{isLoose, lineOf}
 use Rattle.record.specs.Refusals.{notKeyword, unlistedCode, badCount, openRing}
-use Rattle.kinds.specs.Kinds.{wantAt, nextOf, isListed, codePlace, islandsPlace, verticesPlace}
+use Rattle.kinds.specs.Kinds.{wantAt, nextOf, fixedVertices, isListed, codePlace, islandsPlace, verticesPlace}
 use Rattle.token.specs.Lex.{lexOf}
 use Rattle.token.specs.declared.Token.{Token}
 use Rattle.token.specs.declared.Want.{Want}
@@ -21,7 +21,7 @@ use Rattle.machine.specs.declared.Step.the-variants.{Go, No, End}
 use Rattle.machine.specs.declared.One.{One}
 
 -- The words of a state. `Island left spare rings`: so many island records are still to come, so many vertices are not given to an island yet, and so many rings
--- will follow the outer one. A `Ring` at work: `closed`, whether its last vertex must be its first (a line need not); `fresh`, whether its first vertex is
+-- will follow the outer one. A `Ring` at work: `closed`, whether its last vertex must be its first (only a border's); `fresh`, whether its first vertex is
 -- yet to come; `rings`, how many rings follow it; `left`, how many of its vertices are still to come; (`fx`, `fy`), its first vertex.
 
 -- ---- what a record must be
@@ -45,19 +45,23 @@ isDue (Y r x) = false
 abbrev pub freshRing : Bool → ℕ → ℕ → Ring
 freshRing closed rings left = record { closed = closed; fresh = true; rings = rings; left = left; fx = 0; fy = 0 }
 
--- a border's vertices are at least 4 + 4 times its islands; a line has at least 2
+-- a border's vertices are at least 4 + 4 times its islands; any other kind's, which are no ring, at least 2
 unfoldable pub verticesOf : ℕ → ℕ → ℕ → Step
 verticesOf kind islands n =
     cond (eqb kind 1)
     (cond (leb (4 + 4 * islands) n) (cond (eqb islands 0) (Go (X (freshRing true 0 n))) (Go (Island islands n islands))) (No badCount))
     (cond (leb 2 n) (Go (X (freshRing false 0 n))) (No badCount))
 
+-- after the last field: a keyword is due, or the points of a section that does not count them
+unfoldable pub fieldsEnd : ℕ → Step
+fieldsEnd kind = cond (eqb (fixedVertices kind) 0) (Go Due) (verticesOf kind 0 (fixedVertices kind))
+
 -- exact mode refuses codes that are not listed
 unfoldable pub fieldOf : Mode → ℕ → ℕ → ℕ → ℕ → Step
 fieldOf mode kind p islands n =
     cond (eqb p codePlace && not (isLoose mode) && not (isListed kind n)) (No unlistedCode)
     (cond (eqb p verticesPlace) (verticesOf kind islands n)
-    (cond (eqb (nextOf kind p) 0) (Go Due) (Go (Field kind (nextOf kind p) (cond (eqb p islandsPlace) n islands)))))
+    (cond (eqb (nextOf kind p) 0) (fieldsEnd kind) (Go (Field kind (nextOf kind p) (cond (eqb p islandsPlace) n islands)))))
 
 -- an island has at least 4, and the islands so far leave 4 for the outer ring, which has the rest and comes first
 unfoldable pub islandOf : ℕ → ℕ → ℕ → ℕ → Step

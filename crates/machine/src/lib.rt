@@ -7,7 +7,8 @@ ghost use lib.Dec.{eqb};
 ghost use Rattle.record.specs.Record.{isLoose};
 ghost use Rattle.token.specs.Lex.{lexOf};
 ghost use Rattle.kinds.specs.Kinds.{codePlace, isListed};
-ghost use Rattle.machine.specs.Machine.{wantOf, isDue, freshRing, verticesOf, fieldOf, islandOf, isShut, ringStep, vertexOf, keyStep, stepOf, ofToken, oneOf};
+ghost use Rattle.machine.specs.Machine.{wantOf, isDue, freshRing, verticesOf, fieldsEnd, fieldOf, islandOf, isShut, ringStep, vertexOf, keyStep, stepOf, ofToken, oneOf};
+use kinds::fixed_vertices;
 use kinds::is_listed;
 use kinds::next_field;
 use kinds::want_at;
@@ -158,6 +159,17 @@ fn vertices_step(kind: usize, islands: usize, n: usize) -> Step
     })
 }
 
+// After the last field: a keyword, or the points that no record counts.
+fn fields_end(kind: usize) -> Step
+    ensures { λ r. ⌜ r ≡ fieldsEnd kind ⌝ }
+{
+    let n = fixed_vertices(kind);
+    if n == 0 {
+        return Step::Go(State::Due);
+    }
+    vertices_step(kind, 0, n)
+}
+
 // A code that the mode refuses.
 fn is_refused_code(mode: Mode, kind: usize, place: usize, n: usize) -> bool
     ensures { λ r. ⌜ r ≡ (eqb place codePlace && not (isLoose mode) && not (isListed kind n)) ⌝ }
@@ -183,7 +195,7 @@ pub fn field_step(mode: Mode, kind: usize, place: usize, islands: usize, n: usiz
     }
     let next = next_field(kind, place);
     if next == 0 {
-        return Step::Go(State::Due);
+        return fields_end(kind);
     }
     if place == ISLANDS_PLACE {
         return Step::Go(State::Field {

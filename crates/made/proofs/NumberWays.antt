@@ -5,7 +5,7 @@ use mathlib.Core.Bool.{Bool, true, false, not, _&&_}
 use Prim.Native.Nat.{ℕ, _-_, _^_, _≤_, _<_}
 use native.Mathlib.Omega.{arith}
 use lib.ListN.{length, getD, List·getD-eq-default}
-use lib.Dec.{T, leb}
+use lib.Dec.{T, leb, eqb}
 use lib.IntN.{ℤ, pos, negsuc, natAbs}
 use lib.Signed.{mag, ltZ, leZ, nonNeg}
 use mir.Syntax.{w64}
@@ -21,8 +21,8 @@ use Rattle.laws.proofs.ListLaws.{below-at, below-on}
 use Rattle.number.specs.Number.{isReal}
 use Rattle.token.specs.declared.Want.{Want}
 use Rattle.token.specs.declared.Want.the-variants.{Key, Text, Int, Real}
-use Rattle.token.specs.Lex.{mayLieOutside}
-use Rattle.kinds.specs.Kinds.{rowWidth, wantAt}
+use Rattle.token.specs.Lex.{kindMost, mayLieOutside}
+use Rattle.kinds.specs.Kinds.{rowWidth, verticesPlace, fixedVertices, unsaid, wantAt}
 use Rattle.made.specs.Made.{natOf, isBetween, inRange, hasField, isOutside, isCell, isCellAt, cellTest, areNumbers}
 
 -- a signed number in a local
@@ -131,8 +131,48 @@ module _ (kind : ℕ) (z : ℤ) (f : SFits w64 z) where
 
 pub ruleset outside-ways = (outside-0, outside-1, outside-other)
 
+-- ---- a number for which the section has no record
+
+module _ (kind p : ℕ) where
+  pub unsaid-vertices : p ≡ verticesPlace → (r : ℕ) → r ≡ fixedVertices kind → r ≡ unsaid kind p
+  unfolding unsaid
+  unsaid-vertices e r q = rw (eq-eqb p verticesPlace e) q
+
+  pub unsaid-none : (p ≡ verticesPlace → ⊥) → 0 ≡ unsaid kind p
+  unfolding unsaid
+  unsaid-none e = rw (ne-eqb p verticesPlace e)
+
+pub ruleset unsaid-ways = (unsaid-vertices, unsaid-none)
+
+module _ (kind p : ℕ) (z : ℤ) (f : SFits w64 z) (n : ℕ) (q : n ≡ unsaid kind p) where
+  module _ (h : 0 < n) (c : ℕ) (e : c ≡ natOf (bits z)) where
+    by-count : eqZ z (pos (unsaid kind p)) ≡ eqb c n
+    by-count = rw (← q, e, toZ-ofZ f) (go z)
+      where
+        go : (y : ℤ) → eqZ y (pos n) ≡ eqb (natOf y) n
+        go (pos m) = refl
+        go (negsuc m) = sym (ne-eqb 0 n (λ w. omega arith))
+
+    pub unsaid-is : c ≡ n → true ≡ eqZ z (pos (unsaid kind p))
+    unsaid-is w = sym (by-count ∙ eq-eqb c n w)
+
+    pub unsaid-not : (c ≡ n → ⊥) → false ≡ eqZ z (pos (unsaid kind p))
+    unsaid-not w = sym (by-count ∙ ne-eqb c n w)
+
+  module _ (h : n ≤ 0) where
+    none : unsaid kind p ≡ 0
+    none = omega arith
+
+    pub unsaid-0 : ofZ w64 z ≡ 0 → true ≡ eqZ z (pos (unsaid kind p))
+    unsaid-0 e = rw none (sym (is-0 z f e))
+
+    pub unsaid-other : (ofZ w64 z ≡ 0 → ⊥) → false ≡ eqZ z (pos (unsaid kind p))
+    unsaid-other e = rw none (sym (bits-no z (pos 0) e))
+
+pub ruleset is-unsaid-ways = (unsaid-is, unsaid-not, unsaid-0, unsaid-other)
+
 module _ (kind p : ℕ) (z : ℤ) (f : SFits w64 z) where
-  pub cell-kind : (r : Bool) → p ≡ 0 → r ≡ isBetween 1 5 (bits z) → r ≡ isCell kind p z
+  pub cell-kind : (r : Bool) → p ≡ 0 → r ≡ isBetween 1 kindMost (bits z) → r ≡ isCell kind p z
   unfolding isCell
   cell-kind r e q = rw (eq-eqb p 0 e) (rw (toZ-ofZ f) at q)
 
@@ -146,16 +186,11 @@ module _ (kind p : ℕ) (z : ℤ) (f : SFits w64 z) where
       unfolding isCell
       cell-field t w v r q = rw (ne-eqb p 0 n, ne-eqb p 1 m, ← h, t, ← v) (rw (toZ-ofZ f) at q)
 
-      module _ (t : b ≡ false) where
-        pub cell-0 : ofZ w64 z ≡ 0 → true ≡ isCell kind p z
-        unfolding isCell
-        cell-0 e = rw (ne-eqb p 0 n, ne-eqb p 1 m, ← h, t, is-0 z f e)
+      pub cell-unsaid : b ≡ false → (r : Bool) → r ≡ eqZ (bits z) (pos (unsaid kind p)) → r ≡ isCell kind p z
+      unfolding isCell
+      cell-unsaid t r q = rw (ne-eqb p 0 n, ne-eqb p 1 m, ← h, t) (rw (toZ-ofZ f) at q)
 
-        pub cell-other : (ofZ w64 z ≡ 0 → ⊥) → false ≡ isCell kind p z
-        unfolding isCell
-        cell-other e = rw (ne-eqb p 0 n, ne-eqb p 1 m, ← h, t, bits-no z (pos 0) e)
-
-pub ruleset cell-ways = (cell-kind, cell-outside, cell-field, cell-0, cell-other)
+pub ruleset cell-ways = (cell-kind, cell-outside, cell-field, cell-unsaid)
 
 -- ---- the numbers of a row of a kind
 
@@ -180,13 +215,10 @@ pub ruleset cells-ways = (cells-over, cells-step, cells-stop)
 
 -- ---- the first row of some rows
 
--- a number that is not 1 to 5
-no-kind : (z : ℤ) (k : ℕ) → k ≡ natOf z → (k ≡ 1 → ⊥) → (k ≡ 2 → ⊥) → (k ≡ 3 → ⊥) → (k ≡ 4 → ⊥) → (k ≡ 5 → ⊥) → isBetween 1 5 z ≡ true → false ≡ true
-no-kind (pos n) k e a b c d f g =
-    let l = leb-true 1 n (and-left (leb 1 n) (leb n 5) g) in
-    let m = leb-true n 5 (and-right (leb 1 n) (leb n 5) g) in
-    absurd (omega arith)
-no-kind (negsuc n) k e a b c d f g = g
+-- a number that is a kind
+kind-in : (z : ℤ) → isBetween 1 kindMost z ≡ true → (1 ≤ natOf z) × (natOf z ≤ kindMost)
+kind-in (pos n) e = (leb-true 1 n (and-left (leb 1 n) (leb n kindMost) e), leb-true n kindMost (and-right (leb 1 n) (leb n kindMost) e))
+kind-in (negsuc n) e = absurd (true≢false (sym e))
 
 module _ (rows : List ℤ) where
   pub numbers-short : length rows < rowWidth → false ≡ areNumbers rows
@@ -198,14 +230,21 @@ module _ (rows : List ℤ) where
     unfolding areNumbers below
     numbers-kind kind f r q = rw (le-leb rowWidth (length rows) l, ← e, f) q
 
-    pub numbers-no-kind : (k ≡ 1 → ⊥) → (k ≡ 2 → ⊥) → (k ≡ 3 → ⊥) → (k ≡ 4 → ⊥) → (k ≡ 5 → ⊥) → false ≡ areNumbers rows
+    no-kind : ((1 ≤ k) × (k ≤ kindMost) → ⊥) → false ≡ areNumbers rows
     unfolding areNumbers isCell
-    numbers-no-kind a b c d f = go (areNumbers rows) refl
+    no-kind n = go (areNumbers rows) refl
       where
         go : (t : Bool) → areNumbers rows ≡ t → false ≡ t
         go true q =
-            no-kind (getD rows 0 (pos 0)) k e a b c d f
-            (below-at rowWidth (cellTest rows) 0 (and-right (leb rowWidth (length rows)) (below rowWidth (cellTest rows)) q) (omega arith))
+            let h =
+            kind-in (getD rows 0 (pos 0)) (below-at rowWidth (cellTest rows) 0 (and-right (leb rowWidth (length rows)) (below rowWidth (cellTest rows)) q) (omega arith)) in
+            absurd (n (omega (arith, h .0), omega (arith, h .1)))
         go false q = refl
 
-pub ruleset number-ways = (numbers-short, numbers-kind, numbers-no-kind)
+    pub numbers-none : k < 1 → false ≡ areNumbers rows
+    numbers-none h = no-kind (λ (l, m). omega arith)
+
+    pub numbers-past : kindMost < k → false ≡ areNumbers rows
+    numbers-past h = no-kind (λ (l, m). omega arith)
+
+pub ruleset number-ways = (numbers-short, numbers-kind, numbers-none, numbers-past)

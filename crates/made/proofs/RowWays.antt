@@ -18,24 +18,14 @@ use Rattle.laws.proofs.ListLaws.{below-at, part-count}
 use Rattle.record.specs.declared.Mode.{Mode}
 use Rattle.record.specs.declared.Mode.the-variants.{Loose, Exact}
 use Rattle.token.specs.declared.Want.the-variants.{Int}
-use Rattle.kinds.specs.Kinds.{rowWidth, codePlace, lettersPlace, islandsPlace, verticesPlace, schedule, isListed, wantAt}
+use Rattle.kinds.specs.Kinds.{rowWidth, codePlace, lettersPlace, islandsPlace, verticesPlace, schedule, unsaid, isListed, wantAt}
 use Rattle.sheet.specs.Tables.{Tables}
 use Rattle.made.specs.declared.RowJudged.the-variants.{Wrong, Strange, On}
 use Rattle.made.specs.Made.{tablesOf, natOf, countAt, kindOf, islandsOf, inRange, hasField, isCell, cellTest, areNumbers, areLetters, sum, fourAtLeast, areCounts, areReals, arePoints, isMade, isCoded}
 use Rattle.made.specs.Turn.{rowTurn}
+use Rattle.made.proofs.FieldWays.{no-islands}
 
 -- ---- what a row that is made holds
-
--- only borders have islands
-no-islands : (kind : ℕ) → (kind ≡ 1 → ⊥) → holds (getD schedule kind []) islandsPlace ≡ false
-unfolding schedule holds
-no-islands zero n = refl
-no-islands (suc zero) n = absurd (n refl)
-no-islands (suc (suc zero)) n = refl
-no-islands (suc (suc (suc zero))) n = refl
-no-islands (suc (suc (suc (suc zero)))) n = refl
-no-islands (suc (suc (suc (suc (suc zero))))) n = refl
-no-islands (suc (suc (suc (suc (suc (suc kind)))))) n = refl
 
 nought : (z : ℤ) → eqZ z (pos 0) ≡ true → natOf z ≡ 0
 nought (pos n) e = eqb-true n 0 e
@@ -56,7 +46,7 @@ module _ (rows : List ℤ) (e : areNumbers rows ≡ true) where
   cell-right p = below-at rowWidth (cellTest rows) p (and-right (leb rowWidth (length rows)) (below rowWidth (cellTest rows)) e)
 
   islands-none : (natOf (getD rows 0 (pos 0)) ≡ 1 → ⊥) → natOf (getD rows islandsPlace (pos 0)) ≡ 0
-  unfolding isCell hasField
+  unfolding isCell unsaid
   islands-none n =
       let c = cell-right islandsPlace (omega arith) in
       nought (getD rows islandsPlace (pos 0)) (rw (no-islands (natOf (getD rows 0 (pos 0))) n) at c)

@@ -1,12 +1,12 @@
 -- The ways through the functions that judge a row's letters, counts and points, each with what the code has in hand there. Assumes nothing.
 use mathlib.Core.Path.{_≡_, refl, sym, ap, _∙_}
 use mathlib.Core.List.{List, [], _∷_}
-use mathlib.Core.Bool.{Bool, true, false, not, _&&_}
+use mathlib.Core.Bool.{Bool, true, false, not, _&&_, _||_}
 use Prim.Native.Nat.{ℕ, zero, suc, _+_, _-_, _*_, _/_, _%_, _^_, _≤_, _<_}
 use native.Mathlib.Omega.{arith}
 use lib.ListN.{length, getD, take, drop, length-drop}
 use lib.Seq.{getD-take, drop-drop}
-use lib.Dec.{leb}
+use lib.Dec.{leb, eqb}
 use lib.IntN.{ℤ, pos}
 use lib.Signed.{mag}
 use mir.Syntax.{w64}
@@ -19,7 +19,8 @@ use Rattle.laws.proofs.ListLaws.{left, left-none, part-count, rest-is, all-step
 use Rattle.laws.proofs.Bits.{back, eqZ-yes, bits-yes, bits-no}
 use Rattle.record.specs.Record.{plain}
 use Rattle.number.specs.Number.{isReal}
-use Rattle.made.specs.Made.{areLetters, sum, fourAtLeast, areCounts, areReals, isClosed, areClosed, ringSizes, arePoints}
+use Rattle.kinds.specs.Kinds.{verticesPlace}
+use Rattle.made.specs.Made.{hasField, areLetters, sum, fourAtLeast, areCounts, areReals, isClosed, areClosed, ringSizes, arePoints}
 use Rattle.made.proofs.FieldWays.{vertices-line}
 
 -- ---- letters
@@ -140,18 +141,22 @@ module _ (kind i v : ℕ) (s : List ℕ) where
   counts-border e r q = rw e q
 
   module _ (n : kind ≡ 1 → ⊥) where
-    pub counts-none : (kind ≡ 5 → ⊥) → true ≡ areCounts kind i v s
-    unfolding areCounts
-    counts-none m = rw (ne-eqb kind 1 n, vertices-line kind n, ne-eqb kind 5 m)
+    module _ (r : Bool) (q : r ≡ (eqb kind 5 || eqb kind 7)) where
+      has-count : hasField kind verticesPlace ≡ r
+      has-count = vertices-line kind n ∙ sym q
 
-    module _ (e : kind ≡ 5) where
-      pub counts-few : v < 2 → false ≡ areCounts kind i v s
+      pub counts-none : r ≡ false → true ≡ areCounts kind i v s
       unfolding areCounts
-      counts-few k = rw (ne-eqb kind 1 n, vertices-line kind n, eq-eqb kind 5 e, lt-leb 2 v k)
+      counts-none m = rw (ne-eqb kind 1 n, has-count, m)
 
-      pub counts-line : 2 ≤ v → true ≡ areCounts kind i v s
-      unfolding areCounts
-      counts-line k = rw (ne-eqb kind 1 n, vertices-line kind n, eq-eqb kind 5 e, le-leb 2 v k)
+      module _ (e : r ≡ true) where
+        pub counts-few : v < 2 → false ≡ areCounts kind i v s
+        unfolding areCounts
+        counts-few k = rw (ne-eqb kind 1 n, has-count, e, lt-leb 2 v k)
+
+        pub counts-line : 2 ≤ v → true ≡ areCounts kind i v s
+        unfolding areCounts
+        counts-line k = rw (ne-eqb kind 1 n, has-count, e, le-leb 2 v k)
 
 pub ruleset count-ways = (counts-border, counts-none, counts-few, counts-line)
 

@@ -12,7 +12,7 @@ use Rattle.record.specs.declared.Mode.the-variants.{Loose, Exact}
 use Rattle.number.specs.Number.{isReal}
 use Rattle.spelling.specs.Spelling.{integerMost}
 use Rattle.token.specs.Lex.{mayLieOutside}
-use Rattle.kinds.specs.Kinds.{schedule, codes, isListed, wantAt}
+use Rattle.kinds.specs.Kinds.{schedule, fixed, fixedVertices, unsaid, codes, isListed, wantAt}
 use Rattle.heading.specs.declared.Header.{Header}
 use Rattle.heading.specs.Heading.{nameByte, isName, isHeader}
 use Rattle.sheet.specs.Tables.{Tables}
@@ -39,7 +39,7 @@ ring last = pos 0 ∷ pos 0 ∷ pos 9 ∷ pos 0 ∷ pos 9 ∷ pos 9 ∷ pos last
 
 -- `judgeOf` with every definition opened, so that it computes
 unfoldable pub computed : Mode → Header → ℕ → Tables → Verdict
-unfolding judgeOf isHeader isName allAt nameByte same judgeRows isMade areNumbers below isCell isOutside hasField inRange isReal wantAt mayLieOutside schedule holds areLetters all sum areCounts arePoints areReals isClosed areClosed ringSizes isCoded isListed codes
+unfolding judgeOf isHeader isName allAt nameByte same judgeRows isMade areNumbers below isCell isOutside hasField inRange isReal wantAt mayLieOutside schedule holds areLetters all sum areCounts arePoints areReals isClosed areClosed ringSizes isCoded isListed codes unsaid fixedVertices fixed
 computed mode h count t = judgeOf mode h count t
 
 -- the verdict on the first rows of some tables
@@ -133,11 +133,31 @@ lacking : (judged Exact (odd 1 5 0 99999999999) [] [] [] 1 ≡ Fine) × (judged 
 unfolding judged
 lacking = (refl, refl, refl, refl)
 
--- all but BORDO may lie outside; there is no kind 0 and none past 5
+-- TESTO to LINEA may lie outside, no other kind; there is no kind 0 and none past 7
 outside-kinds : (isOutside 0 (pos 1) ≡ false) × (isOutside 1 (pos 1) ≡ false) × (isOutside 2 (pos 1) ≡ true) × (isOutside 5 (pos 1) ≡ true) × (isOutside 6 (pos 1) ≡ false)
-    × (isOutside 1 (pos 0) ≡ true)
+    × (isOutside 7 (pos 1) ≡ false) × (isOutside 1 (pos 0) ≡ true) × (isOutside 7 (pos 0) ≡ true) × (isOutside 8 (pos 1) ≡ false)
 unfolding computed
-outside-kinds = (refl, refl, refl, refl, refl, refl)
+outside-kinds = (refl, refl, refl, refl, refl, refl, refl, refl, refl)
+
+-- a raster and a survey book's line, with an outside mark, a code and so many vertices
+abbrev pub raster : ℕ → ℕ → ℕ → List ℤ
+raster outside code vertices = pos 6 ∷ pos outside ∷ pos code ∷ pos 0 ∷ pos 0 ∷ pos 0 ∷ pos 0 ∷ pos 0 ∷ pos 0 ∷ pos 1 ∷ pos 0 ∷ pos vertices ∷ []
+
+abbrev pub book : ℕ → ℕ → ℕ → List ℤ
+book outside code vertices = pos 7 ∷ pos outside ∷ pos code ∷ pos 0 ∷ pos 0 ∷ pos 0 ∷ pos 0 ∷ pos 0 ∷ pos 0 ∷ pos 1 ∷ pos 0 ∷ pos vertices ∷ []
+
+-- a raster has 4 vertices and no other number of them, which need not close; no outside mark, no code, its points all held
+rasters-in : (judged Exact (raster 0 0 4) (text "7") [] (ring 1) 1 ≡ Fine) × (judged Loose (raster 0 0 3) (text "7") [] (ring 0) 1 ≡ Faulty 0) × (judged Loose (raster 0 0 5) (text "7") [] (ring 0 ++ ring 0) 1 ≡ Faulty 0)
+    × (judged Loose (raster 0 0 0) (text "7") [] (ring 0) 1 ≡ Faulty 0) × (judged Loose (raster 1 0 4) (text "7") [] (ring 0) 1 ≡ Faulty 0) × (judged Loose (raster 0 1 4) (text "7") [] (ring 0) 1 ≡ Faulty 0)
+    × (judged Loose (raster 0 0 4) (text "7") [] (pos 0 ∷ pos 0 ∷ pos 9 ∷ pos 0 ∷ pos 9 ∷ pos 9 ∷ []) 1 ≡ Faulty 0) × (judged Loose (raster 0 0 4) [] [] (ring 0) 1 ≡ Faulty 0)
+unfolding judged
+rasters-in = (refl, refl, refl, refl, refl, refl, refl, refl)
+
+-- a survey book's line has 2 vertices at least and need not close; type 1 alone is listed; no outside mark
+books-in : (judged Exact (book 0 1 2) (text "7") [] (ring 0) 1 ≡ Fine) × (judged Exact (book 0 1 1) (text "7") [] (ring 0) 1 ≡ Faulty 0) × (judged Exact (book 0 2 2) (text "7") [] (ring 0) 1 ≡ Unlisted 0)
+    × (judged Loose (book 0 2 2) (text "7") [] (ring 0) 1 ≡ Fine) × (judged Loose (book 1 1 2) (text "7") [] (ring 0) 1 ≡ Faulty 0)
+unfolding judged
+books-in = (refl, refl, refl, refl, refl)
 
 -- within a row 15 comes before 10
 both-wrong : (judged Exact (odd 0 12 18 0) [] [] [] 1 ≡ Faulty 0) × (judged Exact (symbol 5 ++ odd 2 12 0 0) [] [] [] 2 ≡ Faulty 1)

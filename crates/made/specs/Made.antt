@@ -16,8 +16,8 @@ use Rattle.number.specs.Words.{blank}
 use Rattle.number.specs.Number.{isReal}
 use Rattle.token.specs.declared.Want.{Want}
 use Rattle.token.specs.declared.Want.the-variants.{Key, Text, Int, Real}
-use Rattle.token.specs.Lex.{mayLieOutside}
-use Rattle.kinds.specs.Kinds.{rowWidth, codePlace, lettersPlace, islandsPlace, verticesPlace, schedule, isListed, wantAt}
+use Rattle.token.specs.Lex.{kindMost, mayLieOutside}
+use Rattle.kinds.specs.Kinds.{rowWidth, codePlace, lettersPlace, islandsPlace, verticesPlace, schedule, unsaid, isListed, wantAt}
 use Rattle.heading.specs.declared.Header.{Header}
 use Rattle.heading.specs.Heading.{isHeader}
 use Rattle.sheet.specs.Tables.{Tables, empty, _then_}
@@ -82,14 +82,14 @@ inRange Real z = isReal z
 unfoldable pub hasField : ℕ → ℕ → Bool
 hasField kind p = holds (getD schedule kind []) p
 
--- outside is 0 or 1; all but BORDO may lie outside
+-- outside is 0 or 1, and 1 only where the keyword takes a `\`
 unfoldable pub isOutside : ℕ → ℤ → Bool
 isOutside kind z = eqZ z (pos 0) || eqZ z (pos 1) && mayLieOutside kind
 
--- kind 1 to 5; a field the section lacks is 0
+-- kind 1 to the last; a field the section lacks is 0, or 4 vertices that it does not count
 unfoldable pub isCell : ℕ → ℕ → ℤ → Bool
 isCell kind p z =
-    cond (eqb p 0) (isBetween 1 5 z) (cond (eqb p 1) (isOutside kind z) (cond (hasField kind p) (inRange (wantAt p) z) (eqZ z (pos 0))))
+    cond (eqb p 0) (isBetween 1 kindMost z) (cond (eqb p 1) (isOutside kind z) (cond (hasField kind p) (inRange (wantAt p) z) (eqZ z (pos (unsaid kind p)))))
 
 abbrev pub isCellAt : ℕ → List ℤ → ℕ → Bool
 isCellAt kind rows p = isCell kind p (getD rows p (pos 0))
@@ -115,7 +115,7 @@ abbrev pub fourAtLeast : ℕ → Bool
 fourAtLeast n = leb 4 n
 
 -- a border's vertices are at least 4 + 4 times its islands; an island has at least 4, and the islands leave 4 for the outer ring;
--- a line has at least 2
+-- a line, of the map or of a survey book, has at least 2
 unfoldable pub areCounts : ℕ → ℕ → ℕ → List ℕ → Bool
 areCounts kind i v s =
     cond (eqb kind 1) (leb (4 + 4 * i) v && leb i (length s) && all fourAtLeast (take i s) && leb (sum (take i s) + 4) v)

@@ -1,19 +1,30 @@
-// A row's own twelve numbers (document 01, "Sheet tables"): each in its range, a field that the kind lacks 0.
+// A row's own twelve numbers (document 01, "Sheet tables"): each in its range, a field that the kind lacks as its section leaves it.
 ghost use mathlib.Core.Path.{_≡_};
 ghost use mathlib.Core.Bool.{_&&_, _||_};
 ghost use Prim.Native.Nat.{_≤_, _<_};
 ghost use lib.ListN.{length};
 ghost use lib.Dec.{eqb};
+ghost use lib.IntN.{pos};
 ghost use lib.Signed.{leZ};
 ghost use Rattle.laws.specs.Lists.{below};
-ghost use Rattle.kinds.specs.Kinds.{rowWidth};
+ghost use Rattle.laws.specs.Whole.{eqZ};
+ghost use Rattle.token.specs.Lex.{kindMost};
+ghost use Rattle.kinds.specs.Kinds.{rowWidth, unsaid};
 ghost use Rattle.made.specs.Made.{inRange, hasField, isOutside, isCell, isCellAt, areNumbers};
 use crate::ROW_WIDTH;
+use crate::VERTICES_PLACE;
 use crate::count_at;
+use crate::count_of;
+use kinds::fixed_vertices;
 use kinds::want_at;
 use spelling::is_real;
 use token::Want;
 use token::may_lie_outside;
+
+// How many kinds there are, as a number of a row and as a count.
+const KIND_MOST: i64 = 7;
+
+const KINDS: usize = 7;
 
 fn is_between(least: i64, most: i64, z: i64) -> bool
     ensures { λ r. ⌜ r ≡ (leZ least z && leZ z most) ⌝ }
@@ -38,7 +49,7 @@ fn in_range(want: Want, z: i64) -> bool
     }
 }
 
-// Outside is 0 or 1; all but borders may lie outside.
+// Outside is 0 or 1, and 1 only where the kind may lie outside.
 fn is_outside(kind: usize, z: i64) -> bool
     ensures { λ r. ⌜ r ≡ isOutside kind z ⌝ }
 {
@@ -51,7 +62,7 @@ fn is_outside(kind: usize, z: i64) -> bool
     false
 }
 
-fn is_either(n: usize, a: usize, b: usize) -> bool
+pub(crate) fn is_either(n: usize, a: usize, b: usize) -> bool
     ensures { λ r. ⌜ r ≡ (eqb n a || eqb n b) ⌝ }
 {
     if n == a {
@@ -60,13 +71,22 @@ fn is_either(n: usize, a: usize, b: usize) -> bool
     if n == b { true } else { false }
 }
 
+fn is_among(n: usize, a: usize, b: usize, c: usize) -> bool
+    ensures { λ r. ⌜ r ≡ (eqb n a || (eqb n b || eqb n c)) ⌝ }
+{
+    if n == a {
+        return true;
+    }
+    is_either(n, b, c)
+}
+
 // The rows of a kind have a field at a place. Where the kind is a number of the code, this is settled before it runs.
 fn has(kind: usize, place: usize) -> bool
-    requires { ⌜ (1 ≤ kind) × (kind ≤ 5) × (place < rowWidth) ⌝ }
+    requires { ⌜ (1 ≤ kind) × (kind ≤ kindMost) × (place < rowWidth) ⌝ }
     ensures { λ r. ⌜ r ≡ hasField kind place ⌝ }
 {
     match place {
-        2 => kind > 2,
+        2 => !is_among(kind, 1, 2, 6),
         3 => kind < 3,
         4 => kind < 4,
         5 => kind < 5,
@@ -75,18 +95,38 @@ fn has(kind: usize, place: usize) -> bool
         8 => is_either(kind, 1, 4),
         9 => !is_either(kind, 3, 5),
         10 => kind < 2,
-        11 => is_either(kind, 1, 5),
+        11 => is_among(kind, 1, 5, 7),
         _ => false,
     }
 }
 
+// What a row has at a place for which its section has no record.
+fn unsaid_at(kind: usize, place: usize) -> usize
+    ensures { λ r. ⌜ r ≡ unsaid kind place ⌝ }
+{
+    if place == VERTICES_PLACE {
+        return fixed_vertices(kind);
+    }
+    0
+}
+
+fn is_unsaid(kind: usize, place: usize, z: i64) -> bool
+    ensures { λ r. ⌜ r ≡ eqZ z (pos (unsaid kind place)) ⌝ }
+{
+    let n = unsaid_at(kind, place);
+    if n > 0 {
+        return if count_of(z) == n { true } else { false };
+    }
+    if z == 0 { true } else { false }
+}
+
 // A number that a row of a kind may have at a place.
 fn is_cell(kind: usize, place: usize, z: i64) -> bool
-    requires { ⌜ (1 ≤ kind) × (kind ≤ 5) × (place < rowWidth) ⌝ }
+    requires { ⌜ (1 ≤ kind) × (kind ≤ kindMost) × (place < rowWidth) ⌝ }
     ensures { λ r. ⌜ r ≡ isCell kind place z ⌝ }
 {
     if place == 0 {
-        return is_between(1, 5, z);
+        return is_between(1, KIND_MOST, z);
     }
     if place == 1 {
         return is_outside(kind, z);
@@ -94,12 +134,12 @@ fn is_cell(kind: usize, place: usize, z: i64) -> bool
     if has(kind, place) {
         return in_range(want_at(place), z);
     }
-    if z == 0 { true } else { false }
+    is_unsaid(kind, place, z)
 }
 
 // Each number of the first row, of a kind, is right.
 fn are_cells(kind: usize, rows: &[i64]) -> bool
-    requires { ⌜ (1 ≤ kind) × (kind ≤ 5) × (rowWidth ≤ length (now rows)) ⌝ }
+    requires { ⌜ (1 ≤ kind) × (kind ≤ kindMost) × (rowWidth ≤ length (now rows)) ⌝ }
     ensures { λ r. ⌜ r ≡ below rowWidth (isCellAt kind (now (rows .entry))) ⌝ }
 {
     let mut p = ROW_WIDTH;
@@ -112,19 +152,26 @@ fn are_cells(kind: usize, rows: &[i64]) -> bool
     true
 }
 
-// The first row is wholly held, and each of its numbers is right. The kind is told apart first, so that each kind has its own tests.
+// The first row is wholly held, and each of its numbers is right. The kinds of most rows are told apart first, so that each has its own tests.
 pub(crate) fn are_numbers(rows: &[i64]) -> bool
     ensures { λ r. ⌜ r ≡ areNumbers (now (rows .entry)) ⌝ }
 {
     if rows.len() < ROW_WIDTH {
         return false;
     }
-    match count_at(rows, 0) {
+    let kind = count_at(rows, 0);
+    if kind < 1 {
+        return false;
+    }
+    if kind > KINDS {
+        return false;
+    }
+    match kind {
         1 => are_cells(1, rows),
         2 => are_cells(2, rows),
         3 => are_cells(3, rows),
         4 => are_cells(4, rows),
         5 => are_cells(5, rows),
-        _ => false,
+        _ => are_cells(kind, rows),
     }
 }

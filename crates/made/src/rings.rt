@@ -6,12 +6,15 @@ ghost use lib.ListN.{length, take};
 ghost use Rattle.laws.specs.Lists.{all};
 ghost use Rattle.number.specs.Number.{isReal};
 ghost use Rattle.made.specs.Made.{sum, fourAtLeast, areCounts, areReals, isClosed, areClosed, ringSizes, arePoints};
+use crate::numbers::is_either;
 use crate::outer_of;
 use crate::wide;
 use spelling::is_real;
 
-// The kind of a line.
+// The kinds of lines: of the map, and of a survey book.
 const LINE: usize = 5;
+
+const BOOK: usize = 7;
 
 // Every island has four vertices at least.
 fn are_islands(s: &[u16]) -> bool
@@ -56,7 +59,7 @@ pub(crate) fn are_counts(kind: usize, i: usize, v: usize, s: &[u16]) -> bool
     if kind == 1 {
         return are_border_counts(i, v, s);
     }
-    if kind == LINE {
+    if is_either(kind, LINE, BOOK) {
         return if v < 2 { false } else { true };
     }
     true

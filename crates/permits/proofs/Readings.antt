@@ -55,9 +55,9 @@ is = listed-is
 
 -- ---- the answers, computed
 
--- RIFERIMENTO_RASTER where a keyword is due
+-- RIFERIMENTO_RASTER with a final backslash where a keyword is due
 abbrev pub raster : List ℕ
-raster = text "MAPPA\nZ999_000100\n1000.000\nRIFERIMENTO_RASTER\n"
+raster = text "MAPPA\nZ999_000100\n1000.000\nRIFERIMENTO_RASTER\\\n"
 
 -- a byte behind the EOF record
 abbrev pub followed : List ℕ

@@ -26,10 +26,10 @@ use Rattle.token.specs.declared.Token.{Token}
 use Rattle.token.specs.declared.Want.{Want}
 use Rattle.token.specs.declared.Want.the-variants.{Key, Text, Int, Real}
 use Rattle.token.specs.Lex.{unlift, keywords, keyText, ofKey, ofText, ofDecimal, lexOf}
-use Rattle.token.proofs.TokenLaws.{key-read, key-most}
+use Rattle.token.proofs.TokenLaws.{key-read, key-most, keyMost}
 use Rattle.record.specs.Refusals.{badLetters, badCount}
-use Rattle.kinds.specs.Kinds.{wantAt, schedule, nextIn, nextOf, isListed}
-use Rattle.machine.specs.Machine.{wantOf, freshRing, verticesOf, fieldOf, isShut, ringStep, vertexOf, keyStep, stepOf}
+use Rattle.kinds.specs.Kinds.{wantAt, schedule, nextIn, nextOf, fixed, fixedVertices, isListed}
+use Rattle.machine.specs.Machine.{wantOf, freshRing, verticesOf, fieldsEnd, fieldOf, isShut, ringStep, vertexOf, keyStep, stepOf}
 use Rattle.machine.specs.declared.Ring.{Ring}
 use Rattle.machine.specs.declared.State.{State}
 use Rattle.machine.specs.declared.State.the-variants.{Due, Field, Island, X, Y}
@@ -110,11 +110,11 @@ least-long mode Real c t q = omega (arith, real-long mode c t q)
 
 -- ---- the least bytes of a row: 28, as a TESTO of one letter or a SIMBOLO has
 
--- what a row takes at least from its field at p on (k fields at most), the two vertices of a line with it
+-- what a row takes at least from its field at p on (k fields at most), the two vertices of a line and those that no record counts with it
 unfoldable owed : ℕ → ℕ → ℕ → ℕ
 owed zero kind p = 0
 owed (suc k) kind p =
-    leastOf (wantAt p) + cond (eqb p 11) (cond (eqb kind 1) 0 24) (cond (eqb (nextOf kind p) 0) 0 (owed k kind (nextOf kind p)))
+    leastOf (wantAt p) + cond (eqb p 11) (cond (eqb kind 1) 0 24) (cond (eqb (nextOf kind p) 0) (12 * fixedVertices kind) (owed k kind (nextOf kind p)))
 
 cond-le : (b : Bool) (x y z : ℕ) → y ≤ z → cond b x y ≤ cond b x z
 cond-le true x y z h = omega arith
@@ -125,7 +125,7 @@ unfolding owed
 owed-more zero kind p = omega arith
 owed-more (suc k) kind p =
     let n = nextOf kind p in
-    let h = cond-le (eqb p 11) (cond (eqb kind 1) 0 24) _ _ (cond-le (eqb n 0) 0 _ _ (owed-more k kind n)) in
+    let h = cond-le (eqb p 11) (cond (eqb kind 1) 0 24) _ _ (cond-le (eqb n 0) (12 * fixedVertices kind) _ _ (owed-more k kind n)) in
     omega (arith, h)
 
 -- what a row takes at least from a state on
@@ -152,17 +152,25 @@ vertices-pays kind i n = go (eqb kind 1)
     go true = cond-elim (Pays 0) (leb (4 + 4 * i) n) _ _ (λ _. cond-elim (Pays 0) (eqb i 0) _ _ (λ _. omega arith) (λ _. omega arith)) (λ _. tt)
     go false = cond-elim (Pays 24) (leb 2 n) _ _ (λ e. omega (arith, leb-true 2 n e)) (λ _. tt)
 
+end-pays : (kind : ℕ) → Pays (12 * fixedVertices kind) (fieldsEnd kind)
+unfolding fieldsEnd verticesOf
+end-pays kind =
+    let n = fixedVertices kind in
+    let Q = Pays (12 * n) in
+    cond-elim Q (eqb n 0) _ _ (λ e. omega (arith, eqb-true n 0 e))
+    (λ _. cond-elim Q (eqb kind 1) _ _ (λ _. cond-elim Q (leb (4 + 4 * 0) n) _ _ (λ _. omega arith) (λ _. tt)) (λ _. cond-elim Q (leb 2 n) _ _ (λ _. omega arith) (λ _. tt)))
+
 field-pays : (mode : Mode) (kind p i n : ℕ)
-    → Pays (cond (eqb p 11) (cond (eqb kind 1) 0 24) (cond (eqb (nextOf kind p) 0) 0 (owed 8 kind (nextOf kind p)))) (fieldOf mode kind p i n)
+    → Pays (cond (eqb p 11) (cond (eqb kind 1) 0 24) (cond (eqb (nextOf kind p) 0) (12 * fixedVertices kind) (owed 8 kind (nextOf kind p)))) (fieldOf mode kind p i n)
 unfolding fieldOf
 field-pays mode kind p i n = cond-elim (Pays _) (eqb p 2 && not (isLoose mode) && not (isListed kind n)) _ _ (λ _. tt) (λ _. at (eqb p 11))
   where
-    on : (b : Bool) → Pays (cond b 0 (owed 8 kind (nextOf kind p))) (cond b (Go Due) (Go (Field kind (nextOf kind p) (cond (eqb p 10) n i))))
-    on true = omega arith
+    on : (b : Bool) → Pays (cond b (12 * fixedVertices kind) (owed 8 kind (nextOf kind p))) (cond b (fieldsEnd kind) (Go (Field kind (nextOf kind p) (cond (eqb p 10) n i))))
+    on true = end-pays kind
     on false = owed-more 8 kind (nextOf kind p)
 
-    at : (b : Bool) → Pays (cond b (cond (eqb kind 1) 0 24) (cond (eqb (nextOf kind p) 0) 0 (owed 8 kind (nextOf kind p))))
-        (cond b (verticesOf kind i n) (cond (eqb (nextOf kind p) 0) (Go Due) (Go (Field kind (nextOf kind p) (cond (eqb p 10) n i)))))
+    at : (b : Bool) → Pays (cond b (cond (eqb kind 1) 0 24) (cond (eqb (nextOf kind p) 0) (12 * fixedVertices kind) (owed 8 kind (nextOf kind p))))
+        (cond b (verticesOf kind i n) (cond (eqb (nextOf kind p) 0) (fieldsEnd kind) (Go (Field kind (nextOf kind p) (cond (eqb p 10) n i)))))
     at true = vertices-pays kind i n
     at false = on (eqb (nextOf kind p) 0)
 
@@ -180,8 +188,8 @@ ring-pays r fx fy x y next =
 abbrev isLong : ℕ → Bool
 isLong t = eqb (nextOf (t / 2) 0) 0 || leb 27 (length (keyText t) + owed 9 (t / 2) (nextOf (t / 2) 0))
 
-all-long : below 12 isLong ≡ true
-unfolding below keyText keywords owed nextOf nextIn schedule wantAt
+all-long : below (keyMost + 1) isLong ≡ true
+unfolding below keyText keywords owed nextOf nextIn schedule fixedVertices fixed wantAt
 all-long = refl
 
 -- a step that goes on opens a row by the keyword t
@@ -210,7 +218,7 @@ key-long mode c t q n = go (wordOf mode c) refl q
         let v = word-is mode c start len e in
         let w = take len (drop start c) in
         let k : 27 ≤ length w + owed 9 (t / 2) (nextOf (t / 2) 0) =
-        long w (sym (key-read w t q .1)) (eqb (nextOf (t / 2) 0) 0) n (below-at 12 isLong t all-long (omega (arith, key-most w t q))) in
+        long w (sym (key-read w t q .1)) (eqb (nextOf (t / 2) 0) 0) n (below-at (keyMost + 1) isLong t all-long (omega (arith, key-most w t q))) in
         omega (arith, k, ap length (v .1), trimmed-le c)
     go Word.Padded e q = absurd (let z : _≡_ {A = ℕ} 0 1 = cc in omega arith)
 

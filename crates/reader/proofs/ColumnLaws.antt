@@ -36,8 +36,8 @@ use Rattle.header.specs.declared.Headed.{Headed}
 use Rattle.header.specs.declared.Ahead.{Ahead}
 use Rattle.header.specs.declared.Ahead.the-variants as Ahead
 use Rattle.header.specs.Header.{kindSaid, isNamed, ofScale, scaleLine, headScale, nameLine, headName, firstLine, headed}
-use Rattle.kinds.specs.Kinds.{nextOf, isListed}
-use Rattle.machine.specs.Machine.{wantOf, isDue, verticesOf, fieldOf, islandOf, isShut, ringStep, vertexOf, keyStep, stepOf, ofStep, ofToken, ofLine, oneOf}
+use Rattle.kinds.specs.Kinds.{nextOf, fixedVertices, isListed}
+use Rattle.machine.specs.Machine.{wantOf, isDue, verticesOf, fieldsEnd, fieldOf, islandOf, isShut, ringStep, vertexOf, keyStep, stepOf, ofStep, ofToken, ofLine, oneOf}
 use Rattle.machine.specs.declared.State.{State}
 use Rattle.machine.specs.declared.State.the-variants.{Due, Field, Island, X, Y}
 use Rattle.machine.specs.declared.Step.{Step}
@@ -110,19 +110,28 @@ StepOther (Step.Go st) = Unit {0}
 StepOther (Step.No m) = Other m
 StepOther Step.End = Unit {0}
 
+vertices-other : (kind i n : ℕ) → StepOther (verticesOf kind i n)
+unfolding verticesOf
+vertices-other kind i n =
+    let Q = StepOther in
+    cond-elim Q (eqb kind 1) _ _
+    (λ _. cond-elim Q (leb (4 + 4 * i) n) _ _ (λ _. cond-elim Q (eqb i 0) _ _ (λ _. tt) (λ _. tt)) (λ _ e. omega (arith, e)))
+    (λ _. cond-elim Q (leb 2 n) _ _ (λ _. tt) (λ _ e. omega (arith, e)))
+
+end-other : (kind : ℕ) → StepOther (fieldsEnd kind)
+unfolding fieldsEnd
+end-other kind = cond-elim StepOther (eqb (fixedVertices kind) 0) _ _ (λ _. tt) (λ _. vertices-other kind 0 (fixedVertices kind))
+
 step-other : (mode : Mode) (st : State) (t next : ℕ) → StepOther (stepOf mode st t next)
-unfolding stepOf keyStep fieldOf verticesOf islandOf vertexOf ringStep
+unfolding stepOf keyStep fieldOf islandOf vertexOf ringStep
 step-other mode Due t next =
     let Q = StepOther in
     cond-elim Q (eqb t 0) _ _ (λ _. tt) (λ _. cond-elim Q (eqb (nextOf (t / 2) 0) 0) _ _ (λ _ e. omega (arith, e)) (λ _. tt))
 step-other mode (Field kind p i) t next =
     let Q = StepOther in
     cond-elim Q (eqb p 2 && not (isLoose mode) && not (isListed kind t)) _ _ (λ _ e. omega (arith, e))
-    (λ _. cond-elim Q (eqb p 11) _ _
-    (λ _. cond-elim Q (eqb kind 1) _ _
-    (λ _. cond-elim Q (leb (4 + 4 * i) t) _ _ (λ _. cond-elim Q (eqb i 0) _ _ (λ _. tt) (λ _. tt)) (λ _ e. omega (arith, e)))
-    (λ _. cond-elim Q (leb 2 t) _ _ (λ _. tt) (λ _ e. omega (arith, e))))
-    (λ _. cond-elim Q (eqb (nextOf kind p) 0) _ _ (λ _. tt) (λ _. tt)))
+    (λ _. cond-elim Q (eqb p 11) _ _ (λ _. vertices-other kind i t)
+    (λ _. cond-elim Q (eqb (nextOf kind p) 0) _ _ (λ _. end-other kind) (λ _. tt)))
 step-other mode (Island l s r) t next =
     let Q = StepOther in
     cond-elim Q (leb 4 t && leb (t + 4) s) _ _ (λ _. cond-elim Q (leb l 1) _ _ (λ _. tt) (λ _. tt)) (λ _ e. omega (arith, e))

@@ -16,8 +16,8 @@ use Rattle.number.specs.declared.Whole.{Whole}
 use Rattle.number.specs.Number.{integerOf}
 use Rattle.token.specs.Lex.{ofWhole, lexOf}
 use Rattle.token.specs.declared.Token.{Token}
-use Rattle.kinds.specs.Kinds.{nextOf, isListed}
-use Rattle.machine.specs.Machine.{wantOf, isDue, verticesOf, fieldOf, islandOf, isShut, ringStep, vertexOf, keyStep, stepOf}
+use Rattle.kinds.specs.Kinds.{nextOf, fixedVertices, isListed}
+use Rattle.machine.specs.Machine.{wantOf, isDue, verticesOf, fieldsEnd, fieldOf, islandOf, isShut, ringStep, vertexOf, keyStep, stepOf}
 use Rattle.machine.specs.declared.Ring.{Ring}
 use Rattle.machine.specs.declared.State.{State}
 use Rattle.machine.specs.declared.State.the-variants.{Due, Field, Island, X, Y}
@@ -88,13 +88,17 @@ module _ (mode : Mode) (s I : List ℕ) (at : ℕ) where
       (λ _. cond-elim Q (eqb i 0) _ _ (λ _. none-left at) (λ e. all-left i n (eqb-false i 0 e))) (λ _. tt))
       (λ _. cond-elim Q (leb 2 n) _ _ (λ _. none-left at) (λ _. tt))
 
+  end-pend : (kind : ℕ) → StepPend mode s I at at (fieldsEnd kind)
+  unfolding fieldsEnd
+  end-pend kind = cond-elim (StepPend mode s I at at) (eqb (fixedVertices kind) 0) _ _ (λ _. tt) (λ _. vertices-pend kind 0 (fixedVertices kind))
+
   field-pend : (kind p i t : ℕ) → StepPend mode s I at at (fieldOf mode kind p i t)
   unfolding fieldOf
   field-pend kind p i t =
       let Q = StepPend mode s I at at in
       cond-elim Q (eqb p 2 && not (isLoose mode) && not (isListed kind t)) _ _ (λ _. tt)
       (λ _. cond-elim Q (eqb p 11) _ _ (λ _. vertices-pend kind i t)
-      (λ _. cond-elim Q (eqb (nextOf kind p) 0) _ _ (λ _. tt) (λ _. tt)))
+      (λ _. cond-elim Q (eqb (nextOf kind p) 0) _ _ (λ _. end-pend kind) (λ _. tt)))
 
   key-pend : (ring t : ℕ) → StepPend mode s I at ring (keyStep t)
   unfolding keyStep

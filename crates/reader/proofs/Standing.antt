@@ -24,8 +24,8 @@ use Rattle.number.proofs.WordLaws.{word-is, trimmed-le}
 use Rattle.token.specs.Lex.{unlift, ofText, lexOf}
 use Rattle.token.specs.declared.Token.{Token}
 use Rattle.token.specs.declared.Want.the-variants.{Text, Int, Real}
-use Rattle.kinds.specs.Kinds.{nextOf, isListed, wantAt}
-use Rattle.machine.specs.Machine.{wantOf, isDue, verticesOf, fieldOf, islandOf, isShut, ringStep, vertexOf, keyStep, stepOf, ofStep, ofToken, ofLine, oneOf}
+use Rattle.kinds.specs.Kinds.{nextOf, fixedVertices, isListed, wantAt}
+use Rattle.machine.specs.Machine.{wantOf, isDue, verticesOf, fieldsEnd, fieldOf, islandOf, isShut, ringStep, vertexOf, keyStep, stepOf, ofStep, ofToken, ofLine, oneOf}
 use Rattle.machine.specs.declared.Ring.{Ring}
 use Rattle.machine.specs.declared.State.{State}
 use Rattle.machine.specs.declared.State.the-variants.{Due, Field, Island, X, Y}
@@ -76,19 +76,28 @@ oddNext (Island l s r) = 0
 oddNext (X r) = 1
 oddNext (Y r x) = 0
 
+vertices-odd : (kind i n : ℕ) → StepOdd 0 (verticesOf kind i n)
+unfolding verticesOf
+vertices-odd kind i n =
+    let Q = StepOdd 0 in
+    cond-elim Q (eqb kind 1) _ _
+    (λ _. cond-elim Q (leb (4 + 4 * i) n) _ _ (λ _. cond-elim Q (eqb i 0) _ _ (λ _. refl) (λ _. refl)) (λ _. tt))
+    (λ _. cond-elim Q (leb 2 n) _ _ (λ _. refl) (λ _. tt))
+
+end-odd : (kind : ℕ) → StepOdd 0 (fieldsEnd kind)
+unfolding fieldsEnd
+end-odd kind = cond-elim (StepOdd 0) (eqb (fixedVertices kind) 0) _ _ (λ _. refl) (λ _. vertices-odd kind 0 (fixedVertices kind))
+
 step-odd : (mode : Mode) (st : State) (t next : ℕ) → StepOdd (oddNext st) (stepOf mode st t next)
-unfolding stepOf keyStep fieldOf verticesOf islandOf vertexOf ringStep
+unfolding stepOf keyStep fieldOf islandOf vertexOf ringStep
 step-odd mode Due t next =
     let Q = StepOdd 0 in
     cond-elim Q (eqb t 0) _ _ (λ _. tt) (λ _. cond-elim Q (eqb (nextOf (t / 2) 0) 0) _ _ (λ _. tt) (λ _. refl))
 step-odd mode (Field kind p i) t next =
     let Q = StepOdd 0 in
     cond-elim Q (eqb p 2 && not (isLoose mode) && not (isListed kind t)) _ _ (λ _. tt)
-    (λ _. cond-elim Q (eqb p 11) _ _
-    (λ _. cond-elim Q (eqb kind 1) _ _
-    (λ _. cond-elim Q (leb (4 + 4 * i) t) _ _ (λ _. cond-elim Q (eqb i 0) _ _ (λ _. refl) (λ _. refl)) (λ _. tt))
-    (λ _. cond-elim Q (leb 2 t) _ _ (λ _. refl) (λ _. tt)))
-    (λ _. cond-elim Q (eqb (nextOf kind p) 0) _ _ (λ _. refl) (λ _. refl)))
+    (λ _. cond-elim Q (eqb p 11) _ _ (λ _. vertices-odd kind i t)
+    (λ _. cond-elim Q (eqb (nextOf kind p) 0) _ _ (λ _. end-odd kind) (λ _. refl)))
 step-odd mode (Island l s r) t next =
     let Q = StepOdd 0 in
     cond-elim Q (leb 4 t && leb (t + 4) s) _ _ (λ _. cond-elim Q (leb l 1) _ _ (λ _. refl) (λ _. refl)) (λ _. tt)

@@ -4,25 +4,28 @@ use mathlib.Core.Bool.{Bool, true, false, cond}
 use mathlib.Core.List.{List}
 use Prim.Native.Nat.{ℕ, zero, suc, _+_, _-_, _/_, _%_, _^_, _≤_, _<_, zero-le}
 use native.Mathlib.Omega.{arith}
-use lib.ListN.{length, take, drop, getD, set, getD-replicate}
+use lib.ListN.{length, take, drop, getD, set}
 use lib.Seq.{paste, paste-zero, length-paste}
-use lib.Dec.{eqb, ltb}
+use lib.Dec.{leb, eqb, ltb}
 use lib.IntN.{ℤ, pos, negsuc, _-ℤ_}
 use lib.Signed.{mag}
 use mir.Syntax.{w64}
 use mir.Val.{SFits, toZ, ofZ}
 use mir.ValLaws.{toZ-pos, toZ-ofZ}
-use borrow.Author.Tests.{ne-eqb}
-use Rattle.laws.specs.Lists.{pasted}
+use borrow.Author.Tests.{eq-eqb, ne-eqb, leb-true, leb-false}
+use Rattle.laws.specs.Lists.{below, pasted}
+use Rattle.laws.proofs.ListLaws.{below-at}
 use Rattle.laws.proofs.TableLaws.{paste-more, paste-all}
 use Rattle.record.specs.declared.Mode.the-variants.{Loose}
 use Rattle.number.specs.declared.Word.{Word}
 use Rattle.number.specs.declared.Word.the-variants as Word
 use Rattle.number.specs.Words.{wordOf, trimmed}
 use Rattle.number.proofs.WordLaws.{word-is}
-use Rattle.token.specs.Lex.{liftBy, unlift}
-use Rattle.kinds.specs.Kinds.{rowWidth}
+use Rattle.token.specs.Lex.{kindMost, liftBy, unlift}
+use Rattle.kinds.specs.Kinds.{rowWidth, verticesPlace, fixed, fixedVertices, unsaid}
+use Rattle.kinds.proofs.KindLaws.{fixed-none}
 use Rattle.sheet.specs.Tables.{newRow}
+use Rattle.sheet.proofs.Okay.{new-at}
 use Rattle.reader.specs.Store.{tokenMost}
 
 -- ---- a copy: the first `j` of `s` stand in `d`, from `at` on
@@ -52,7 +55,42 @@ module _ {A : Type 0} (l : List A) (at : ℕ) (s d : List A) (j : ℕ) (p : Past
 -- ---- a new row
 
 abbrev cellAt : ℕ → ℕ → ℕ
-cellAt j t = cond (eqb j 0) (t / 2) (cond (eqb j 1) (t % 2) 0)
+cellAt j t = cond (eqb j 0) (t / 2) (cond (eqb j 1) (t % 2) (unsaid (t / 2) j))
+
+module _ (j t : ℕ) where
+  pub cell-first : j ≡ 0 → t / 2 ≡ cellAt j t
+  cell-first e = rw (eq-eqb j 0 e)
+
+  module _ (m : j ≡ 0 → ⊥) where
+    pub cell-second : j ≡ 1 → t % 2 ≡ cellAt j t
+    cell-second e = rw (ne-eqb j 0 m, eq-eqb j 1 e)
+
+    module _ (n : j ≡ 1 → ⊥) where
+      pub cell-vertices : j ≡ verticesPlace → (v : ℕ) → v ≡ fixedVertices (t / 2) → v ≡ cellAt j t
+      unfolding unsaid
+      cell-vertices e v q = rw (ne-eqb j 0 m, ne-eqb j 1 n, eq-eqb j verticesPlace e) q
+
+      pub cell-rest : (j ≡ verticesPlace → ⊥) → 0 ≡ cellAt j t
+      unfolding unsaid
+      cell-rest e = rw (ne-eqb j 0 m, ne-eqb j 1 n, ne-eqb j verticesPlace e)
+
+pub ruleset cell-ways = (cell-first, cell-second, cell-vertices, cell-rest)
+
+-- vertices that no record counts are few, of each kind by computation
+isFew : ℕ → Bool
+isFew kind = leb (fixedVertices kind) 9999
+
+all-few : below (kindMost + 1) isFew ≡ true
+unfolding below isFew fixedVertices fixed
+all-few = refl
+
+fixed-few : (kind : ℕ) → fixedVertices kind ≤ 9999
+unfolding isFew
+fixed-few kind = go (leb kind kindMost) refl
+  where
+    go : (b : Bool) → leb kind kindMost ≡ b → fixedVertices kind ≤ 9999
+    go true e = leb-true (fixedVertices kind) 9999 (below-at (kindMost + 1) isFew kind all-few (omega (arith, leb-true kind kindMost e)))
+    go false e = omega (arith, fixed-none kind (leb-false kind kindMost e))
 
 module _ (j t v : ℕ) (e : v ≡ cellAt j t) where
   pub cell-is : j < rowWidth → pos v ≡ getD (newRow t) j (pos 0)
@@ -63,15 +101,17 @@ module _ (j t v : ℕ) (e : v ≡ cellAt j t) where
       go (suc zero) h = refl
       go (suc (suc j)) h =
           rw (ne-eqb (suc (suc j)) 0 (λ z. omega arith), ne-eqb (suc (suc j)) 1 (λ z. omega arith))
-          (sym (getD-replicate 10 j (pos 0) (pos 0) (omega arith)))
+          (sym (new-at t (suc (suc j)) (omega arith) (omega arith)))
 
   pub cell-most : t ≤ tokenMost → v ≤ tokenMost
-  cell-most h = rw e (go (eqb j 0) (eqb j 1))
+  unfolding unsaid
+  cell-most h = rw e (go (eqb j 0) (eqb j 1) (eqb j verticesPlace))
     where
-      go : (a b : Bool) → cond a (t / 2) (cond b (t % 2) 0) ≤ tokenMost
-      go true b = omega arith
-      go false true = omega arith
-      go false false = omega arith
+      go : (a b c : Bool) → cond a (t / 2) (cond b (t % 2) (cond c (fixedVertices (t / 2)) 0)) ≤ tokenMost
+      go true b c = omega arith
+      go false true c = omega arith
+      go false false true = omega (arith, fixed-few (t / 2))
+      go false false false = omega arith
 
 -- ---- a real, from its token
 

@@ -8,11 +8,12 @@ ghost use lib.IntN.{pos};
 ghost use Rattle.laws.specs.Lists.{pasted};
 ghost use Rattle.number.specs.Words.{trimmed};
 ghost use Rattle.token.specs.Lex.{unlift};
-ghost use Rattle.kinds.specs.Kinds.{wantAt};
+ghost use Rattle.kinds.specs.Kinds.{unsaid, wantAt};
 ghost use Rattle.sheet.specs.Tables.{newRow, cellOf};
 ghost use Rattle.reader.specs.Store.{tokenMost, IslandToken, rowsPut, lettersPut, islandsPut, pointsPut, PutRoom};
 use crate::Needs;
 use crate::ROW_WIDTH;
+use kinds::fixed_vertices;
 use kinds::want_at;
 use machine::State;
 use number::Word;
@@ -21,6 +22,8 @@ use record::Mode;
 use token::Want;
 
 pub(crate) const LETTERS_PLACE: usize = 9;
+
+const VERTICES_PLACE: usize = 11;
 
 fn put_letters(dst: &mut [u8], at: usize, c: &[u8])
     requires { ⌜ at + length (now c) ≤ length (now dst) ⌝ }
@@ -68,15 +71,18 @@ pub(crate) fn put_field(dst: &mut [i64], at: usize, place: usize, t: usize)
     }
 }
 
-// What a new row has at a place: its kind, outside, and then zeros.
+// What a new row has at a place: its kind, outside, and then what its section has no record for.
 fn cell(j: usize, t: usize) -> usize
-    ensures { λ r. ⌜ r ≡ cond (eqb j 0) (t / 2) (cond (eqb j 1) (t % 2) 0) ⌝ }
+    ensures { λ r. ⌜ r ≡ cond (eqb j 0) (t / 2) (cond (eqb j 1) (t % 2) (unsaid (t / 2) j)) ⌝ }
 {
     if j == 0 {
         return t / 2;
     }
     if j == 1 {
         return t % 2;
+    }
+    if j == VERTICES_PLACE {
+        return fixed_vertices(t / 2);
     }
     0
 }

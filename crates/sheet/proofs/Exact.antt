@@ -26,7 +26,7 @@ use Rattle.heading.specs.declared.Header.{Header}
 use Rattle.header.proofs.HeadLaws.{head-widens}
 use Rattle.kinds.specs.Kinds.{nextOf, isListed}
 use Rattle.token.specs.Lex.{ofKey, ofText, ofWhole, ofDecimal, lexOf}
-use Rattle.machine.specs.Machine.{wantOf, isDue, verticesOf, fieldOf, stepOf, ofToken, oneOf}
+use Rattle.machine.specs.Machine.{wantOf, isDue, verticesOf, fieldsEnd, fieldOf, stepOf, ofToken, oneOf}
 use Rattle.sheet.specs.Tables.{Tables, empty}
 use Rattle.sheet.specs.Reading.{read, walkFrom, Reading, sheet, meaning, reading}
 use Rattle.token.specs.declared.Token.{Token}
@@ -73,8 +73,8 @@ unfolding stepOf fieldOf
 step-loose Due st′ t next q = q
 step-loose (Field kind p i) st′ t next q = go (eqb p 2) (isListed kind t) q
   where
-    go : (x y : Bool) → cond (x && true && not y) (No 10) (cond (eqb p 11) (verticesOf kind i t) (cond (eqb (nextOf kind p) 0) (Go Due) (Go (Field kind (nextOf kind p) (cond (eqb p 10) t i))))) ≡ Go st′
-        → cond (x && false && not y) (No 10) (cond (eqb p 11) (verticesOf kind i t) (cond (eqb (nextOf kind p) 0) (Go Due) (Go (Field kind (nextOf kind p) (cond (eqb p 10) t i))))) ≡ Go st′
+    go : (x y : Bool) → cond (x && true && not y) (No 10) (cond (eqb p 11) (verticesOf kind i t) (cond (eqb (nextOf kind p) 0) (fieldsEnd kind) (Go (Field kind (nextOf kind p) (cond (eqb p 10) t i))))) ≡ Go st′
+        → cond (x && false && not y) (No 10) (cond (eqb p 11) (verticesOf kind i t) (cond (eqb (nextOf kind p) 0) (fieldsEnd kind) (Go (Field kind (nextOf kind p) (cond (eqb p 10) t i))))) ≡ Go st′
     go true true q = q
     go true false q = absurd (let z : _≡_ {A = ℕ} 0 1 = cc in omega arith)
     go false y q = q

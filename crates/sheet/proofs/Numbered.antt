@@ -30,8 +30,8 @@ use Rattle.token.specs.declared.Want.{Want}
 use Rattle.token.specs.declared.Want.the-variants.{Key, Text, Int, Real}
 use Rattle.token.specs.Lex.{keywords, isMarked, keyOf, ofKey, ofText, ofWhole, ofDecimal, lexOf}
 use Rattle.header.specs.Header.{kindSaid, isNamed}
-use Rattle.kinds.specs.Kinds.{nextOf, isListed}
-use Rattle.machine.specs.Machine.{wantOf, isDue, verticesOf, fieldOf, islandOf, isShut, ringStep, vertexOf, keyStep, stepOf, ofStep, ofToken, ofLine, oneOf}
+use Rattle.kinds.specs.Kinds.{nextOf, fixedVertices, isListed}
+use Rattle.machine.specs.Machine.{wantOf, isDue, verticesOf, fieldsEnd, fieldOf, islandOf, isShut, ringStep, vertexOf, keyStep, stepOf, ofStep, ofToken, ofLine, oneOf}
 use Rattle.machine.specs.declared.State.{State}
 use Rattle.machine.specs.declared.State.the-variants.{Due, Field, Island, X, Y}
 use Rattle.machine.specs.declared.Step.{Step}
@@ -113,8 +113,20 @@ StepKnown mode (Go st) = Unit {0}
 StepKnown mode (No m) = Known mode m
 StepKnown mode End = Unit {0}
 
+vertices-known : (mode : Mode) (kind i n : ℕ) → StepKnown mode (verticesOf kind i n)
+unfolding verticesOf
+vertices-known mode kind i n =
+    let Q = StepKnown mode in
+    cond-elim Q (eqb kind 1) _ _
+    (λ _. cond-elim Q (leb (4 + 4 * i) n) _ _ (λ _. cond-elim Q (eqb i 0) _ _ (λ _. tt) (λ _. tt)) (λ _. refl))
+    (λ _. cond-elim Q (leb 2 n) _ _ (λ _. tt) (λ _. refl))
+
+fields-known : (mode : Mode) (kind : ℕ) → StepKnown mode (fieldsEnd kind)
+unfolding fieldsEnd
+fields-known mode kind = cond-elim (StepKnown mode) (eqb (fixedVertices kind) 0) _ _ (λ _. tt) (λ _. vertices-known mode kind 0 (fixedVertices kind))
+
 step-known : (mode : Mode) (st : State) (t next : ℕ) → StepKnown mode (stepOf mode st t next)
-unfolding stepOf keyStep fieldOf verticesOf islandOf vertexOf ringStep
+unfolding stepOf keyStep fieldOf islandOf vertexOf ringStep
 step-known mode Due t next =
     let Q = StepKnown mode in
     cond-elim Q (eqb t 0) _ _ (λ _. tt) (λ _. cond-elim Q (eqb (nextOf (t / 2) 0) 0) _ _ (λ _. refl) (λ _. tt))
@@ -122,11 +134,8 @@ step-known mode (Field kind p i) t next =
     let Q = StepKnown mode in
     cond-elim Q (eqb p 2 && not (isLoose mode) && not (isListed kind t)) _ _
     (λ e. exactly mode unlistedCode (not-true (isLoose mode) (and-right (eqb p 2) (not (isLoose mode)) (and-left (eqb p 2 && not (isLoose mode)) (not (isListed kind t)) e))) refl)
-    (λ _. cond-elim Q (eqb p 11) _ _
-    (λ _. cond-elim Q (eqb kind 1) _ _
-    (λ _. cond-elim Q (leb (4 + 4 * i) t) _ _ (λ _. cond-elim Q (eqb i 0) _ _ (λ _. tt) (λ _. tt)) (λ _. refl))
-    (λ _. cond-elim Q (leb 2 t) _ _ (λ _. tt) (λ _. refl)))
-    (λ _. cond-elim Q (eqb (nextOf kind p) 0) _ _ (λ _. tt) (λ _. tt)))
+    (λ _. cond-elim Q (eqb p 11) _ _ (λ _. vertices-known mode kind i t)
+    (λ _. cond-elim Q (eqb (nextOf kind p) 0) _ _ (λ _. fields-known mode kind) (λ _. tt)))
 step-known mode (Island l s r) t next =
     let Q = StepKnown mode in
     cond-elim Q (leb 4 t && leb (t + 4) s) _ _ (λ _. cond-elim Q (leb l 1) _ _ (λ _. tt) (λ _. tt)) (λ _. refl)

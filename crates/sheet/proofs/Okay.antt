@@ -4,16 +4,16 @@ use mathlib.Core.List.{List, [], _∷_, _++_, append-assoc, append-nil}
 use mathlib.Core.Bool.{Bool, true, false, cond, not, _&&_, _||_}
 use Prim.Native.Nat.{ℕ, zero, suc, _+_, _-_, _*_, _/_, _≤_, _<_}
 use native.Mathlib.Omega.{arith}
-use lib.ListN.{length, getD, set, length-append, length-set}
+use lib.ListN.{length, getD, set, replicate, getD-replicate, length-append, length-set, List·getD-append}
 use lib.Seq.{getD-append-add}
 use lib.Dec.{leb, eqb}
 use lib.IntN.{ℤ, pos}
-use borrow.Author.Tests.{leb-true, leb-false}
+use borrow.Author.Tests.{leb-true, leb-false, eqb-true, eqb-false}
 use Rattle.record.specs.declared.Mode.{Mode}
 use Rattle.record.specs.Record.{isLoose}
 use Rattle.laws.proofs.Choice.{cond-elim}
-use Rattle.kinds.specs.Kinds.{nextOf, isListed, wantAt}
-use Rattle.machine.specs.Machine.{verticesOf, fieldOf, islandOf, isShut, ringStep, vertexOf, keyStep, stepOf}
+use Rattle.kinds.specs.Kinds.{nextOf, fixedVertices, unsaid, isListed, wantAt}
+use Rattle.machine.specs.Machine.{verticesOf, fieldsEnd, fieldOf, islandOf, isShut, ringStep, vertexOf, keyStep, stepOf}
 use Rattle.sheet.specs.Tables.{Tables, newRow, cellOf, setLast, put, ringsOf, ringAfter, _then_}
 use Rattle.machine.specs.declared.Ring.{Ring}
 use Rattle.machine.specs.declared.State.{State}
@@ -49,13 +49,17 @@ vertices-okay kind i n o =
     (λ _. cond-elim Q (leb (4 + 4 * i) n) _ _ (λ _. cond-elim Q (eqb i 0) _ _ (λ _. omega arith) (λ _. omega arith)) (λ _. tt))
     (λ _. cond-elim Q (leb 2 n) _ _ (λ _. omega arith) (λ _. tt))
 
+end-okay : (kind : ℕ) (o : Tables) → StepOkay o (fieldsEnd kind)
+unfolding fieldsEnd
+end-okay kind o = cond-elim (StepOkay o) (eqb (fixedVertices kind) 0) _ _ (λ _. tt) (λ _. vertices-okay kind 0 (fixedVertices kind) o)
+
 field-okay : (mode : Mode) (kind p i n : ℕ) (o : Tables) → 12 ≤ length (o .rows) → StepOkay o (fieldOf mode kind p i n)
 unfolding fieldOf
 field-okay mode kind p i n o h =
     let Q = StepOkay o in
     cond-elim Q (eqb p 2 && not (isLoose mode) && not (isListed kind n)) _ _ (λ _. tt)
     (λ _. cond-elim Q (eqb p 11) _ _ (λ _. vertices-okay kind i n o)
-    (λ _. cond-elim Q (eqb (nextOf kind p) 0) _ _ (λ _. tt) (λ _. (h, next-most kind p))))
+    (λ _. cond-elim Q (eqb (nextOf kind p) 0) _ _ (λ _. end-okay kind o) (λ _. (h, next-most kind p))))
 
 island-okay : (l s r n : ℕ) (o : Tables) → r ≤ length (o .islands) + l - 1 → r ≤ length (o .islands) + l → StepOkay o (islandOf l s r n)
 unfolding islandOf
@@ -85,6 +89,22 @@ step-okay mode (Y r x) t next c o h = ring-okay r _ _ x t next (put (Y r x) t c 
 
 pub go-okay : (mode : Mode) (st st′ : State) (t next : ℕ) (c : List ℕ) (o : Tables) → Okay st o → stepOf mode st t next ≡ Go st′ → Okay st′ (put st t c o)
 go-okay mode st st′ t next c o h e = subst (StepOkay (put st t c o)) e (step-okay mode st t next c o h)
+
+-- ---- a new row
+
+-- what it has behind kind and outside
+pub new-at : (t q : ℕ) → 2 ≤ q → q ≤ 11 → getD (newRow t) q (pos 0) ≡ pos (unsaid (t / 2) q)
+unfolding unsaid
+new-at t q h k = go (eqb q 11) refl
+  where
+    go : (b : Bool) → eqb q 11 ≡ b → getD (newRow t) q (pos 0) ≡ pos (cond b (fixedVertices (t / 2)) 0)
+    go true e = ap (λ (i : ℕ). getD (newRow t) i (pos 0)) (eqb-true q 11 e)
+    go false e =
+        let n = eqb-false q 11 e in
+        let two : q ≡ suc (suc (q - 2)) = omega arith in
+        ap (λ (i : ℕ). getD (newRow t) i (pos 0)) two
+        ∙ List·getD-append (replicate 9 (pos 0)) (pos (fixedVertices (t / 2)) ∷ []) (pos 0) (q - 2) (omega arith)
+        ∙ getD-replicate 9 (q - 2) (pos 0) (pos 0) (omega arith)
 
 -- ---- tables put before
 

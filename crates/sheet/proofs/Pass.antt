@@ -16,9 +16,9 @@ use Rattle.record.specs.Record.{isLoose, plain, wordEOF, lineOf}
 use Rattle.record.specs.RecordView.{LineEnd, crlf, lf, Ending, lineEnded, bare, IsLine}
 use Rattle.record.proofs.RecordLaws.{line-view, line-make}
 use Rattle.number.specs.Words.{unled, trimmed, wordOf}
-use Rattle.kinds.specs.Kinds.{nextOf, isListed}
+use Rattle.kinds.specs.Kinds.{nextOf, fixedVertices, isListed}
 use Rattle.token.specs.Lex.{keyOf, lexOf}
-use Rattle.machine.specs.Machine.{wantOf, isDue, verticesOf, fieldOf, islandOf, isShut, ringStep, vertexOf, keyStep, stepOf, ofStep, ofToken, ofLine, oneOf}
+use Rattle.machine.specs.Machine.{wantOf, isDue, verticesOf, fieldsEnd, fieldOf, islandOf, isShut, ringStep, vertexOf, keyStep, stepOf, ofStep, ofToken, ofLine, oneOf}
 use Rattle.sheet.specs.Tables.{Tables, put, ringAfter}
 use Rattle.sheet.specs.Reading.{Sections, read, stop, after, walk}
 use Rattle.sheet.specs.Reading as Reading
@@ -67,6 +67,10 @@ no-end-vertices st kind i n =
     (λ _. cond-elim Q (leb (4 + 4 * i) n) _ _ (λ _. cond-elim Q (eqb i 0) _ _ (λ _. tt) (λ _. tt)) (λ _. tt))
     (λ _. cond-elim Q (leb 2 n) _ _ (λ _. tt) (λ _. tt))
 
+no-end-fields : (st : State) (kind : ℕ) → NoEnd st (fieldsEnd kind)
+unfolding fieldsEnd
+no-end-fields st kind = cond-elim (NoEnd st) (eqb (fixedVertices kind) 0) _ _ (λ _. tt) (λ _. no-end-vertices st kind 0 (fixedVertices kind))
+
 no-end-ring : (st : State) (r : Ring) (fx fy x y next : ℕ) → NoEnd st (ringStep r fx fy x y next)
 unfolding ringStep
 no-end-ring st r fx fy x y next =
@@ -83,7 +87,7 @@ no-end mode (Field kind p i) t next =
     let Q = NoEnd (Field kind p i) in
     cond-elim Q (eqb p 2 && not (isLoose mode) && not (isListed kind t)) _ _ (λ _. tt)
     (λ _. cond-elim Q (eqb p 11) _ _ (λ _. no-end-vertices (Field kind p i) kind i t)
-    (λ _. cond-elim Q (eqb (nextOf kind p) 0) _ _ (λ _. tt) (λ _. tt)))
+    (λ _. cond-elim Q (eqb (nextOf kind p) 0) _ _ (λ _. no-end-fields (Field kind p i) kind) (λ _. tt)))
 no-end mode (Island l s r) t next =
     let Q = NoEnd (Island l s r) in
     cond-elim Q (leb 4 t && leb (t + 4) s) _ _ (λ _. cond-elim Q (leb l 1) _ _ (λ _. tt) (λ _. tt)) (λ _. tt)

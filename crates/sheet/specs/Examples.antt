@@ -15,14 +15,14 @@ use Rattle.heading.specs.declared.Header.{Header}
 use Rattle.header.specs.Header.{firstWords, kindSaid, isNamed, headScale, headName, headed}
 use Rattle.heading.specs.Heading.{nameByte, isName}
 use Rattle.token.specs.Lex.{keywords, mayLieOutside, lift, unlift, unmarked, isMarked, keyOf, lexOf}
-use Rattle.kinds.specs.Kinds.{schedule, nextIn, nextOf, codes, isListed, wantAt}
-use Rattle.machine.specs.Machine.{wantOf, verticesOf, fieldOf, islandOf, isShut, ringStep, vertexOf, keyStep, stepOf, oneOf}
+use Rattle.kinds.specs.Kinds.{schedule, nextIn, nextOf, fixed, fixedVertices, codes, isListed, wantAt}
+use Rattle.machine.specs.Machine.{wantOf, verticesOf, fieldsEnd, fieldOf, islandOf, isShut, ringStep, vertexOf, keyStep, stepOf, oneOf}
 use Rattle.sheet.specs.Tables.{Tables, empty, setLast, put, ringAfter}
 use Rattle.sheet.specs.Reading.{Reading, sheet, refused, walk, walkFrom, sectionsOf, meaning, reading, sectionsAt, eofAt, sectionBytes, joined}
 
 -- `reading` with every definition opened, so that it computes
 unfoldable pub computed : Mode → List ℕ → Reading
-unfolding run kept all same allAt holds place endsCR content contentIs lineIs lineOf unled trimmed wordOf Number.value Number.ended Number.lean Number.integerIs Number.integerAt Number.integerOf Number.signOf Number.signs Number.signed Number.thousandths Number.isToken Number.isNeat Number.realIs Number.realAt Number.realSigned Number.realOf firstWords nameByte isName kindSaid isNamed headScale headName headed keywords mayLieOutside schedule nextIn nextOf codes isListed lift unlift unmarked isMarked keyOf lexOf wantAt wantOf verticesOf fieldOf islandOf isShut ringStep vertexOf keyStep stepOf oneOf setLast put ringAfter walk walkFrom sectionsOf meaning reading sectionsAt eofAt sectionBytes joined
+unfolding run kept all same allAt holds place endsCR content contentIs lineIs lineOf unled trimmed wordOf Number.value Number.ended Number.lean Number.integerIs Number.integerAt Number.integerOf Number.signOf Number.signs Number.signed Number.thousandths Number.isToken Number.isNeat Number.realIs Number.realAt Number.realSigned Number.realOf firstWords nameByte isName kindSaid isNamed headScale headName headed keywords mayLieOutside schedule nextIn nextOf fixed fixedVertices codes isListed lift unlift unmarked isMarked keyOf lexOf wantAt wantOf verticesOf fieldsEnd fieldOf islandOf isShut ringStep vertexOf keyStep stepOf oneOf setLast put ringAfter walk walkFrom sectionsOf meaning reading sectionsAt eofAt sectionBytes joined
 computed mode bs = reading mode bs
 
 -- ---- the specification's own examples (1.1.3, 1.1.6, 1.1.9 to 1.1.12)
@@ -132,6 +132,48 @@ bordered-is : reading Loose bordered
 unfolding computed bordered
 bordered-is = refl
 
+-- ---- a scanned sheet (1.1.13, 1.1.14): a raster's name and its four points as they stand, which are no ring; a survey book's line
+
+unfoldable pub scanned : List ℕ
+scanned =
+    text "MAPPA\r\nZ999_000100\r\n    1000.000\r\nRIFERIMENTO_RASTER\r\nD458_013100.tif\r\n    9177.503\r\n  -25867.907\r\n"
+    ++ text "    9160.700\r\n  -25874.732\r\n    8810.099\r\n  -26512.373\r\n    8811.408\r\n  -26529.665\r\n"
+    ++ text "LIBRETTO\r\n1234567\r\n   1\r\n   2\r\n       1.000\r\n       2.000\r\n       3.000\r\n       4.000\r\nEOF\r\n"
+
+unfoldable pub scannedTables : Tables
+scannedTables =
+    record {
+      rows =
+          pos 6 ∷ pos 0 ∷ pos 0 ∷ pos 0 ∷ pos 0 ∷ pos 0 ∷ pos 0 ∷ pos 0 ∷ pos 0 ∷ pos 15 ∷ pos 0 ∷ pos 4 ∷
+          pos 7 ∷ pos 0 ∷ pos 1 ∷ pos 0 ∷ pos 0 ∷ pos 0 ∷ pos 0 ∷ pos 0 ∷ pos 0 ∷ pos 7 ∷ pos 0 ∷ pos 2 ∷ [];
+      letters = text "D458_013100.tif1234567";
+      islands = [];
+      points = pos 9177503 ∷ negsuc 25867906 ∷ pos 9160700 ∷ negsuc 25874731 ∷ pos 8810099 ∷ negsuc 26512372 ∷ pos 8811408 ∷ negsuc 26529664 ∷ pos 1000 ∷ pos 2000 ∷ pos 3000 ∷ pos 4000 ∷ [];
+    }
+
+abbrev pub scannedHeader : Header
+scannedHeader = record { kind = 1; name = text "Z999_000100"; scale = pos 1000000 }
+
+scanned-exact : reading Exact scanned ≡ sheet scannedHeader scannedTables
+unfolding computed scanned scannedTables
+scanned-exact = refl
+
+scanned-loose : reading Loose scanned ≡ sheet scannedHeader scannedTables
+unfolding computed scanned scannedTables
+scanned-loose = refl
+
+-- a raster of three points is refused where the fourth's x is due, one of five where a keyword is due
+raster-points : (reading Loose (text "MAPPA\nZ999_000100\n1000.000\nRIFERIMENTO_RASTER\nx\n0.000\n0.000\n0.000\n0.000\n0.000\n0.000\nEOF\n") ≡ refused 8 12 84)
+    × (reading Loose (text "MAPPA\nZ999_000100\n1000.000\nRIFERIMENTO_RASTER\nx\n0.000\n0.000\n0.000\n0.000\n0.000\n0.000\n0.000\n0.000\n0.000\n0.000\nEOF\n") ≡ refused 7 14 96)
+unfolding computed
+raster-points = (refl, refl)
+
+-- a survey book's line: exact mode lists type 1 alone; one vertex is too few
+book-refused : (reading Exact (text "MAPPA\r\nZ999_000100\r\n    1000.000\r\nLIBRETTO\r\n0\r\n   2\r\n") ≡ refused 10 6 47)
+    × (reading Loose (text "MAPPA\nZ999_000100\n1000.000\nLIBRETTO\n0\n2\n1\n") ≡ refused 11 7 40)
+unfolding computed
+book-refused = (refl, refl)
+
 -- ---- one refusal of each number but 1 (a file of 16 MiB is not computed: `reading-long`)
 
 -- the empty file: cut at record 1
@@ -179,8 +221,8 @@ six-scale : reading Loose (text "MAPPA\nZ999_000100\n-0.000\n") ≡ refused 6 3 
 unfolding computed
 six-scale = refl
 
--- RIFERIMENTO_RASTER is not read
-pub seven : reading Loose (text "MAPPA\nZ999_000100\n1000.000\nRIFERIMENTO_RASTER\n") ≡ refused 7 4 27
+-- RIFERIMENTO_RASTER takes no backslash
+pub seven : reading Loose (text "MAPPA\nZ999_000100\n1000.000\nRIFERIMENTO_RASTER\\\n") ≡ refused 7 4 27
 unfolding computed
 seven = refl
 
@@ -241,8 +283,8 @@ joined-is = refl
 abbrev header : Header
 header = record { kind = 1; name = text "Z999_000100"; scale = pos 1000000 }
 
--- LIBRETTO is not read
-seven-libretto : reading Loose (text "MAPPA\nZ999_000100\n1000.000\nLIBRETTO\n") ≡ refused 7 4 27
+-- LIBRETTO takes no backslash
+seven-libretto : reading Loose (text "MAPPA\nZ999_000100\n1000.000\nLIBRETTO\\\n") ≡ refused 7 4 27
 unfolding computed
 seven-libretto = refl
 

@@ -7,7 +7,7 @@ use lib.Dec.{eqb}
 use lib.IntN.{ℤ, pos}
 use Rattle.laws.specs.Lists.{over}
 use Rattle.number.specs.Words.{trimmed}
-use Rattle.kinds.specs.Kinds.{rowWidth, lettersPlace, wantAt}
+use Rattle.kinds.specs.Kinds.{rowWidth, lettersPlace, fixedVertices, wantAt}
 use Rattle.token.specs.Lex.{unlift}
 use Rattle.token.specs.declared.Want.{Want}
 use Rattle.token.specs.declared.Want.the-variants.{Key, Text, Int, Real}
@@ -37,9 +37,9 @@ rowCount o = length (o .rows) / rowWidth
 abbrev pub overOf : Tables → Tables → Tables
 overOf o old = record { rows = over (o .rows) (old .rows); letters = over (o .letters) (old .letters); islands = over (o .islands) (old .islands); points = over (o .points) (old .points) }
 
--- kind and outside; a field the section lacks is 0
+-- kind and outside; a field the section lacks is 0, but for the vertices that it does not count
 abbrev pub newRow : ℕ → List ℤ
-newRow t = pos (t / 2) ∷ pos (t % 2) ∷ replicate 10 (pos 0)
+newRow t = pos (t / 2) ∷ pos (t % 2) ∷ (replicate 9 (pos 0) ++ pos (fixedVertices (t / 2)) ∷ [])
 
 -- a token as a number of a row
 abbrev pub cellOf : Want → ℕ → ℤ

@@ -31,7 +31,7 @@ use Rattle.token.specs.declared.Token.{Token}
 use Rattle.token.specs.declared.Token.the-variants.{Say, Bad}
 use Rattle.token.specs.declared.Want.{Want}
 use Rattle.token.specs.declared.Want.the-variants.{Key, Text, Int, Real}
-use Rattle.token.specs.Lex.{lift, unlift, keywords, mayLieOutside, unmarked, isMarked, keyOf, isKey, keyText, ofKey, ofText, ofWhole, ofDecimal, lexOf}
+use Rattle.token.specs.Lex.{lift, unlift, keywords, kindMost, mayLieOutside, unmarked, isMarked, keyOf, isKey, keyText, ofKey, ofText, ofWhole, ofDecimal, lexOf}
 use Rattle.token.proofs.TokenWays.{kind-most, marked-kind}
 
 no-say : (n t : ℕ) → Bad n ≡ Say t → ⊥
@@ -71,19 +71,19 @@ lift-apart y z f g e = sym (lift-unlift y f) ∙ ap unlift e ∙ lift-unlift z g
 -- ---- keywords
 
 module _ (w : List ℕ) (n : ℕ) where
-  key-plain : 1 ≤ n → n ≤ 5 → w ≡ getD keywords (n - 1) [] → (isKey (2 * n) ≡ true) × (w ≡ keyText (2 * n))
+  key-plain : 1 ≤ n → n ≤ kindMost → w ≡ getD keywords (n - 1) [] → (isKey (2 * n) ≡ true) × (w ≡ keyText (2 * n))
   unfolding isKey keyText
   key-plain l h e =
       let half : 2 * n / 2 ≡ n = omega arith in
       let even : 2 * n % 2 ≡ 0 = omega arith in
-      rw (ne-eqb (2 * n) 0 (λ z. omega arith), half, even, le-leb 1 n l, le-leb n 5 h) (refl, e ∙ sym (append-nil (getD keywords (n - 1) [])))
+      rw (ne-eqb (2 * n) 0 (λ z. omega arith), half, even, le-leb 1 n l, le-leb n kindMost h) (refl, e ∙ sym (append-nil (getD keywords (n - 1) [])))
 
-  key-outside : 2 ≤ n → n ≤ 5 → w ≡ getD keywords (n - 1) [] ++ 92 ∷ [] → (isKey (2 * n + 1) ≡ true) × (w ≡ keyText (2 * n + 1))
-  unfolding isKey keyText mayLieOutside
-  key-outside l h e =
+  key-outside : 1 ≤ n → n ≤ kindMost → mayLieOutside n ≡ true → w ≡ getD keywords (n - 1) [] ++ 92 ∷ [] → (isKey (2 * n + 1) ≡ true) × (w ≡ keyText (2 * n + 1))
+  unfolding isKey keyText
+  key-outside l h o e =
       let half : (2 * n + 1) / 2 ≡ n = omega arith in
       let odd : (2 * n + 1) % 2 ≡ 1 = omega arith in
-      rw (ne-eqb (2 * n + 1) 0 (λ z. omega arith), half, odd, le-leb 1 n (omega arith), le-leb n 5 h, le-leb 2 n l) (refl, e)
+      rw (ne-eqb (2 * n + 1) 0 (λ z. omega arith), half, odd, le-leb 1 n l, le-leb n kindMost h, o) (refl, e)
 
 -- a word that ends in a byte above 0 is what stands before it, and that byte
 last-is : (w : List ℕ) (b : ℕ) → 0 < b → getD w (length w - 1) 0 ≡ b → w ≡ unmarked w ++ b ∷ []
@@ -108,8 +108,9 @@ module _ (w : List ℕ) where
   read-marked e =
       let h = marked-kind w e in
       let b = eqb-true (getD w (length w - 1) 0) 92 (and-left (eqb (getD w (length w - 1) 0) 92) (mayLieOutside under) e) in
+      let o = and-right (eqb (getD w (length w - 1) 0) 92) (mayLieOutside under) e in
       let v = place-is 1 keywords (unmarked w) (omega arith) .2 in
-      key-outside w under h (kind-most (unmarked w)) (last-is w 92 (omega arith) b ∙ ap (λ (x : List ℕ). x ++ 92 ∷ []) v)
+      key-outside w under (omega arith) (kind-most (unmarked w)) o (last-is w 92 (omega arith) b ∙ ap (λ (x : List ℕ). x ++ 92 ∷ []) v)
 
   abbrev Reads : ℕ → Token → Type 0
   Reads t x = x ≡ Say t → (isKey t ≡ true) × (w ≡ keyText t)
@@ -130,19 +131,21 @@ module _ (w : List ℕ) where
       (λ e d. rw (← say-is 0 t d) (refl, same-is w wordEOF e))
       (λ _. cond-elim (Reads t) (leb 1 kind) (Say (2 * kind)) marked (λ e d. rw (← say-is (2 * kind) t d) (read-plain (leb-true 1 kind e))) (λ _. reads-marked t))
 
--- there are twelve such numbers at most
-is-key-most : (t : ℕ) → isKey t ≡ true → t ≤ 11
+-- no such number is larger
+abbrev pub keyMost : ℕ
+keyMost = 2 * kindMost + 1
+
+is-key-most : (t : ℕ) → isKey t ≡ true → t ≤ keyMost
 unfolding isKey
 is-key-most t = go (eqb t 0) refl
   where
-    go : (x : Bool) → eqb t 0 ≡ x → (x || leb 1 (t / 2) && leb (t / 2) 5 && (eqb (t % 2) 0 || mayLieOutside (t / 2))) ≡ true → t ≤ 11
+    go : (x : Bool) → eqb t 0 ≡ x → (x || leb 1 (t / 2) && leb (t / 2) kindMost && (eqb (t % 2) 0 || mayLieOutside (t / 2))) ≡ true → t ≤ keyMost
     go true q e = omega (arith, eqb-true t 0 q)
     go false q e =
-        let h = and-right (leb 1 (t / 2)) (leb (t / 2) 5) (and-left (leb 1 (t / 2) && leb (t / 2) 5) (eqb (t % 2) 0 || mayLieOutside (t / 2)) e) in
-        omega (arith, leb-true (t / 2) 5 h)
+        let h = and-right (leb 1 (t / 2)) (leb (t / 2) kindMost) (and-left (leb 1 (t / 2) && leb (t / 2) kindMost) (eqb (t % 2) 0 || mayLieOutside (t / 2)) e) in
+        omega (arith, leb-true (t / 2) kindMost h)
 
--- a keyword's token is at most 11
-pub key-most : (w : List ℕ) (t : ℕ) → keyOf w ≡ Say t → t ≤ 11
+pub key-most : (w : List ℕ) (t : ℕ) → keyOf w ≡ Say t → t ≤ keyMost
 key-most w t e = is-key-most t (key-read w t e .0)
 
 -- ---- the content that says a keyword
@@ -154,13 +157,13 @@ says (Bad n) t = false
 abbrev isSpelt : ℕ → Bool
 isSpelt t = not (isKey t) || says (lexOf Exact Key (keyText t)) t
 
-all-spelt : below 12 isSpelt ≡ true
+all-spelt : below (keyMost + 1) isSpelt ≡ true
 unfolding below isKey keyText mayLieOutside keywords lexOf keyOf isMarked unmarked place same wordOf trimmed unled run kept
 all-spelt = refl
 
 -- exact mode reads each of those texts as its number
 pub key-spelt : (t : ℕ) → isKey t ≡ true → lexOf Exact Key (keyText t) ≡ Say t
-key-spelt t h = by (lexOf Exact Key (keyText t)) (rw h at (below-at 12 isSpelt t all-spelt (omega (arith, is-key-most t h))))
+key-spelt t h = by (lexOf Exact Key (keyText t)) (rw h at (below-at (keyMost + 1) isSpelt t all-spelt (omega (arith, is-key-most t h))))
   where
     by : (x : Token) → says x t ≡ true → x ≡ Say t
     by (Say n) e = ap Say (eqb-true n t e)

@@ -35,26 +35,26 @@ use Rattle.token.specs.declared.Token.{Token}
 use Rattle.token.specs.declared.Token.the-variants.{Say, Bad}
 use Rattle.token.specs.declared.Want.{Want}
 use Rattle.token.specs.declared.Want.the-variants.{Key, Text, Int, Real}
-use Rattle.token.specs.Lex.{lift, keywords, mayLieOutside, unmarked, isMarked, keyOf, lexOf}
+use Rattle.token.specs.Lex.{lift, keywords, kindMost, mayLieOutside, unmarked, isMarked, keyOf, lexOf}
 
 -- ---- the keywords as the code has them
 
 abbrev words : List ℕ
-words = text "BORDOTESTOSIMBOLOFIDUCIALELINEA"
+words = text "BORDOTESTOSIMBOLOFIDUCIALELINEARIFERIMENTO_RASTERLIBRETTO"
 
 abbrev starts : List ℕ
-starts = 0 ∷ 5 ∷ 10 ∷ 17 ∷ 26 ∷ 31 ∷ []
+starts = 0 ∷ 5 ∷ 10 ∷ 17 ∷ 26 ∷ 31 ∷ 49 ∷ 57 ∷ []
 
 words-packed : packed words starts keywords ≡ true
 unfolding packed below packedAt keywords same
 words-packed = refl
 
-module _ (k : ℕ) (h : k < 5) where
+module _ (k : ℕ) (h : k < kindMost) where
   pub word-from : getD starts k 0 ≤ getD starts (k + 1) 0
   unfolding keywords
   word-from = packed-from words starts keywords words-packed k h
 
-  pub word-to : getD starts (k + 1) 0 ≤ 31
+  pub word-to : getD starts (k + 1) 0 ≤ length words
   unfolding keywords
   word-to = packed-to words starts keywords words-packed k h
 
@@ -70,7 +70,7 @@ module _ (k : ℕ) (h : k < 5) where
 -- ---- the kind of a keyword
 
 module _ (w : List ℕ) (k : ℕ) (q : place 1 keywords w ≡ place (k + 1) (drop k keywords) w) where
-  module _ (h : k < 5) (r : Bool) (e : r ≡ same w (getD keywords k [])) where
+  module _ (h : k < kindMost) (r : Bool) (e : r ≡ same w (getD keywords k [])) where
     pub kind-step : r ≡ false → place 1 keywords w ≡ place (k + 1 + 1) (drop (k + 1) keywords) w
     unfolding keywords
     kind-step = place-step keywords w k q h r e
@@ -79,17 +79,17 @@ module _ (w : List ℕ) (k : ℕ) (q : place 1 keywords w ≡ place (k + 1) (dro
     unfolding keywords
     kind-found = place-found keywords w k q h r e
 
-  pub kind-none : 5 ≤ k → 0 ≡ place 1 keywords w
+  pub kind-none : kindMost ≤ k → 0 ≡ place 1 keywords w
   unfolding keywords
   kind-none = place-over keywords w k q
 
 pub ruleset kind-ways = (kind-step, kind-found, kind-none)
 
-pub kind-most : (w : List ℕ) → place 1 keywords w ≤ 5
+pub kind-most : (w : List ℕ) → place 1 keywords w ≤ kindMost
 unfolding keywords
 kind-most w = go (place 1 keywords w) (λ h. place-is 1 keywords w h .1)
   where
-    go : (n : ℕ) → (0 < n → n < 6) → n ≤ 5
+    go : (n : ℕ) → (0 < n → n < kindMost + 1) → n ≤ kindMost
     go zero f = omega arith
     go (suc n) f = omega (arith, f (omega arith))
 

@@ -3,6 +3,7 @@ use Prim.Native.Nat.{ℕ}
 use Prim.Native.String.{String}
 use mathlib.Core.Path.{_≡_, refl}
 use mathlib.Core.List.{List, [], _∷_, map}
+use lib.ListN.{length}
 use lib.IntN.{pos, negsuc}
 use Rattle.laws.specs.Lists.{same, place}
 use Rattle.laws.specs.Text.{text}
@@ -13,7 +14,7 @@ use Rattle.token.specs.declared.Token.{Token}
 use Rattle.token.specs.declared.Token.the-variants.{Say, Bad}
 use Rattle.token.specs.declared.Want.{Want}
 use Rattle.token.specs.declared.Want.the-variants.{Key, Text, Int, Real}
-use Rattle.token.specs.Lex.{lift, unlift, keywords, mayLieOutside, unmarked, isMarked, keyOf, keyText, lexOf}
+use Rattle.token.specs.Lex.{lift, unlift, keywords, kindMost, mayLieOutside, unmarked, isMarked, keyOf, keyText, lexOf}
 
 -- `lexOf` with every definition opened, so that it computes
 unfoldable pub computed : Mode → Want → List ℕ → Token
@@ -26,14 +27,19 @@ unfolding computed
 keys mode ss = map (λ s. lexOf mode Key (text s)) ss
 
 -- EOF says 0, a keyword twice its kind, one more with its `\`; both modes
-keywords-said : (keys Exact ("EOF" ∷ "BORDO" ∷ "TESTO" ∷ "SIMBOLO" ∷ "FIDUCIALE" ∷ "LINEA" ∷ []) ≡ Say 0 ∷ Say 2 ∷ Say 4 ∷ Say 6 ∷ Say 8 ∷ Say 10 ∷ [])
+keywords-said : (keys Exact ("EOF" ∷ "BORDO" ∷ "TESTO" ∷ "SIMBOLO" ∷ "FIDUCIALE" ∷ "LINEA" ∷ "RIFERIMENTO_RASTER" ∷ "LIBRETTO" ∷ []) ≡ Say 0 ∷ Say 2 ∷ Say 4 ∷ Say 6 ∷ Say 8 ∷ Say 10 ∷ Say 12 ∷ Say 14 ∷ [])
     × (keys Loose ("TESTO\\" ∷ "SIMBOLO\\" ∷ "FIDUCIALE\\" ∷ "LINEA\\" ∷ []) ≡ Say 5 ∷ Say 7 ∷ Say 9 ∷ Say 11 ∷ [])
 unfolding keys
 keywords-said = (refl, refl)
 
--- no other word is one: BORDO takes no `\`, EOF none, no keyword two, none behind a blank; no note, no lower case, nothing
-no-keyword : keys Loose ("BORDO\\" ∷ "EOF\\" ∷ "TESTO\\\\" ∷ "TESTO \\" ∷ "EOF note" ∷ "testo" ∷ "SIMBOLI" ∷ "\\" ∷ "" ∷ [])
-    ≡ Bad 7 ∷ Bad 7 ∷ Bad 7 ∷ Bad 7 ∷ Bad 7 ∷ Bad 7 ∷ Bad 7 ∷ Bad 7 ∷ Bad 7 ∷ []
+-- the last kind is the last keyword
+keywords-counted : length keywords ≡ kindMost
+unfolding computed
+keywords-counted = refl
+
+-- no other word is one: BORDO, RIFERIMENTO_RASTER and LIBRETTO take no `\`, EOF none, no keyword two, none behind a blank; no note, no lower case, nothing
+no-keyword : keys Loose ("BORDO\\" ∷ "RIFERIMENTO_RASTER\\" ∷ "LIBRETTO\\" ∷ "RIFERIMENTO" ∷ "EOF\\" ∷ "TESTO\\\\" ∷ "TESTO \\" ∷ "EOF note" ∷ "testo" ∷ "SIMBOLI" ∷ "\\" ∷ "" ∷ [])
+    ≡ Bad 7 ∷ Bad 7 ∷ Bad 7 ∷ Bad 7 ∷ Bad 7 ∷ Bad 7 ∷ Bad 7 ∷ Bad 7 ∷ Bad 7 ∷ Bad 7 ∷ Bad 7 ∷ Bad 7 ∷ []
 unfolding keys
 no-keyword = refl
 
@@ -61,6 +67,6 @@ unfolding computed
 lifted-back = (refl, refl, refl)
 
 -- the exact mode's content for what is said
-keys-written : map keyText (0 ∷ 2 ∷ 7 ∷ 11 ∷ []) ≡ text "EOF" ∷ text "BORDO" ∷ text "SIMBOLO\\" ∷ text "LINEA\\" ∷ []
+keys-written : map keyText (0 ∷ 2 ∷ 7 ∷ 11 ∷ 12 ∷ 14 ∷ []) ≡ text "EOF" ∷ text "BORDO" ∷ text "SIMBOLO\\" ∷ text "LINEA\\" ∷ text "RIFERIMENTO_RASTER" ∷ text "LIBRETTO" ∷ []
 unfolding keyText computed
 keys-written = refl

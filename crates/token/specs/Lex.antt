@@ -36,9 +36,13 @@ unlift t = pos t -ℤ pos liftBy
 
 -- the keywords by kind, from 1
 unfoldable pub keywords : List (List ℕ)
-keywords = text "BORDO" ∷ text "TESTO" ∷ text "SIMBOLO" ∷ text "FIDUCIALE" ∷ text "LINEA" ∷ []
+keywords = text "BORDO" ∷ text "TESTO" ∷ text "SIMBOLO" ∷ text "FIDUCIALE" ∷ text "LINEA" ∷ text "RIFERIMENTO_RASTER" ∷ text "LIBRETTO" ∷ []
 
--- all but BORDO may carry a final `\`: outside
+-- the last kind: how many keywords there are
+abbrev pub kindMost : ℕ
+kindMost = 7
+
+-- TESTO, SIMBOLO, FIDUCIALE and LINEA may carry a final `\`: outside
 unfoldable pub mayLieOutside : ℕ → Bool
 mayLieOutside kind = leb 2 kind && leb kind 5
 
@@ -58,7 +62,7 @@ keyOf w =
 
 -- the numbers that a word says there, and the exact mode's content for each
 unfoldable pub isKey : ℕ → Bool
-isKey t = eqb t 0 || leb 1 (t / 2) && leb (t / 2) 5 && (eqb (t % 2) 0 || mayLieOutside (t / 2))
+isKey t = eqb t 0 || leb 1 (t / 2) && leb (t / 2) kindMost && (eqb (t % 2) 0 || mayLieOutside (t / 2))
 
 unfoldable pub keyText : ℕ → List ℕ
 keyText t = cond (eqb t 0) wordEOF (getD keywords (t / 2 - 1) [] ++ cond (eqb (t % 2) 1) (92 ∷ []) [])

@@ -6,7 +6,7 @@ ghost use mathlib.Core.List.{[]};
 ghost use Prim.Native.Nat.{_<_};
 ghost use lib.ListN.{getD};
 ghost use Rattle.laws.specs.Lists.{same, place};
-ghost use Rattle.token.specs.Lex.{keywords, lift, mayLieOutside, unmarked, isMarked, keyOf, lexOf};
+ghost use Rattle.token.specs.Lex.{keywords, kindMost, lift, mayLieOutside, unmarked, isMarked, keyOf, lexOf};
 use number::Decimal;
 use number::Whole;
 use number::Word;
@@ -34,20 +34,21 @@ pub enum Want {
     Real,
 }
 
-const KINDS: usize = 5;
+// How many kinds there are.
+const KINDS: usize = 7;
 
 const LIFT_BY: usize = 10_000_000_000;
 
 const LEAST: i64 = -10_000_000_000;
 
 // The keywords one behind the other, and where each begins.
-pub const WORDS: [u8; 31] = *b"BORDOTESTOSIMBOLOFIDUCIALELINEA";
+pub const WORDS: [u8; 57] = *b"BORDOTESTOSIMBOLOFIDUCIALELINEARIFERIMENTO_RASTERLIBRETTO";
 
-pub const WORD_STARTS: [usize; 6] = [0, 5, 10, 17, 26, 31];
+pub const WORD_STARTS: [usize; 8] = [0, 5, 10, 17, 26, 31, 49, 57];
 
 // A word is the keyword of the kind `k + 1`.
 fn is_keyword(w: &[u8], k: usize) -> bool
-    requires { ⌜ k < 5 ⌝ }
+    requires { ⌜ k < kindMost ⌝ }
     ensures { λ r. ⌜ r ≡ same (now (w .entry)) (getD keywords k []) ⌝ }
 {
     let start = WORD_STARTS[k];
@@ -69,7 +70,7 @@ fn kind_of(w: &[u8]) -> usize
     0
 }
 
-// All kinds but borders may lie outside.
+// TESTO, SIMBOLO, FIDUCIALE and LINEA may lie outside.
 pub fn may_lie_outside(kind: usize) -> bool
     ensures { λ r. ⌜ r ≡ mayLieOutside kind ⌝ }
 {

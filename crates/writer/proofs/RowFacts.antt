@@ -1,19 +1,19 @@
 -- What a well made row is, as the writer goes by it: counts that are held, numbers that are in range. Assumes nothing.
-use Prim.Native.Nat.{ℕ, zero, suc, _+_, _-_, _*_, _≤_, _<_}
-use mathlib.Core.Path.{_≡_, refl, sym, _∙_, ap}
+use Prim.Native.Nat.{ℕ, zero, suc, _+_, _-_, _*_, _≤_, _<_, zero-le}
+use mathlib.Core.Path.{_≡_, refl, _∙_, ap}
 use mathlib.Core.List.{List, [], _∷_}
 use mathlib.Core.Bool.{Bool, true, false, cond, not, _&&_, _||_}
 use native.Mathlib.Omega.{arith}
 use lib.ListN.{length, getD, drop, List·getD-eq-default}
 use lib.Dec.{leb, eqb, ltb}
 use lib.IntN.{ℤ, pos, negsuc}
-use borrow.Author.Tests.{leb-true, ltb-true, ltb-false, eq-eqb, ne-eqb, eqb-true}
+use borrow.Author.Tests.{leb-true, ltb-true, ltb-false, eq-eqb, ne-eqb, eqb-true, not-true}
 use Rattle.laws.specs.Lists.{all, below, holds}
 use Rattle.laws.specs.Whole.{eqZ}
 use Rattle.laws.proofs.Choice.{and-left, and-right, false≢true}
 use Rattle.laws.proofs.ListLaws.{below-at, all-each, left-none}
-use Rattle.token.specs.Lex.{mayLieOutside}
-use Rattle.kinds.specs.Kinds.{schedule, wantAt}
+use Rattle.token.specs.Lex.{kindMost, mayLieOutside}
+use Rattle.kinds.specs.Kinds.{schedule, fixed, fixedVertices, unsaid, wantAt}
 use Rattle.sheet.specs.Tables.{Tables}
 use Rattle.made.specs.Made.{natOf, countAt, kindOf, islandsOf, pointsOf, isBetween, inRange, hasField, isOutside, isCell, cellTest, areNumbers, areLetters, sum, fourAtLeast, areCounts, areReals, areClosed, ringSizes, arePoints, isMade}
 use Rattle.row.specs.Walk.{cellIn}
@@ -26,7 +26,7 @@ inRow p = leb 2 p && leb p 11
 placed : ℕ → Bool
 placed kind = all inRow (getD schedule kind []) && leb (length (getD schedule kind [])) 9
 
-all-placed : below 6 placed ≡ true
+all-placed : below (kindMost + 1) placed ≡ true
 unfolding placed below all inRow schedule
 all-placed = refl
 
@@ -53,17 +53,17 @@ in-row : (p : ℕ) → inRow p ≡ true → (2 ≤ p) × (p < 12)
 unfolding inRow
 in-row p e = (leb-true 2 p (and-left (leb 2 p) (leb p 11) e), omega (arith, leb-true p 11 (and-right (leb 2 p) (leb p 11) e)))
 
-module _ (kind : ℕ) (h : kind ≤ 5) where
+module _ (kind : ℕ) (h : kind ≤ kindMost) where
   abbrev places : List ℕ
   places = getD schedule kind []
 
   places-in : all inRow places ≡ true
   unfolding placed
-  places-in = and-left (all inRow places) (leb (length places) 9) (below-at 6 placed kind all-placed (omega arith))
+  places-in = and-left (all inRow places) (leb (length places) 9) (below-at (kindMost + 1) placed kind all-placed (omega arith))
 
   pub places-few : length places ≤ 9
   unfolding placed
-  places-few = leb-true (length places) 9 (and-right (all inRow places) (leb (length places) 9) (below-at 6 placed kind all-placed (omega arith)))
+  places-few = leb-true (length places) 9 (and-right (all inRow places) (leb (length places) 9) (below-at (kindMost + 1) placed kind all-placed (omega arith)))
 
   -- a field stands behind kind and outside
   pub field-place : (p : ℕ) → hasField kind p ≡ true → (2 ≤ p) × (p < 12)
@@ -97,40 +97,44 @@ pub between : (least most : ℕ) (z : ℤ) → isBetween least most z ≡ true �
 between least most (pos n) e = (leb-true least n (and-left (leb least n) (leb n most) e), leb-true n most (and-right (leb least n) (leb n most) e))
 between least most (negsuc n) e = absurd (false≢true e)
 
-is-zero : (z : ℤ) → eqZ z (pos 0) ≡ true → natOf z ≡ 0
-is-zero (pos n) e = eqb-true n 0 e
-is-zero (negsuc n) e = absurd (false≢true e)
-
-is-one : (z : ℤ) → eqZ z (pos 1) ≡ true → natOf z ≡ 1
-is-one (pos n) e = eqb-true n 1 e
-is-one (negsuc n) e = absurd (false≢true e)
+count-is : (z : ℤ) (n : ℕ) → eqZ z (pos n) ≡ true → natOf z ≡ n
+count-is (pos m) n e = eqb-true m n e
+count-is (negsuc m) n e = absurd (false≢true e)
 
 outside-most : (kind : ℕ) (z : ℤ) → isOutside kind z ≡ true → natOf z ≤ 1
 unfolding isOutside
 outside-most kind z e = go (eqZ z (pos 0)) refl e
   where
     go : (x : Bool) → eqZ z (pos 0) ≡ x → (x || eqZ z (pos 1) && mayLieOutside kind) ≡ true → natOf z ≤ 1
-    go true f e = omega (arith, is-zero z f)
-    go false f e = omega (arith, is-one z (and-left (eqZ z (pos 1)) (mayLieOutside kind) e))
+    go true f e = omega (arith, count-is z 0 f)
+    go false f e = omega (arith, count-is z 1 (and-left (eqZ z (pos 1)) (mayLieOutside kind) e))
 
 module _ (kind p : ℕ) (z : ℤ) (e : isCell kind p z ≡ true) (h : 2 ≤ p) where
-  cell-field : cond (hasField kind p) (inRange (wantAt p) z) (eqZ z (pos 0)) ≡ true
+  cell-field : cond (hasField kind p) (inRange (wantAt p) z) (eqZ z (pos (unsaid kind p))) ≡ true
   unfolding isCell
   cell-field = rw (ne-eqb p 0 (λ q. omega arith), ne-eqb p 1 (λ q. omega arith)) at e
 
   cell-in : hasField kind p ≡ true → inRange (wantAt p) z ≡ true
   cell-in f = rw f at cell-field
 
-  cell-none : hasField kind p ≡ false → natOf z ≡ 0
-  cell-none f = is-zero z (rw f at cell-field)
+  cell-none : hasField kind p ≡ false → natOf z ≡ unsaid kind p
+  cell-none f = count-is z (unsaid kind p) (rw f at cell-field)
 
   -- a count is bounded, where the kind has it and where it has not
-  cell-most : (most : ℕ) → (inRange (wantAt p) z ≡ true → natOf z ≤ most) → natOf z ≤ most
-  cell-most most k = go (hasField kind p) refl
+  cell-most : (most : ℕ) → unsaid kind p ≤ most → (inRange (wantAt p) z ≡ true → natOf z ≤ most) → natOf z ≤ most
+  cell-most most u k = go (hasField kind p) refl
     where
       go : (x : Bool) → hasField kind p ≡ x → natOf z ≤ most
       go true f = k (cell-in f)
-      go false f = omega (arith, cell-none f)
+      go false f = omega (arith, cell-none f, u)
+
+-- vertices that no record counts are few
+isFew : ℕ → Bool
+isFew kind = leb (fixedVertices kind) 9999
+
+fixed-few : (kind : ℕ) → kind ≤ kindMost → fixedVertices kind ≤ 9999
+unfolding isFew below fixedVertices fixed
+fixed-few kind h = leb-true (fixedVertices kind) 9999 (below-at (kindMost + 1) isFew kind refl (omega arith))
 
 -- ---- the numbers of a row
 
@@ -146,34 +150,39 @@ module _ (rows : List ℤ) (e : areNumbers rows ≡ true) where
   unfolding areNumbers
   cells p h = below-at 12 (cellTest rows) p (and-right (leb 12 (length rows)) (below 12 (cellTest rows)) e) h
 
-  pub kind-in : (1 ≤ cellIn rows 0) × (cellIn rows 0 ≤ 5)
+  pub kind-in : (1 ≤ cellIn rows 0) × (cellIn rows 0 ≤ kindMost)
   unfolding isCell
-  kind-in = between 1 5 (cell 0) (cells 0 (omega arith))
+  kind-in = between 1 kindMost (cell 0) (cells 0 (omega arith))
 
   pub outside-in : cellIn rows 1 ≤ 1
   unfolding isCell
   outside-in = outside-most (cellIn rows 0) (cell 1) (cells 1 (omega arith))
 
   pub letters-in : cellIn rows 9 ≤ 255
-  unfolding wantAt inRange
-  letters-in = cell-most (cellIn rows 0) 9 (cell 9) (cells 9 (omega arith)) (omega arith) 255 (λ f. between 1 255 (cell 9) f .1)
+  unfolding wantAt inRange unsaid
+  letters-in = cell-most (cellIn rows 0) 9 (cell 9) (cells 9 (omega arith)) (omega arith) 255 zero-le (λ f. between 1 255 (cell 9) f .1)
 
   pub islands-in : cellIn rows 10 ≤ 9999
-  unfolding wantAt inRange
-  islands-in = cell-most (cellIn rows 0) 10 (cell 10) (cells 10 (omega arith)) (omega arith) 9999 (λ f. between 0 9999 (cell 10) f .1)
+  unfolding wantAt inRange unsaid
+  islands-in = cell-most (cellIn rows 0) 10 (cell 10) (cells 10 (omega arith)) (omega arith) 9999 zero-le (λ f. between 0 9999 (cell 10) f .1)
 
   pub vertices-in : cellIn rows 11 ≤ 9999
-  unfolding wantAt inRange
-  vertices-in = cell-most (cellIn rows 0) 11 (cell 11) (cells 11 (omega arith)) (omega arith) 9999 (λ f. between 0 9999 (cell 11) f .1)
+  unfolding wantAt inRange unsaid
+  vertices-in = cell-most (cellIn rows 0) 11 (cell 11) (cells 11 (omega arith)) (omega arith) 9999 (fixed-few (cellIn rows 0) (kind-in .1)) (λ f. between 0 9999 (cell 11) f .1)
 
   pub field-in : (p : ℕ) → hasField (cellIn rows 0) p ≡ true → inRange (wantAt p) (cell p) ≡ true
   field-in p f =
       let h = field-place (cellIn rows 0) (kind-in .1) p f in
       cell-in (cellIn rows 0) p (cell p) (cells p (h .1)) (h .0) f
 
-  -- a field that the kind lacks is 0
-  pub field-none : (p : ℕ) → 2 ≤ p → p < 12 → hasField (cellIn rows 0) p ≡ false → cellIn rows p ≡ 0
-  field-none p l h f = cell-none (cellIn rows 0) p (cell p) (cells p h) l f
+  -- letters and islands that the kind lacks are 0
+  pub letters-none : hasField (cellIn rows 0) 9 ≡ false → cellIn rows 9 ≡ 0
+  unfolding unsaid
+  letters-none f = cell-none (cellIn rows 0) 9 (cell 9) (cells 9 (omega arith)) (omega arith) f
+
+  islands-none : hasField (cellIn rows 0) 10 ≡ false → cellIn rows 10 ≡ 0
+  unfolding unsaid
+  islands-none f = cell-none (cellIn rows 0) 10 (cell 10) (cells 10 (omega arith)) (omega arith) f
 
 -- ---- a well made row
 
@@ -186,15 +195,12 @@ pub record Row (t : Tables) : Type 0 where
   pub points-real : areReals (pointsOf t) ≡ true
 
 -- only a border has islands
-islands-lack : (kind : ℕ) → 1 ≤ kind → kind ≤ 5 → eqb kind 1 ≡ false → hasField kind 10 ≡ false
-unfolding hasField holds schedule
-islands-lack zero l h e = absurd (omega arith)
-islands-lack (suc zero) l h e = absurd (false≢true (sym e))
-islands-lack (suc (suc zero)) l h e = refl
-islands-lack (suc (suc (suc zero))) l h e = refl
-islands-lack (suc (suc (suc (suc zero)))) l h e = refl
-islands-lack (suc (suc (suc (suc (suc zero))))) l h e = refl
-islands-lack (suc (suc (suc (suc (suc (suc k)))))) l h e = absurd (omega arith)
+isBare : ℕ → Bool
+isBare kind = eqb kind 1 || not (hasField kind 10)
+
+islands-lack : (kind : ℕ) → kind ≤ kindMost → eqb kind 1 ≡ false → hasField kind 10 ≡ false
+unfolding isBare below hasField holds schedule
+islands-lack kind h e = not-true (hasField kind 10) (rw e at (below-at (kindMost + 1) isBare kind refl (omega arith)))
 
 islands-are : (t : Tables) → areNumbers (t .rows) ≡ true → areCounts (kindOf t) (countAt t 10) (countAt t 11) (t .islands) ≡ true
     → (countAt t 10 ≤ length (t .islands)) × (sum (islandsOf t) ≤ 9999)
@@ -215,7 +221,7 @@ islands-are t n e = go (eqb (kindOf t) 1) refl e
         (leb-true (countAt t 10) (length (t .islands)) h, omega (arith, k, vertices-in (t .rows) n))
     go false f e =
         let z : countAt t 10 ≡ 0
-        = field-none (t .rows) n 10 (omega arith) (omega arith) (islands-lack (kindOf t) (kind-in (t .rows) n .0) (kind-in (t .rows) n .1) f) in
+        = islands-none (t .rows) n (islands-lack (kindOf t) (kind-in (t .rows) n .1) f) in
         (omega (arith, z), rw z (omega arith))
 
 pub row-is : (t : Tables) → isMade t ≡ true → Row t

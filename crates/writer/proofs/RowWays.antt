@@ -13,7 +13,7 @@ use Rattle.laws.proofs.ListLaws.{left, left-none}
 use Rattle.number.specs.Number.{isReal}
 use Rattle.spelling.specs.Stored.{Stored}
 use Rattle.spelling.specs.Spelling.{integerText, realText}
-use Rattle.token.specs.Lex.{keywords, keyText}
+use Rattle.token.specs.Lex.{keywords, kindMost, keyText}
 use Rattle.token.specs.declared.Want.{Want}
 use Rattle.token.specs.declared.Want.the-variants.{Key, Text, Int, Real}
 use Rattle.kinds.specs.Kinds.{schedule, wantAt}
@@ -87,7 +87,7 @@ fields-alone t (p ∷ ps) = rw (field-alone t p (wantAt p), fields-alone t ps)
 
 -- ---- the loops: what is to come, by its first element
 
-module _ (t : Tables) (kind : ℕ) (few : kind ≤ 5) (j p : ℕ) (e : p ≡ getD (getD schedule kind []) j 0) where
+module _ (t : Tables) (kind : ℕ) (few : kind ≤ kindMost) (j p : ℕ) (e : p ≡ getD (getD schedule kind []) j 0) where
   abbrev fields : ℕ → List ℕ
   fields i = fieldsText t (drop i (getD schedule kind []))
 

@@ -2,20 +2,20 @@
 use Prim.Native.Nat.{ℕ, zero, suc, _+_, _-_, _*_, _≤_, _<_}
 use mathlib.Core.Path.{_≡_, refl, _∙_, ap}
 use mathlib.Core.List.{List, [], _∷_, _++_}
-use mathlib.Core.Bool.{Bool, true, false, _||_}
+use mathlib.Core.Bool.{Bool, true, false, cond, _&&_, _||_}
 use native.Mathlib.Omega.{arith}
 use lib.ListN.{length, getD, take, length-append}
 use lib.Seq.{length-take-le}
 use lib.Dec.{leb, eqb}
 use lib.IntN.{ℤ}
-use borrow.Author.Tests.{leb-true, eq-eqb}
+use borrow.Author.Tests.{leb-true, eq-eqb, ne-eqb, eqb-true}
 use Rattle.laws.specs.Lists.{below, holds}
 use Rattle.laws.proofs.Choice.{and-left, and-right, false≢true}
 use Rattle.laws.proofs.ListLaws.{below-at}
 use Rattle.number.specs.Number.{isReal}
 use Rattle.spelling.specs.Spelling.{integerText, realText}
 use Rattle.spelling.proofs.SpellingLaws.{integer-length, real-length}
-use Rattle.token.specs.Lex.{keywords, keyText}
+use Rattle.token.specs.Lex.{keywords, kindMost, keyText}
 use Rattle.token.specs.declared.Want.{Want}
 use Rattle.token.specs.declared.Want.the-variants.{Key, Text, Int, Real}
 use Rattle.kinds.specs.Kinds.{schedule, wantAt}
@@ -24,7 +24,7 @@ use Rattle.made.specs.Made.{cellAt, countAt, kindOf, islandsOf, pointsOf, inRan
 use Rattle.layout.specs.Sheet.{line, fieldText, fieldsText, integersText, realsText, rowText}
 use Rattle.row.specs.Walk.{cellIn}
 use Rattle.writer.specs.Put.{frames, rowSize}
-use Rattle.writer.proofs.RowFacts.{row-is, kind-in, outside-in, letters-in, islands-in, vertices-in, field-in, field-none}
+use Rattle.writer.proofs.RowFacts.{row-is, kind-in, outside-in, letters-in, islands-in, vertices-in, field-in, letters-none}
 use Rattle.writer.proofs.RowWays.{mark, key-line}
 
 pub line-length : (s : List ℕ) → length (line s) ≡ length s + 2
@@ -100,17 +100,73 @@ mark-size zero h = refl
 mark-size (suc zero) h = refl
 mark-size (suc (suc o)) h = absurd (omega arith)
 
--- its keyword and fields
-frame-size : (t : Tables) (k : ℕ) → 1 ≤ k → k ≤ 5 → (hasField k 9 ≡ false → countAt t 9 ≡ 0)
+-- the bytes of fields without their letters, and how many of them are letters
+abbrev bareSize : Want → ℕ
+bareSize Key = 2
+bareSize Text = 2
+bareSize Int = 6
+bareSize Real = 14
+
+abbrev textCount : Want → ℕ
+textCount Key = 0
+textCount Text = 1
+textCount Int = 0
+textCount Real = 0
+
+bareSizes : List ℕ → ℕ
+bareSizes [] = 0
+bareSizes (p ∷ ps) = bareSize (wantAt p) + bareSizes ps
+
+textCounts : List ℕ → ℕ
+textCounts [] = 0
+textCounts (p ∷ ps) = textCount (wantAt p) + textCounts ps
+
+none-step : (t : Tables) (w : Want) (a b n : ℕ) → textCount w + n ≡ 0 → (n ≡ 0 → a ≡ b) → fieldSize t w + a ≡ bareSize w + b
+none-step t Key a b n e f = omega (arith, f (omega arith))
+none-step t Text a b n e f = absurd (omega arith)
+none-step t Int a b n e f = omega (arith, f (omega arith))
+none-step t Real a b n e f = omega (arith, f (omega arith))
+
+one-step : (t : Tables) (w : Want) (a b n : ℕ) → textCount w + n ≡ 1 → (n ≡ 0 → a ≡ b) → (n ≡ 1 → a ≡ b + countAt t 9)
+    → fieldSize t w + a ≡ bareSize w + b + countAt t 9
+one-step t Key a b n e f g = omega (arith, g (omega arith))
+one-step t Text a b n e f g = omega (arith, f (omega arith))
+one-step t Int a b n e f g = omega (arith, g (omega arith))
+one-step t Real a b n e f g = omega (arith, g (omega arith))
+
+without-letters : (t : Tables) (ps : List ℕ) → textCounts ps ≡ 0 → fieldsSize t ps ≡ bareSizes ps
+unfolding fieldsSize bareSizes textCounts
+without-letters t [] e = refl
+without-letters t (p ∷ ps) e = none-step t (wantAt p) (fieldsSize t ps) (bareSizes ps) (textCounts ps) e (without-letters t ps)
+
+with-letters : (t : Tables) (ps : List ℕ) → textCounts ps ≡ 1 → fieldsSize t ps ≡ bareSizes ps + countAt t 9
+unfolding fieldsSize bareSizes textCounts
+with-letters t [] e = absurd (omega arith)
+with-letters t (p ∷ ps) e = one-step t (wantAt p) (fieldsSize t ps) (bareSizes ps) (textCounts ps) e (without-letters t ps) (with-letters t ps)
+
+-- its keyword and fields: the table of frames, by one computed test
+isFramed : ℕ → Bool
+isFramed k =
+    eqb k 0
+    || eqb (length (getD keywords (k - 1) []) + 2 + bareSizes (getD schedule k [])) (getD frames k 0) && eqb (textCounts (getD schedule k [])) (cond (hasField k 9) 1 0)
+
+all-framed : below (kindMost + 1) isFramed ≡ true
+unfolding isFramed below keywords schedule bareSizes textCounts wantAt frames hasField holds
+all-framed = refl
+
+frame-size : (t : Tables) (k : ℕ) → 1 ≤ k → k ≤ kindMost → (hasField k 9 ≡ false → countAt t 9 ≡ 0)
     → length (getD keywords (k - 1) []) + 2 + fieldsSize t (getD schedule k []) ≡ getD frames k 0 + countAt t 9
-unfolding keywords schedule fieldsSize wantAt frames hasField holds
-frame-size t zero l h f = absurd (omega arith)
-frame-size t (suc zero) l h f = omega arith
-frame-size t (suc (suc zero)) l h f = omega arith
-frame-size t (suc (suc (suc zero))) l h f = omega (arith, f refl)
-frame-size t (suc (suc (suc (suc zero)))) l h f = omega arith
-frame-size t (suc (suc (suc (suc (suc zero))))) l h f = omega (arith, f refl)
-frame-size t (suc (suc (suc (suc (suc (suc k)))))) l h f = absurd (omega arith)
+unfolding isFramed
+frame-size t k l h f =
+    let a = length (getD keywords (k - 1) []) + 2 + bareSizes (getD schedule k []) in
+    let e = rw (ne-eqb k 0 (λ z. omega arith)) at (below-at (kindMost + 1) isFramed k all-framed (omega arith)) in
+    let b = eqb-true a (getD frames k 0) (and-left (eqb a (getD frames k 0)) _ e) in
+    go (hasField k 9) refl b (and-right (eqb a (getD frames k 0)) _ e)
+  where
+    go : (x : Bool) → hasField k 9 ≡ x → length (getD keywords (k - 1) []) + 2 + bareSizes (getD schedule k []) ≡ getD frames k 0
+        → eqb (textCounts (getD schedule k [])) (cond x 1 0) ≡ true → length (getD keywords (k - 1) []) + 2 + fieldsSize t (getD schedule k []) ≡ getD frames k 0 + countAt t 9
+    go true q b c = omega (arith, b, with-letters t (getD schedule k []) (eqb-true (textCounts (getD schedule k [])) 1 c))
+    go false q b c = omega (arith, b, f q, without-letters t (getD schedule k []) (eqb-true (textCounts (getD schedule k [])) 0 c))
 
 key-size : (k o : ℕ) → 1 ≤ k → o ≤ 1 → length (line (keyText (2 * k + o))) ≡ length (getD keywords (k - 1) []) + o + 2
 key-size k o h m =
@@ -139,7 +195,7 @@ row-size t e =
       length-append c d,
       key-size k (countAt t 1) (kind-in (t .rows) n .0) (outside-in (t .rows) n),
       fields-size t ps (r .letters-held) (scheduled-in t n),
-      frame-size t k (kind-in (t .rows) n .0) (kind-in (t .rows) n .1) (field-none (t .rows) n 9 (omega arith) (omega arith)),
+      frame-size t k (kind-in (t .rows) n .0) (kind-in (t .rows) n .1) (letters-none (t .rows) n),
       integers-size (islandsOf t),
       length-take-le (countAt t 10) (t .islands) (r .islands-held),
       reals-size (pointsOf t) (r .points-real),
@@ -149,9 +205,9 @@ row-size t e =
 low-frame : ℕ → Bool
 low-frame k = leb (getD frames k 0) 97
 
-frame-most : (k : ℕ) → k ≤ 5 → getD frames k 0 ≤ 97
+frame-most : (k : ℕ) → k ≤ kindMost → getD frames k 0 ≤ 97
 unfolding low-frame frames below
-frame-most k h = leb-true (getD frames k 0) 97 (below-at 6 low-frame k refl (omega arith))
+frame-most k h = leb-true (getD frames k 0) 97 (below-at (kindMost + 1) low-frame k refl (omega arith))
 
 -- the code's sum, of counts that it read
 module _ (rows : List ℤ) (n : areNumbers rows ≡ true) (k o l i v : ℕ) (a : k ≡ cellIn rows 0) (b : o ≡ cellIn rows 1) (c : l ≡ cellIn rows 9)

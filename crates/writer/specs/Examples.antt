@@ -8,7 +8,7 @@ use Rattle.heading.specs.declared.Header.{Header}
 use Rattle.sheet.specs.Tables.{Tables}
 use Rattle.made.specs.declared.Verdict.the-variants.{Fine, BadHeader, Faulty, Unlisted}
 use Rattle.made.specs.Made.{tablesOf}
-use Rattle.made.specs.Examples.{header, label, symbol, odd, border, ring, computed as computedVerdict}
+use Rattle.made.specs.Examples.{header, label, symbol, odd, border, raster, book, ring, computed as computedVerdict}
 use Rattle.layout.specs.Sheet.{rowText}
 use Rattle.layout.specs.Examples.{computed as computedText}
 use Rattle.writer.specs.declared.Written.{Written}
@@ -62,6 +62,7 @@ told = (refl, refl, refl, refl, refl, refl, refl, refl)
 
 -- a row's size is its text's
 sizes : (rowSize label ≡ length (rowText one)) × (rowSize (border 0 1 8) ≡ length (rowText (tablesOf (border 0 1 8) (text "7") (4 ∷ []) (ring 0 ++ ring 0))))
-    × (rowSize (symbol 5) ≡ length (rowText (tablesOf (symbol 5) [] [] [])))
+    × (rowSize (symbol 5) ≡ length (rowText (tablesOf (symbol 5) [] [] []))) × (rowSize (raster 0 0 4) ≡ length (rowText (tablesOf (raster 0 0 4) (text "7") [] (ring 0))))
+    × (rowSize (book 0 1 2) ≡ length (rowText (tablesOf (book 0 1 2) (text "7") [] (ring 0))))
 unfolding computed rowSize frames
-sizes = (refl, refl, refl)
+sizes = (refl, refl, refl, refl, refl)

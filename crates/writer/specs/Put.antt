@@ -17,7 +17,7 @@ pub record Put (l : List ℕ) (at : ℕ) (s d : List ℕ) (r : ℕ) : Type 0 whe
 
 -- by kind, from 0: the bytes of its records without letters, outside mark, island counts and points
 unfoldable pub frames : List ℕ
-frames = 0 ∷ 97 ∷ 57 ∷ 57 ∷ 75 ∷ 19 ∷ []
+frames = 0 ∷ 97 ∷ 57 ∷ 57 ∷ 75 ∷ 19 ∷ 22 ∷ 24 ∷ []
 
 unfoldable pub rowSize : List ℤ → ℕ
 rowSize rows = getD frames (cellIn rows 0) 0 + cellIn rows 1 + cellIn rows lettersPlace + 6 * cellIn rows islandsPlace + 28 * cellIn rows verticesPlace

@@ -11,7 +11,7 @@ ghost use Rattle.record.specs.Refusals.{fileMost};
 ghost use Rattle.record.specs.declared.Mode.the-variants.{Exact};
 ghost use Rattle.number.specs.Number.{isReal};
 ghost use Rattle.spelling.specs.Spelling.{integerMost, integerText, realText};
-ghost use Rattle.token.specs.Lex.{keyText};
+ghost use Rattle.token.specs.Lex.{keyText, kindMost};
 ghost use Rattle.kinds.specs.Kinds.{schedule, lettersPlace, wantAt};
 ghost use Rattle.header.specs.Header.{firstWords};
 ghost use Rattle.heading.specs.Heading.{isHeader};
@@ -53,7 +53,7 @@ const ISLANDS_PLACE: usize = 10;
 const VERTICES_PLACE: usize = 11;
 
 // By kind, from 0, the bytes of its records without letters, outside mark, island counts and points.
-const FRAMES: [usize; 6] = [0, 97, 57, 57, 75, 19];
+const FRAMES: [usize; 8] = [0, 97, 57, 57, 75, 19, 22, 24];
 
 // The bytes of the EOF record.
 const END_LENGTH: usize = 5;
@@ -91,7 +91,7 @@ fn put_real(out: &mut [u8], at: usize, z: i64) -> usize
 
 // The record of a keyword, with a final `\` for outside.
 fn put_key(out: &mut [u8], at: usize, kind: usize, outside: usize) -> usize
-    requires { ⌜ (1 ≤ kind) × (kind ≤ 5) × (outside ≤ 1) × (at + length (line (keyText (2 * kind + outside))) ≤ length (now out)) ⌝ }
+    requires { ⌜ (1 ≤ kind) × (kind ≤ kindMost) × (outside ≤ 1) × (at + length (line (keyText (2 * kind + outside))) ≤ length (now out)) ⌝ }
     ensures { λ r. ⌜ Put (now (out .entry)) at (line (keyText (2 * kind + outside))) (now (out .exit)) r ⌝ }
 {
     let k = kind - 1;

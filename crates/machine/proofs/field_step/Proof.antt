@@ -19,6 +19,9 @@ returns-2 c = search (field-ways, needs)
 next-field-requires : tie.Need-next-field-requires
 next-field-requires c κs = search needs
 
+fields-end-requires : tie.Need-fields-end-requires
+fields-end-requires c κs = search needs
+
 returns-3 : tie.Need-returns-3
 returns-3 c = search (field-ways, needs)
 
@@ -37,6 +40,7 @@ field-step-spec =
     vertices-step-requires
     returns-2
     next-field-requires
+    fields-end-requires
     returns-3
     returns-4
     returns-5)

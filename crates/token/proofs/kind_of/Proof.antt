@@ -5,15 +5,15 @@ use Prim.Native.Nat.{_+_, _-_, _≤_}
 use mathlib.Core.Path.{_≡_}
 use lib.ListN.{drop}
 use Rattle.laws.specs.Lists.{place}
-use Rattle.token.specs.Lex.{keywords}
+use Rattle.token.specs.Lex.{keywords, kindMost}
 use Rattle.token.proofs.kind_of.Statement.{statement}
 use Rattle.token.proofs.kind_of.Tie as tie
 
 abbrev Inv-loop : tie.InvT-loop
-Inv-loop w k₀ k = (k ≤ 5) × (place 1 keywords w ≡ place (k + 1) (drop k keywords) w)
+Inv-loop w k₀ k = (k ≤ kindMost) × (place 1 keywords w ≡ place (k + 1) (drop k keywords) w)
 
 abbrev μ-loop : tie.MeasureT-loop
-μ-loop w k₀ k = 5 - k
+μ-loop w k₀ k = kindMost - k
 
 loop-holds : tie.Need-loop-holds Inv-loop μ-loop
 loop-holds c = search (kind-ways, needs)

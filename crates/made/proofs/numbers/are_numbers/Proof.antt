@@ -10,6 +10,12 @@ returns c = search (number-ways, needs)
 count-at-requires : tie.Need-count-at-requires
 count-at-requires c κs = search needs
 
+returns-2 : tie.Need-returns-2
+returns-2 c = search (number-ways, needs)
+
+returns-3 : tie.Need-returns-3
+returns-3 c = search (number-ways, needs)
+
 are-cells-requires : tie.Need-are-cells-requires
 are-cells-requires c κs = search needs
 
@@ -25,11 +31,8 @@ are-cells-requires-4 c κs = search needs
 are-cells-requires-5 : tie.Need-are-cells-requires-5
 are-cells-requires-5 c κs = search needs
 
-returns-2 : tie.Need-returns-2
-returns-2 c = search (number-ways, needs)
-
-returns-3 : tie.Need-returns-3
-returns-3 c = search (number-ways, needs)
+are-cells-requires-6 : tie.Need-are-cells-requires-6
+are-cells-requires-6 c κs = search needs
 
 returns-4 : tie.Need-returns-4
 returns-4 c = search (number-ways, needs)
@@ -43,20 +46,11 @@ returns-6 c = search (number-ways, needs)
 returns-7 : tie.Need-returns-7
 returns-7 c = search (number-ways, needs)
 
+returns-8 : tie.Need-returns-8
+returns-8 c = search (number-ways, needs)
+
+returns-9 : tie.Need-returns-9
+returns-9 c = search (number-ways, needs)
+
 pub are-numbers-spec : {M : Type 1} → statement M
-are-numbers-spec =
-    tie.close
-    (tie.spec
-    returns
-    count-at-requires
-    are-cells-requires
-    are-cells-requires-2
-    are-cells-requires-3
-    are-cells-requires-4
-    are-cells-requires-5
-    returns-2
-    returns-3
-    returns-4
-    returns-5
-    returns-6
-    returns-7)
+are-numbers-spec = tie.close (tie.spec returns count-at-requires returns-2 returns-3 are-cells-requires are-cells-requires-2 are-cells-requires-3 are-cells-requires-4 are-cells-requires-5 are-cells-requires-6 returns-4 returns-5 returns-6 returns-7 returns-8 returns-9)

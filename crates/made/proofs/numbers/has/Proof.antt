@@ -12,6 +12,9 @@ use borrow.Author.Needs.{needs}
 use Rattle.made.proofs.numbers.has.Statement.{statement}
 use Rattle.made.proofs.numbers.has.Tie as tie
 
+is-among-requires : tie.Need-is-among-requires
+is-among-requires c κs = search needs
+
 is-either-requires : tie.Need-is-either-requires
 is-either-requires c κs = search needs
 
@@ -21,12 +24,12 @@ is-either-requires-2 c κs = search needs
 is-either-requires-3 : tie.Need-is-either-requires-3
 is-either-requires-3 c κs = search needs
 
-is-either-requires-4 : tie.Need-is-either-requires-4
-is-either-requires-4 c κs = search needs
+is-among-requires-2 : tie.Need-is-among-requires-2
+is-among-requires-2 c κs = search needs
 
 returns : tie.Need-returns
 unfolding below hasField holds schedule
-returns c = let s = c .before in rw (c .match .keys1) (has-at (λ (k : ℕ). ltb 2 k) 2 refl (s .args .kind) (s .pre .0) (s .pre .1))
+returns c = let s = c .before .before in rw (c .is-among .ensures, c .before .match .keys1) (has-at (λ (k : ℕ). not (eqb k 1 || (eqb k 2 || eqb k 6))) 2 refl (s .args .kind) (s .pre .0) (s .pre .1))
 
 returns-2 : tie.Need-returns-2
 unfolding below hasField holds schedule
@@ -62,7 +65,7 @@ returns-9 c = let s = c .before in rw (c .match .keys9) (has-at (λ (k : ℕ). l
 
 returns-10 : tie.Need-returns-10
 unfolding below hasField holds schedule
-returns-10 c = let s = c .before .before in rw (c .is-either4 .ensures, c .before .match .keys10) (has-at (λ (k : ℕ). eqb k 1 || eqb k 5) 11 refl (s .args .kind) (s .pre .0) (s .pre .1))
+returns-10 c = let s = c .before .before in rw (c .is-among2 .ensures, c .before .match .keys10) (has-at (λ (k : ℕ). eqb k 1 || (eqb k 5 || eqb k 7)) 11 refl (s .args .kind) (s .pre .0) (s .pre .1))
 
 returns-11 : tie.Need-returns-11
 returns-11 c =
@@ -75,10 +78,11 @@ pub has-spec : {M : Type 1} → statement M
 has-spec =
     tie.close
     (tie.spec
+    is-among-requires
     is-either-requires
     is-either-requires-2
     is-either-requires-3
-    is-either-requires-4
+    is-among-requires-2
     returns
     returns-2
     returns-3

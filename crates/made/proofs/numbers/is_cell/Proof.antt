@@ -28,11 +28,11 @@ in-range-requires c κs = search needs
 returns-3 : tie.Need-returns-3
 returns-3 c = search (cell-ways, needs)
 
+is-unsaid-requires : tie.Need-is-unsaid-requires
+is-unsaid-requires c κs = search needs
+
 returns-4 : tie.Need-returns-4
 returns-4 c = search (cell-ways, needs)
-
-returns-5 : tie.Need-returns-5
-returns-5 c = search (cell-ways, needs)
 
 pub is-cell-spec : {M : Type 1} → statement M
 is-cell-spec =
@@ -46,5 +46,5 @@ is-cell-spec =
     want-at-requires
     in-range-requires
     returns-3
-    returns-4
-    returns-5)
+    is-unsaid-requires
+    returns-4)

@@ -10,6 +10,9 @@ are-border-counts-requires c κs = search needs
 returns : tie.Need-returns
 returns c = search (count-ways, needs)
 
+is-either-requires : tie.Need-is-either-requires
+is-either-requires c κs = search needs
+
 returns-2 : tie.Need-returns-2
 returns-2 c = search (count-ways, needs)
 
@@ -22,4 +25,4 @@ returns-4 c = search (count-ways, needs)
 pub are-counts-spec : {M : Type 1} → statement M
 are-counts-spec =
     tie.close
-    (tie.spec are-border-counts-requires returns returns-2 returns-3 returns-4)
+    (tie.spec are-border-counts-requires returns is-either-requires returns-2 returns-3 returns-4)
