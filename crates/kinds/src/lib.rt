@@ -10,8 +10,7 @@ use token::Want;
 // How many kinds there are.
 const KINDS: usize = 7;
 
-// A row of a sheet has so many numbers: those that its section gives, and behind them where its letters, its island counts and
-// its points begin.
+// A row of a sheet has 15 numbers: 12 that its section gives, and behind them where its letters, its island counts and its points begin.
 pub const ROW_WIDTH: usize = 15;
 
 pub const FIRST_LETTER_PLACE: usize = 12;
@@ -20,7 +19,7 @@ pub const FIRST_ISLAND_PLACE: usize = 13;
 
 pub const FIRST_POINT_PLACE: usize = 14;
 
-const OWN_WIDTH: usize = 12;
+pub const OWN_WIDTH: usize = 12;
 
 // The places of a row that are no integers.
 const ANGLE_PLACE: usize = 4;

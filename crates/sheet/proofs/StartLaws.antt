@@ -9,23 +9,26 @@ use lib.Dec.{eqb}
 use lib.IntN.{ℤ, pos, _+ℤ_, +ℤ-idr, +ℤ-assoc, pos-+ℤ-pos}
 use borrow.Author.Tests.{eqb-true, eqb-false, ne-eqb}
 use Rattle.kinds.specs.Kinds.{rowWidth, ownWidth, firstLetterPlace, firstIslandPlace, firstPointPlace, verticesPlace, fixedVertices, unsaid}
-use Rattle.sheet.specs.Tables.{Tables, empty, Starts, noStarts, _plus_, startsOf, moveAt, moveFrom, movedOn, startCells, startingAt, _followed_, newRow}
+use Rattle.sheet.specs.Tables.{Tables, empty, Starts, noStarts, _plus_, startsOf, moveAt, moveFrom, movedOn, startCells, startingAt, _followed_, ownCells, newRow}
 
 -- ---- a new row
 
 -- what it has behind kind and outside, before its starts
-pub new-at : (t q : ℕ) (s : Starts) → 2 ≤ q → q ≤ 11 → getD (newRow t s) q (pos 0) ≡ pos (unsaid (t / 2) q)
+pub own-at : (t q : ℕ) → 2 ≤ q → q ≤ 11 → getD (ownCells t) q (pos 0) ≡ pos (unsaid (t / 2) q)
 unfolding unsaid
-new-at t q s h k = go (eqb q 11) refl
+own-at t q h k = go (eqb q 11) refl
   where
-    go : (b : Bool) → eqb q 11 ≡ b → getD (newRow t s) q (pos 0) ≡ pos (cond b (fixedVertices (t / 2)) 0)
-    go true e = ap (λ (i : ℕ). getD (newRow t s) i (pos 0)) (eqb-true q 11 e)
+    go : (b : Bool) → eqb q 11 ≡ b → getD (ownCells t) q (pos 0) ≡ pos (cond b (fixedVertices (t / 2)) 0)
+    go true e = ap (λ (i : ℕ). getD (ownCells t) i (pos 0)) (eqb-true q 11 e)
     go false e =
         let n = eqb-false q 11 e in
         let two : q ≡ suc (suc (q - 2)) = omega arith in
-        ap (λ (i : ℕ). getD (newRow t s) i (pos 0)) two
-        ∙ List·getD-append (replicate 9 (pos 0)) (pos (fixedVertices (t / 2)) ∷ startCells s) (pos 0) (q - 2) (omega arith)
+        ap (λ (i : ℕ). getD (ownCells t) i (pos 0)) two
+        ∙ List·getD-append (replicate 9 (pos 0)) (pos (fixedVertices (t / 2)) ∷ []) (pos 0) (q - 2) (omega arith)
         ∙ getD-replicate 9 (q - 2) (pos 0) (pos 0) (omega arith)
+
+pub new-at : (t q : ℕ) (s : Starts) → 2 ≤ q → q ≤ 11 → getD (newRow t s) q (pos 0) ≡ pos (unsaid (t / 2) q)
+new-at t q s h k = List·getD-append (ownCells t) (startCells s) (pos 0) q (omega arith) ∙ own-at t q h k
 
 -- and its starts
 pub new-starts : (t : ℕ) (s : Starts)

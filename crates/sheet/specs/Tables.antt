@@ -84,9 +84,13 @@ a followed b = a then startingAt (startsOf a) b
 
 -- ---- what a record puts there
 
--- kind and outside; a field the section lacks is 0, but for the vertices that it does not count; then the starts
+-- kind and outside; a field the section lacks is 0, but for the vertices that it does not count
+abbrev pub ownCells : ℕ → List ℤ
+ownCells t = pos (t / 2) ∷ pos (t % 2) ∷ (replicate 9 (pos 0) ++ pos (fixedVertices (t / 2)) ∷ [])
+
+-- a row at its keyword: what the section gives is to come, the starts are there
 abbrev pub newRow : ℕ → Starts → List ℤ
-newRow t s = pos (t / 2) ∷ pos (t % 2) ∷ (replicate 9 (pos 0) ++ pos (fixedVertices (t / 2)) ∷ startCells s)
+newRow t s = ownCells t ++ startCells s
 
 -- a token as a number of a row
 abbrev pub cellOf : Want → ℕ → ℤ
