@@ -1,18 +1,18 @@
--- `put_row` meets its contract. So far the first `j` numbers of a new row stand in the table. Assumes nothing.
+-- `put_own` meets its contract. So far the first `j` numbers that the section gives stand in the table. Assumes nothing.
 use borrow.Author.Needs.{needs}
 use Prim.Native.Nat.{_-_}
 use lib.IntN.{pos}
-use Rattle.kinds.specs.Kinds.{rowWidth}
-use Rattle.sheet.specs.Tables.{newRow}
+use Rattle.kinds.specs.Kinds.{ownWidth}
+use Rattle.sheet.specs.Tables.{ownCells}
 use Rattle.reader.proofs.Storing.{Pasting, pasting-start, pasting-length, pasting-at, pasting-step, pasting-end, cell-is, cell-most}
-use Rattle.reader.proofs.cells.put_row.Statement.{statement}
-use Rattle.reader.proofs.cells.put_row.Tie as tie
+use Rattle.reader.proofs.cells.put_own.Statement.{statement}
+use Rattle.reader.proofs.cells.put_own.Tie as tie
 
 abbrev Inv-loop : tie.InvT-loop
-Inv-loop dst₀ at t j₀ dst j = Pasting dst₀ at (newRow t) dst j
+Inv-loop dst₀ at t j₀ dst j = Pasting dst₀ at (ownCells t) dst j
 
 abbrev μ-loop : tie.MeasureT-loop
-μ-loop dst₀ at t j₀ dst j = rowWidth - j
+μ-loop dst₀ at t j₀ dst j = ownWidth - j
 
 loop-holds : tie.Need-loop-holds Inv-loop μ-loop
 loop-holds c = pasting-start _ _ _ (c .pre .0)
@@ -41,8 +41,8 @@ same-length c = pasting-length _ _ _ _ _ (c .before .loop .inv)
 returns : tie.Need-returns Inv-loop μ-loop
 returns c = pasting-end _ _ _ _ _ (c .before .loop .inv) (c .loop-test .left)
 
-pub put-row-spec : {M : Type 1} → statement M
-put-row-spec =
+pub put-own-spec : {M : Type 1} → statement M
+put-own-spec =
     tie.close
     (tie.spec
     Inv-loop
