@@ -15,7 +15,7 @@ use Rattle.laws.proofs.Choice.{and-left, and-right, cond-elim}
 use Rattle.laws.proofs.ListLaws.{below-at, values, values-at}
 use Rattle.laws.proofs.Packed.{packed-from, packed-to, packed-is}
 use Rattle.token.specs.Lex.{kindMost}
-use Rattle.kinds.specs.Kinds.{rowWidth, schedule, nextIn, nextOf, fixed, fixedVertices, codes, isListed}
+use Rattle.kinds.specs.Kinds.{ownWidth, schedule, nextIn, nextOf, fixed, fixedVertices, codes, isListed}
 
 -- what holds of 0 and of every place of a list holds of the next place
 next-in : (P : ℕ → Bool) (p : ℕ) (qs : List ℕ) → P 0 ≡ true → all P qs ≡ true → P (nextIn p qs) ≡ true
@@ -65,14 +65,14 @@ most-all = fields-all most11 refl
 -- ---- the code's table of the next fields, and that there are none where it ends
 
 unfoldable pub nextTable : List (List ℕ)
-nextTable = values (λ (kind : ℕ). values (nextOf kind) rowWidth) kinds
+nextTable = values (λ (kind : ℕ). values (nextOf kind) ownWidth) kinds
 
-pub next-at : (kind p n : ℕ) → kind ≤ kindMost → p < rowWidth → n ≡ getD (getD nextTable kind []) p 0 → n ≡ nextOf kind p
+pub next-at : (kind p n : ℕ) → kind ≤ kindMost → p < ownWidth → n ≡ getD (getD nextTable kind []) p 0 → n ≡ nextOf kind p
 unfolding nextTable
 next-at kind p n h k e =
     e
-    ∙ ap (λ (row : List ℕ). getD row p 0) (values-at (λ (kind : ℕ). values (nextOf kind) rowWidth) kinds kind [] (omega arith))
-    ∙ values-at (nextOf kind) rowWidth p 0 k
+    ∙ ap (λ (row : List ℕ). getD row p 0) (values-at (λ (kind : ℕ). values (nextOf kind) ownWidth) kinds kind [] (omega arith))
+    ∙ values-at (nextOf kind) ownWidth p 0 k
 
 pub next-no-kind : (kind p : ℕ) → kindMost < kind → 0 ≡ nextOf kind p
 unfolding nextOf nextIn schedule
