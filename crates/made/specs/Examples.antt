@@ -16,7 +16,7 @@ use Rattle.token.specs.Lex.{mayLieOutside}
 use Rattle.kinds.specs.Kinds.{ownWidth, schedule, fixed, fixedVertices, unsaid, codes, isListed, wantAt}
 use Rattle.heading.specs.declared.Header.{Header}
 use Rattle.heading.specs.Heading.{nameByte, isName, isHeader}
-use Rattle.sheet.specs.Tables.{Tables, startCells}
+use Rattle.sheet.specs.Tables.{Tables, noStarts, startCells}
 use Rattle.made.specs.declared.Verdict.{Verdict}
 use Rattle.made.specs.declared.Verdict.the-variants.{Fine, BadHeader, Faulty, Unlisted}
 use Rattle.made.specs.Made.{tablesOf, inRange, hasField, isOutside, isCell, areNumbers, areLetters, sum, areCounts, areReals, isClosed, areClosed, ringSizes, arePoints, isMade, areStarts, startsAt, isCoded, judgeRows, judgeOf, faultOf, usedOf}
@@ -26,7 +26,7 @@ header kind = record { kind = kind; name = text "Z999_000100"; scale = pos 10000
 
 -- the starts of a sheet's first row; and a row as it stands behind so many letters, island counts and points
 abbrev pub atFirst : List ℤ
-atFirst = startCells (startsAt 0 0 0)
+atFirst = startCells noStarts
 
 abbrev pub placed : ℕ → ℕ → ℕ → List ℤ → List ℤ
 placed letters islands points row = take ownWidth row ++ startCells (startsAt letters islands points)

@@ -20,7 +20,7 @@ use Rattle.token.specs.Lex.{kindMost, mayLieOutside}
 use Rattle.kinds.specs.Kinds.{rowWidth, ownWidth, codePlace, lettersPlace, islandsPlace, verticesPlace, firstLetterPlace, firstIslandPlace, firstPointPlace, schedule, unsaid, isListed, wantAt}
 use Rattle.heading.specs.declared.Header.{Header}
 use Rattle.heading.specs.Heading.{isHeader}
-use Rattle.sheet.specs.Tables.{Tables, Starts, empty, _then_}
+use Rattle.sheet.specs.Tables.{Tables, empty, _then_, Starts, noStarts, _plus_}
 use Rattle.made.specs.declared.Fault.{Fault}
 use Rattle.made.specs.declared.Verdict.{Verdict}
 use Rattle.made.specs.declared.Verdict.the-variants.{Fine, BadHeader, Faulty, Unlisted}
@@ -168,9 +168,9 @@ areStarts s rows =
 abbrev pub startsAt : ℕ → ℕ → ℕ → Starts
 startsAt letters islands points = record { letters = letters; islands = islands; points = points }
 
--- past the first row's letters, island counts and points
-abbrev pub pastOwn : Starts → Tables → Starts
-pastOwn s t = startsAt (s .letters + countAt t lettersPlace) (s .islands + countAt t islandsPlace) (s .points + countAt t verticesPlace)
+-- how many letters, island counts and points the first row has
+abbrev pub countsOf : Tables → Starts
+countsOf t = startsAt (countAt t lettersPlace) (countAt t islandsPlace) (countAt t verticesPlace)
 
 -- what stands before a row: so many rows, and so many letters, island counts and points
 pub record Before : Type 0 where
@@ -178,10 +178,10 @@ pub record Before : Type 0 where
   pub starts : Starts
 
 abbrev pub noneBefore : Before
-noneBefore = record { row = 0; starts = startsAt 0 0 0 }
+noneBefore = record { row = 0; starts = noStarts }
 
 abbrev pub pastRow : Before → Tables → Before
-pastRow b t = record { row = b .row + 1; starts = pastOwn (b .starts) t }
+pastRow b t = record { row = b .row + 1; starts = b .starts plus countsOf t }
 
 -- rows in order, each 15, where its own part or a start is faulty, then 10
 unfoldable pub judgeRows : Mode → ℕ → Before → Tables → Verdict

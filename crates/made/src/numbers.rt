@@ -18,6 +18,7 @@ use crate::count_of;
 use kinds::FIRST_ISLAND_PLACE;
 use kinds::FIRST_LETTER_PLACE;
 use kinds::FIRST_POINT_PLACE;
+use kinds::OWN_WIDTH;
 use kinds::ROW_WIDTH;
 use kinds::fixed_vertices;
 use kinds::want_at;
@@ -29,9 +30,6 @@ use token::may_lie_outside;
 const KIND_MOST: i64 = 7;
 
 const KINDS: usize = 7;
-
-// The numbers of a row before its starts.
-const OWN_WIDTH: usize = 12;
 
 fn is_between(least: i64, most: i64, z: i64) -> bool
     ensures { λ r. ⌜ r ≡ (leZ least z && leZ z most) ⌝ }
