@@ -13,7 +13,7 @@ use Rattle.sheet.specs.Tables.{Tables}
 use Rattle.made.specs.declared.Verdict.the-variants.{Fine}
 use Rattle.made.specs.Made.{natOf, lettersOf, islandsOf, pointsOf, noneBefore, judgeOf}
 use Rattle.made.proofs.UsedLaws.{total}
-use Rattle.made.proofs.StartLaws.{Starting, starts-are, starts-total, pastRows, totalsOf}
+use Rattle.made.proofs.StartLaws.{Starting, starts-are, starts-total, pastRows}
 use Rattle.row.specs.declared.Stand.{Stand}
 use Rattle.row.specs.Walk.{standOf, ownStand, leftAt}
 use Rattle.row.specs.Alone.{aloneOf, rowAlone}
