@@ -35,13 +35,17 @@ header = record { kind = 1; name = text "Z999_000100"; scale = pos 1000000 }
 
 -- a text that lies outside, and a symbol behind it, which may be wrong: `outside` is 0 or 1, 12 is no listed code
 abbrev pub label : List ℤ
-label = pos 2 ∷ pos 1 ∷ pos 0 ∷ pos 18 ∷ pos 0 ∷ pos 3000 ∷ negsuc 4 ∷ pos 0 ∷ pos 0 ∷ pos 1 ∷ pos 0 ∷ pos 0 ∷ []
+label = pos 2 ∷ pos 1 ∷ pos 0 ∷ pos 18 ∷ pos 0 ∷ pos 3000 ∷ negsuc 4 ∷ pos 0 ∷ pos 0 ∷ pos 1 ∷ pos 0 ∷ pos 0 ∷ pos 0 ∷ pos 0 ∷ pos 0 ∷ []
 
-abbrev pub symbol : ℕ → ℕ → List ℤ
-symbol outside code = pos 3 ∷ pos outside ∷ pos code ∷ pos 0 ∷ pos 0 ∷ pos 5 ∷ pos 5 ∷ pos 0 ∷ pos 0 ∷ pos 0 ∷ pos 0 ∷ pos 0 ∷ []
+abbrev pub symbol : ℕ → ℕ → ℕ → List ℤ
+symbol outside code first = pos 3 ∷ pos outside ∷ pos code ∷ pos 0 ∷ pos 0 ∷ pos 5 ∷ pos 5 ∷ pos 0 ∷ pos 0 ∷ pos 0 ∷ pos 0 ∷ pos 0 ∷ pos first ∷ pos 0 ∷ pos 0 ∷ []
 
 abbrev pub sheetWith : ℕ → ℕ → Tables
-sheetWith outside code = tablesOf (label ++ symbol outside code) (text "7") [] []
+sheetWith outside code = tablesOf (label ++ symbol outside code 1) (text "7") [] []
+
+-- the symbol, which has no letters, says that they would begin at 0
+abbrev pub falseStart : Tables
+falseStart = tablesOf (label ++ symbol 0 14 0) (text "7") [] []
 
 abbrev pub file : List ℕ
 file = text "MAPPA\r\nZ999_000100\r\n    1000.000\r\nTESTO\\\r\n7\r\n  18\r\n       0.000\r\n       3.000\r\n      -0.005\r\nSIMBOLO\r\n  14\r\n       0.000\r\n       0.005\r\n       0.005\r\nEOF\r\n"
@@ -66,6 +70,10 @@ short = refl
 faulty : (room : ℕ) → writeOf header 2 (sheetWith 2 14) room ≡ Refused (Faulty 1)
 unfolding writeOf judged
 faulty room = refl
+
+misplaced : (room : ℕ) → writeOf header 2 falseStart room ≡ Refused (Faulty 1)
+unfolding writeOf judged
+misplaced room = refl
 
 unlisted : (room : ℕ) → writeOf header 2 (sheetWith 0 12) room ≡ Refused (Unlisted 1)
 unfolding writeOf judged
@@ -122,6 +130,13 @@ module _ (κs : Lfts 5) (a : ArgsD write.signature κs) (r : ResD write.signatur
 
     pub write-faulty-untouched : tables ≡ sheetWith 2 14 → left ≡ lent
     write-faulty-untouched t = untouched (write-faulty t)
+
+    -- T-07: a row with a false start is not well made
+    pub write-false-start : tables ≡ falseStart → r ≡ Refused (Faulty 1)
+    write-false-start t = post .0 ∙ rw (h, n, t) (misplaced _)
+
+    pub write-false-start-untouched : tables ≡ falseStart → left ≡ lent
+    write-false-start-untouched t = untouched (write-false-start t)
 
     pub write-unlisted : tables ≡ sheetWith 0 12 → r ≡ Refused (Unlisted 1)
     write-unlisted t = post .0 ∙ rw (h, n, t) (unlisted _)
