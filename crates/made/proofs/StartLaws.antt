@@ -1,22 +1,23 @@
 -- The starts of rows that are judged fine (document 02, T-07): each is the sum of the counts before it, and rows that come to stand behind others are
 -- fine with their starts moved on. Assumes nothing.
-use mathlib.Core.Path.{_≡_, refl, sym, _∙_, ap, ap₂}
-use mathlib.Core.List.{List, append-assoc}
-use mathlib.Core.Bool.{Bool, true, _&&_}
-use Prim.Native.Nat.{ℕ, zero, suc, _+_, _*_, _/_, _≤_, _<_, min}
+use mathlib.Core.Path.{_≡_, refl, sym, _∙_, ap, ap₂, subst}
+use mathlib.Core.List.{List, [], _++_, append-assoc}
+use mathlib.Core.Bool.{Bool, true, false, _&&_}
+use Prim.Native.Nat.{ℕ, zero, suc, _+_, _*_, _/_, _%_, _≤_, _<_, min}
 use native.Mathlib.Omega.{arith}
-use lib.Dec.{leb}
-use lib.ListN.{length, getD, take, drop, length-take}
-use lib.Seq.{drop-drop, getD-take, length-take-le, ext-getD}
+use lib.Dec.{leb, eqb}
+use lib.ListN.{length, getD, take, drop, length-take, length-append, List·getD-append}
+use lib.Seq.{drop-drop, getD-take, getD-append-add, length-take-le, ext-getD}
 use lib.IntN.{ℤ, pos, _+ℤ_}
+use borrow.Author.Tests.{leb-true, leb-false, eqb-true, eqb-false}
 use Rattle.laws.specs.Whole.{eqZ}
 use Rattle.laws.proofs.Choice.{and-left, and-right, and-both}
 use Rattle.laws.proofs.Bits.{eqZ-yes, eqZ-same}
 use Rattle.record.specs.declared.Mode.{Mode}
 use Rattle.kinds.specs.Kinds.{rowWidth, ownWidth, codePlace, lettersPlace, islandsPlace, verticesPlace, firstLetterPlace, firstIslandPlace, firstPointPlace}
-use Rattle.sheet.specs.Tables.{Tables, _then_, Starts, noStarts, _plus_, startsOf, moveAt, movedOn, startingAt, _followed_}
-use Rattle.sheet.proofs.StartLaws.{length-moved, moved-own, moved-at, moved-drop}
-use Rattle.made.specs.Made.{countAt, kindOf, firstOf, ownOf, restOf, isMade, areStarts, startsAt, countsOf, Before, noneBefore, pastRow, isCoded, judgeRows, usedOf}
+use Rattle.sheet.specs.Tables.{Tables, _then_, Starts, noStarts, _plus_, startsOf, startCells, moveAt, moveFrom, movedOn, startingAt, _followed_}
+use Rattle.sheet.proofs.StartLaws.{length-moved, moved-own, moved-at, moved-append, moved-drop, moved-take}
+use Rattle.made.specs.Made.{countAt, kindOf, lettersOf, islandsOf, pointsOf, firstOf, ownOf, restOf, aloneOf, isMade, areStarts, startsAt, countsOf, Before, noneBefore, pastRow, isCoded, judgeRows, usedOf}
 use Rattle.made.specs.declared.Verdict.the-variants.{Fine}
 use Rattle.made.proofs.RowWays.{made-held}
 use Rattle.made.proofs.OwnLaws.{made-same, cell-alike, made-alike, starts-alike, first-own, rest-own}
@@ -160,12 +161,19 @@ module _ (s : Starts) (t : Tables) where
   counts-moved : countsOf moved ≡ countsOf t
   counts-moved = rw (moved-own s (t .rows) lettersPlace (pos 0) (omega arith), moved-own s (t .rows) islandsPlace (pos 0) (omega arith), moved-own s (t .rows) verticesPlace (pos 0) (omega arith))
 
+  first-moved : firstOf moved ≡ startingAt s (firstOf t)
+  first-moved = rw (moved-take s rowWidth (t .rows), moved-own s (t .rows) lettersPlace (pos 0) (omega arith), moved-own s (t .rows) islandsPlace (pos 0) (omega arith), moved-own s (t .rows) verticesPlace (pos 0) (omega arith))
+
 plus-assoc : (a b c : Starts) → a plus b plus c ≡ a plus (b plus c)
 plus-assoc a b c =
     let x : a .letters + b .letters + c .letters ≡ a .letters + (b .letters + c .letters) = omega arith in
     let y : a .islands + b .islands + c .islands ≡ a .islands + (b .islands + c .islands) = omega arith in
     let z : a .points + b .points + c .points ≡ a .points + (b .points + c .points) = omega arith in
     rw (x, y, z)
+
+moved-nothing : (s : Starts) → movedOn s [] ≡ []
+unfolding moveFrom
+moved-nothing s = refl
 
 -- **they are fine there**, whatever the number of the first
 pub fine-moved : (mode : Mode) (s : Starts) (n : ℕ) (b c : Before) (t : Tables) → c .starts ≡ s plus b .starts → judgeRows mode n b t ≡ Fine → judgeRows mode n c (startingAt s t) ≡ Fine
@@ -178,6 +186,79 @@ fine-moved mode s (suc n) b c t q e =
     let past : pastRow c (startingAt s t) .starts ≡ s plus pastRow b t .starts = ap₂ (λ (x y : Starts). x plus y) q (counts-moved s t) ∙ plus-assoc s (b .starts) (countsOf t) in
     fine-before mode n c (startingAt s t) (made-moved s t ∙ f .0) (ap (λ (x : Starts). areStarts x (movedOn s (t .rows))) q ∙ starts-moved s t (b .starts) (made-held t (f .0) .row) (f .2)) code
     (ap (judgeRows mode n (pastRow c (startingAt s t))) (rest-moved s t) ∙ fine-moved mode s n (pastRow b t) (pastRow c (startingAt s t)) (restOf t) past (f .1))
+
+-- and use the same, moved on
+pub used-moved : (mode : Mode) (s : Starts) (n : ℕ) (b : Before) (t : Tables) → judgeRows mode n b t ≡ Fine → usedOf n (startingAt s t) ≡ startingAt s (usedOf n t)
+unfolding usedOf
+used-moved mode s zero b t e = rw (moved-nothing s)
+used-moved mode s (suc n) b t e =
+    let f = fine-on mode n b t e in
+    let w = length-take-le rowWidth (t .rows) (made-held t (f .0) .row) in
+    ap₂ (λ (x y : Tables). x then y) (first-moved s t) (ap (usedOf n) (rest-moved s t) ∙ used-moved mode s n (pastRow b t) (restOf t) (f .1))
+    ∙ rw (moved-append s (take rowWidth (t .rows)) (usedOf n (restOf t) .rows) (omega (arith, w)))
+
+-- ---- a row alone, put behind what stands before it, is the row
+
+one-of-three : (P : ℕ → Type 0) → P firstLetterPlace → P firstIslandPlace → P firstPointPlace → (i : ℕ) → ownWidth ≤ i → i < rowWidth → P i
+one-of-three P a b c i h l = go (eqb i firstLetterPlace) refl (eqb i firstIslandPlace) refl
+  where
+    go : (x : Bool) → eqb i firstLetterPlace ≡ x → (y : Bool) → eqb i firstIslandPlace ≡ y → P i
+    go true e y f = subst P (sym (eqb-true i firstLetterPlace e)) a
+    go false e true f = subst P (sym (eqb-true i firstIslandPlace f)) b
+    go false e false f =
+        let x = eqb-false i firstLetterPlace e in
+        let y = eqb-false i firstIslandPlace f in
+        let z : firstPointPlace ≡ i = omega arith in
+        subst P z c
+
+module _ (s : Starts) (t : Tables) (h : rowWidth ≤ length (t .rows)) (e : areStarts s (t .rows) ≡ true) where
+  abbrev own : List ℤ
+  own = take ownWidth (t .rows)
+
+  wide : length own ≡ ownWidth
+  wide = length-take-le ownWidth (t .rows) (omega arith)
+
+  abbrev there : List ℤ
+  there = own ++ startCells noStarts
+
+  long : length there ≡ rowWidth
+  long = omega (arith, wide, length-append own (startCells noStarts))
+
+  abbrev Same : ℕ → Type 0
+  Same i = getD (movedOn s there) i (pos 0) ≡ getD (take rowWidth (t .rows)) i (pos 0)
+
+  in-own : (i : ℕ) → i < ownWidth → Same i
+  in-own i l =
+      moved-own s there i (pos 0) l ∙ List·getD-append own (startCells noStarts) (pos 0) i (omega (arith, wide)) ∙ getD-take ownWidth (t .rows) i (pos 0) l
+      ∙ sym (getD-take rowWidth (t .rows) i (pos 0) (omega arith))
+
+  start-none : (j : ℕ) → getD there (ownWidth + j) (pos 0) ≡ getD (startCells noStarts) j (pos 0)
+  start-none j = ap (λ (n : ℕ). getD there (n + j) (pos 0)) (sym wide) ∙ getD-append-add own (startCells noStarts) j (pos 0)
+
+  -- by the number that is moved on from 0
+  from-none : (i n : ℕ) → i < rowWidth → getD there i (pos 0) ≡ pos 0 → moveAt s (i % rowWidth) ≡ n → getD (t .rows) i (pos 0) ≡ pos n → Same i
+  from-none i n l z m f =
+      let y : 0 + n ≡ n = omega arith in
+      moved-at s there i (pos 0) (omega (arith, long)) ∙ ap₂ (λ (c : ℤ) (k : ℕ). c +ℤ pos k) z m ∙ ap pos y ∙ sym f ∙ sym (getD-take rowWidth (t .rows) i (pos 0) l)
+
+  pub alone-starting : startingAt s (aloneOf t) ≡ firstOf t
+  unfolding moveAt
+  alone-starting =
+      let r = starts-are s (t .rows) e in
+      let late : (i : ℕ) → ownWidth ≤ i → i < rowWidth → Same i = one-of-three Same
+      (from-none firstLetterPlace (s .letters) (omega arith) (start-none 0) refl (r .letters))
+      (from-none firstIslandPlace (s .islands) (omega arith) (start-none 1) refl (r .islands))
+      (from-none firstPointPlace (s .points) (omega arith) (start-none 2) refl (r .points)) in
+      let cell : (i : ℕ) → i < length (movedOn s there) → Same i = λ i l. early-late i (omega (arith, length-moved s there, long)) late in
+      ap (λ (x : List ℤ). record { rows = x; letters = lettersOf t; islands = islandsOf t; points = pointsOf t })
+      (ext-getD (pos 0) (movedOn s there) (take rowWidth (t .rows)) (length-moved s there ∙ long ∙ sym (length-take-le rowWidth (t .rows) h)) cell)
+    where
+      early-late : (i : ℕ) → i < rowWidth → ((i : ℕ) → ownWidth ≤ i → i < rowWidth → Same i) → Same i
+      early-late i l late = go (leb ownWidth i) refl
+        where
+          go : (x : Bool) → leb ownWidth i ≡ x → Same i
+          go true e = late i (leb-true ownWidth i e) l
+          go false e = in-own i (leb-false ownWidth i e)
 
 -- ---- **the rows of one sheet followed by those of another**
 

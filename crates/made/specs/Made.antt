@@ -1,7 +1,7 @@
 -- A sheet that is handed in, and when it is well made: document 01, "Sheet tables", and document 02, T-07 (the starts). Assumes nothing: these are definitions.
 -- The rows before a row use up what stands before its own part of each table, so a row is judged on what is left of the four.
 use Prim.Native.Nat.{ℕ, zero, suc, _+_, _-_, _*_}
-use mathlib.Core.List.{List, [], _∷_}
+use mathlib.Core.List.{List, [], _∷_, _++_}
 use mathlib.Core.Bool.{Bool, true, false, cond, not, _&&_, _||_}
 use lib.ListN.{length, getD, take, drop}
 use lib.Dec.{leb, eqb}
@@ -20,7 +20,7 @@ use Rattle.token.specs.Lex.{kindMost, mayLieOutside}
 use Rattle.kinds.specs.Kinds.{rowWidth, ownWidth, codePlace, lettersPlace, islandsPlace, verticesPlace, firstLetterPlace, firstIslandPlace, firstPointPlace, schedule, unsaid, isListed, wantAt}
 use Rattle.heading.specs.declared.Header.{Header}
 use Rattle.heading.specs.Heading.{isHeader}
-use Rattle.sheet.specs.Tables.{Tables, empty, _then_, Starts, noStarts, _plus_}
+use Rattle.sheet.specs.Tables.{Tables, empty, _then_, Starts, noStarts, _plus_, startCells}
 use Rattle.made.specs.declared.Fault.{Fault}
 use Rattle.made.specs.declared.Verdict.{Verdict}
 use Rattle.made.specs.declared.Verdict.the-variants.{Fine, BadHeader, Faulty, Unlisted}
@@ -171,6 +171,10 @@ startsAt letters islands points = record { letters = letters; islands = islands;
 -- how many letters, island counts and points the first row has
 abbrev pub countsOf : Tables → Starts
 countsOf t = startsAt (countAt t lettersPlace) (countAt t islandsPlace) (countAt t verticesPlace)
+
+-- the first row alone, a sheet of one row: what its section gives, with starts 0, and its own part of the other three tables
+abbrev pub aloneOf : Tables → Tables
+aloneOf t = tablesOf (ownOf t .rows ++ startCells noStarts) (ownOf t .letters) (ownOf t .islands) (ownOf t .points)
 
 -- what stands before a row: so many rows, and so many letters, island counts and points
 pub record Before : Type 0 where

@@ -11,12 +11,12 @@ use Rattle.heading.specs.declared.Header.{Header}
 use Rattle.kinds.specs.Kinds.{rowWidth, lettersPlace, islandsPlace, verticesPlace, firstLetterPlace, firstIslandPlace, firstPointPlace}
 use Rattle.sheet.specs.Tables.{Tables}
 use Rattle.made.specs.declared.Verdict.the-variants.{Fine}
-use Rattle.made.specs.Made.{natOf, lettersOf, islandsOf, pointsOf, noneBefore, judgeOf}
+use Rattle.made.specs.Made.{natOf, lettersOf, islandsOf, pointsOf, aloneOf, noneBefore, judgeOf}
 use Rattle.made.proofs.UsedLaws.{total}
 use Rattle.made.proofs.StartLaws.{Starting, starts-are, starts-total, pastRows}
 use Rattle.row.specs.declared.Stand.{Stand}
 use Rattle.row.specs.Walk.{standOf, ownStand, leftAt}
-use Rattle.row.specs.Alone.{aloneOf, rowAlone}
+use Rattle.row.specs.Alone.{rowAlone}
 use Rattle.row.proofs.Walk.{walk-to, walk-own}
 use Rattle.row.proofs.SeekLaws.{fine-rows}
 

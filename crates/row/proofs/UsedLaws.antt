@@ -17,7 +17,7 @@ use Rattle.kinds.specs.Kinds.{rowWidth, ownWidth, lettersPlace, islandsPlace, v
 use Rattle.sheet.specs.Tables.{Tables, noStarts, startCells}
 use Rattle.made.specs.declared.Verdict.{Verdict}
 use Rattle.made.specs.declared.Verdict.the-variants.{Fine, BadHeader, Faulty, Unlisted}
-use Rattle.made.specs.Made.{cellAt, countAt, firstOf, ownOf, restOf, isMade, areStarts, noneBefore, isCoded, judgeRows, judgeOf, usedOf}
+use Rattle.made.specs.Made.{cellAt, countAt, firstOf, ownOf, restOf, isMade, areStarts, aloneOf, noneBefore, isCoded, judgeRows, judgeOf, usedOf}
 use Rattle.made.proofs.RowWays.{made-held}
 use Rattle.made.proofs.OwnLaws.{made-same, own-same, cell-alike}
 use Rattle.made.proofs.UsedLaws.{first-used, rest-used, judge-used, fine-before}
@@ -27,7 +27,7 @@ use Rattle.row.specs.declared.Sought.{Sought}
 use Rattle.row.specs.declared.Sought.the-variants.{At, Missing, Refused}
 use Rattle.row.specs.Walk.{firstStand, nextStand, standOf, leftAt}
 use Rattle.row.specs.Seek.{soughtAfter, soughtOf}
-use Rattle.row.specs.Alone.{aloneOf, rowAlone}
+use Rattle.row.specs.Alone.{rowAlone}
 use Rattle.row.proofs.Walk.{left-next, walk-to, walk-left}
 use Rattle.row.proofs.SeekLaws.{fine-rows, Stood, stood}
 use Rattle.row.proofs.SeekWays.{sought-is}

@@ -5,10 +5,10 @@ use mathlib.Core.List.{List, [], _∷_, _++_}
 use lib.IntN.{ℤ, pos}
 use Rattle.laws.specs.Text.{text}
 use Rattle.sheet.specs.Tables.{Tables}
-use Rattle.made.specs.Made.{tablesOf}
+use Rattle.made.specs.Made.{tablesOf, aloneOf}
 use Rattle.made.specs.Examples.{atFirst, placed}
 use Rattle.row.specs.Walk.{nextStand, standOf, leftAt, ownStand}
-use Rattle.row.specs.Alone.{aloneOf, rowAlone}
+use Rattle.row.specs.Alone.{rowAlone}
 
 abbrev border : ℕ → ℕ → ℕ → List ℤ
 border letters islands vertices =
