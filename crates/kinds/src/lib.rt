@@ -5,10 +5,8 @@ ghost use mathlib.Core.List.{[]};
 ghost use lib.ListN.{getD};
 ghost use Rattle.laws.specs.Lists.{holds};
 ghost use Rattle.kinds.specs.Kinds.{schedule, nextOf, fixedVertices, isListed, wantAt};
+use token::KINDS;
 use token::Want;
-
-// How many kinds there are.
-const KINDS: usize = 7;
 
 const PLACES: usize = 12;
 
