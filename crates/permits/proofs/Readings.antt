@@ -1,4 +1,4 @@
--- What the contracts of `read_as`, `read` and `cxf_read`, as their sources write them, permit on some files: document 01, "Sheet tables"; document 02, T-04. Assumes nothing.
+-- What the contracts of `read_as`, `read` and `cxf_read`, as their sources write them, permit on some files: document 01, "Sheet tables"; document 02, T-04, T-05, T-07. Assumes nothing.
 use Prim.Native.Nat.{ℕ}
 use mathlib.Core.Path.{_≡_, refl, _∙_, ap}
 use mathlib.Core.List.{List, [], _∷_, _++_}
@@ -13,7 +13,7 @@ use Rattle.record.specs.declared.Mode.the-variants.{Loose, Exact}
 use Rattle.heading.specs.declared.Header.{Header}
 use Rattle.sheet.specs.Tables.{Tables}
 use Rattle.sheet.specs.Reading.{sheet, reading}
-use Rattle.sheet.specs.Examples.{listed, listed-is}
+use Rattle.sheet.specs.Examples.{listed, listed-is, scanned, scannedHeader, scannedTables, scanned-exact}
 use Rattle.made.specs.Made.{tablesOf}
 use Rattle.reader.specs.declared.Needs.{Needs}
 use Rattle.reader.specs.declared.Answer.the-variants.{NoRoom, Refused}
@@ -83,6 +83,17 @@ short : readOf Loose listed (roomsOf 29 6 1 11) ≡ refusedWith (NoRoom needs)
 unfolding readOf holdsAll rowsHeld pointsHeld
 short = rw is refl
 
+-- a scanned sheet, in tables that are just long enough
+abbrev pub scannedNeeds : Needs
+scannedNeeds = record { rows = 2; letters = 22; islands = 0; points = 6 }
+
+abbrev pub itsScan : Outcome
+itsScan = readWith scannedNeeds scannedHeader
+
+scanned-read : readOf Exact scanned (roomsOf 30 22 0 12) ≡ itsScan
+unfolding readOf holdsAll scannedTables
+scanned-read = rw scanned-exact refl
+
 -- a refused file, whatever the tables
 refused-raster : (x : Rooms) → readOf Loose raster x ≡ refusedWith (Refused 7 4 27)
 unfolding readOf computedColumn
@@ -105,6 +116,15 @@ four p q r s i = record { rows = p i; letters = q i; islands = r i; points = s i
 abbrev pub holding : Tables → Tables
 holding t =
     record { rows = rowsHeld ++ drop 30 (t .rows); letters = text "7EOF" ++ drop 4 (t .letters); islands = t .islands; points = pointsHeld ++ drop 10 (t .points) }
+
+abbrev pub holdingScan : Tables → Tables
+holdingScan t =
+    record {
+      rows = scannedTables .rows ++ drop 30 (t .rows);
+      letters = scannedTables .letters ++ drop 22 (t .letters);
+      islands = t .islands;
+      points = scannedTables .points ++ drop 12 (t .points);
+    }
 
 -- ---- `read_as`
 
@@ -147,6 +167,18 @@ module _ (κs : Lfts 5) (a : ArgsD read-as.signature κs) (r : ResD read-as.sign
     read-as-needs-untouched n =
         let q : r ≡ refusedWith (NoRoom needs) = read-as-needs n in
         four (post .1 .0 ∙ rw q refl) (post .1 .1 .0 ∙ rw q refl) (post .1 .1 .1 .0 ∙ rw q refl) (post .1 .1 .1 .1 ∙ rw q refl)
+
+  module _ (m : a .0 ≡ Exact) (s : now (a .1 .0) ≡ scanned) where
+    -- shuts out a reader that knows five kinds
+    pub read-as-scanned : Lengths 30 22 0 12 → r ≡ itsScan
+    read-as-scanned n = post .0 ∙ rw (m, s, n .0, n .1, n .2, n .3) scanned-read
+
+    -- a row of 4 vertices that the file does not count, and their points as they stand
+    pub read-as-scanned-stores : Lengths 30 22 0 12 → left ≡ holdingScan lent
+    unfolding scannedTables
+    read-as-scanned-stores n =
+        let q : r ≡ itsScan = read-as-scanned n in
+        four (post .1 .0 ∙ rw (q, m, s, scanned-exact) refl) (post .1 .1 .0 ∙ rw (q, m, s, scanned-exact) refl) (post .1 .1 .1 .0 ∙ rw (q, m, s, scanned-exact) refl) (post .1 .1 .1 .1 ∙ rw (q, m, s, scanned-exact) refl)
 
   -- number, record and offset
   pub read-as-refuses : a .0 ≡ Loose → now (a .1 .0) ≡ raster → r ≡ refusedWith (Refused 7 4 27)
@@ -253,6 +285,20 @@ module _ (κs : Lfts 5) (a : ArgsD cxf-read.signature κs) (r : ResD cxf-read.si
     cxf-read-needs-untouched n =
         let q : within ≡ refusedWith (NoRoom needs) = cxf-within n ∙ short in
         four (post .1 .0 ∙ rw q refl) (post .1 .1 .0 ∙ rw q refl) (post .1 .1 .1 .0 ∙ rw q refl) (post .1 .1 .1 .1 ∙ rw q refl)
+
+  module _ (m : a .1 .0 ≡ 1) (s : now (a .0) ≡ scanned) where
+    cxf-within-scan : CxfLengths 30 22 0 12 → within ≡ itsScan
+    cxf-within-scan n = rw (m, s, n .0, n .1, n .2, n .3) scanned-read
+
+    pub cxf-read-scanned : CxfLengths 30 22 0 12
+        → r ≡ record { number = 0; nth = 0; offset = 0; column = 0; rows = 2; letters = 22; islands = 0; points = 6; kind = 1; scale = pos 1000000; name = text "Z999_000100" }
+    cxf-read-scanned n = cxf-told itsScan (cxf-within-scan n)
+
+    pub cxf-read-scanned-stores : CxfLengths 30 22 0 12 → cxfLeft ≡ holdingScan cxfLent
+    unfolding scannedTables
+    cxf-read-scanned-stores n =
+        let q : within ≡ itsScan = cxf-within-scan n in
+        four (post .1 .0 ∙ rw (q, m, s, scanned-exact) refl) (post .1 .1 .0 ∙ rw (q, m, s, scanned-exact) refl) (post .1 .1 .1 .0 ∙ rw (q, m, s, scanned-exact) refl) (post .1 .1 .1 .1 ∙ rw (q, m, s, scanned-exact) refl)
 
   pub cxf-read-refuses : a .1 .0 ≡ 0 → now (a .0) ≡ raster
       → r ≡ record { number = 7; nth = 4; offset = 27; column = 0; rows = 0; letters = 0; islands = 0; points = 0; kind = 0; scale = pos 0; name = replicate 11 0 }

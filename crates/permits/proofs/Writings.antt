@@ -1,4 +1,4 @@
--- What the contracts of `write` and `cxf_write`, as their sources write them, permit on some sheets: document 01, "Refusal numbers". Assumes nothing.
+-- What the contracts of `write` and `cxf_write`, as their sources write them, permit on some sheets: document 01, "Refusal numbers"; document 02, T-05, T-07. Assumes nothing.
 use Prim.Native.Nat.{ℕ}
 use mathlib.Core.Path.{_≡_, refl, _∙_, ap}
 use mathlib.Core.List.{List, [], _∷_, _++_}
@@ -9,14 +9,15 @@ use borrow.Fn.World.{ArgsD, ResD}
 use denote.Triple.Clauses.{AtExit}
 use denote.Ref.{now}
 use Rattle.laws.specs.Text.{text}
-use Rattle.layout.specs.Examples.{computed}
+use Rattle.layout.specs.Examples.{computed, scanned-written}
 use Rattle.heading.specs.declared.Header.{Header}
 use Rattle.heading.specs.Heading.{noHeader, isHeader}
 use Rattle.sheet.specs.Tables.{Tables}
+use Rattle.sheet.specs.Examples.{scanned, scannedTables}
 use Rattle.made.specs.declared.Verdict.{Verdict}
 use Rattle.made.specs.declared.Verdict.the-variants.{BadHeader, Faulty, Unlisted}
 use Rattle.made.specs.Made.{tablesOf, judgeOf}
-use Rattle.made.specs.Examples.{judged}
+use Rattle.made.specs.Examples.{judged, raster, ring}
 use Rattle.layout.specs.Sheet.{sheetText}
 use Rattle.writer.specs.declared.Written.{Written}
 use Rattle.writer.specs.declared.Written.the-variants.{Wrote, NoRoom, Refused}
@@ -84,6 +85,22 @@ both : (room : ℕ) → writeOf header 2 (sheetWith 2 12) room ≡ Refused (Faul
 unfolding writeOf judged
 both room = refl
 
+-- a scanned sheet, and a raster of so many vertices behind a symbol
+scanned-spelt : writeOf header 2 scannedTables 275 ≡ Wrote 275
+unfolding writeOf computed judged scannedTables
+scanned-spelt = refl
+
+abbrev pub rasterOf : ℕ → Tables
+rasterOf vertices = tablesOf (symbol 0 14 0 ++ raster 0 0 vertices) (text "7") [] (ring 0 ++ ring 0)
+
+few-corners : (room : ℕ) → writeOf header 2 (rasterOf 3) room ≡ Refused (Faulty 1)
+unfolding writeOf judged
+few-corners room = refl
+
+many-corners : (room : ℕ) → writeOf header 2 (rasterOf 5) room ≡ Refused (Faulty 1)
+unfolding writeOf judged
+many-corners room = refl
+
 -- a header that is none, whatever is to be written
 no-header : (count : ℕ) (t : Tables) (room : ℕ) → writeOf noHeader count t room ≡ Refused BadHeader
 unfolding writeOf judgeOf isHeader
@@ -124,6 +141,23 @@ module _ (κs : Lfts 5) (a : ArgsD write.signature κs) (r : ResD write.signatur
 
       pub write-needs-untouched : length lent ≡ 154 → left ≡ lent
       write-needs-untouched room = post .1 ∙ rw (write-needs room) refl
+
+    pub write-scanned : tables ≡ scannedTables → length lent ≡ 275 → (r ≡ Wrote 275) × (left ≡ scanned ++ drop 275 lent)
+    unfolding scanned
+    write-scanned t room =
+        let q : r ≡ Wrote 275 = post .0 ∙ rw (h, n, t, room) scanned-spelt in
+        (q, post .1 ∙ rw (q, h, n, t, scanned-written) refl)
+
+    -- a raster has four corners
+    pub write-few-corners : tables ≡ rasterOf 3 → (r ≡ Refused (Faulty 1)) × (left ≡ lent)
+    write-few-corners t =
+        let q : r ≡ Refused (Faulty 1) = post .0 ∙ rw (h, n, t) (few-corners _) in
+        (q, untouched q)
+
+    pub write-many-corners : tables ≡ rasterOf 5 → (r ≡ Refused (Faulty 1)) × (left ≡ lent)
+    write-many-corners t =
+        let q : r ≡ Refused (Faulty 1) = post .0 ∙ rw (h, n, t) (many-corners _) in
+        (q, untouched q)
 
     pub write-faulty : tables ≡ sheetWith 2 14 → r ≡ Refused (Faulty 1)
     write-faulty t = post .0 ∙ rw (h, n, t) (faulty _)
@@ -209,6 +243,13 @@ module _ (κs : Lfts 6) (a : ArgsD cxf-write.signature κs) (r : ResD cxf-write.
 
       pub cxf-write-needs-untouched : length cxfLent ≡ 154 → cxfLeft ≡ cxfLent
       cxf-write-needs-untouched room = post .1 ∙ rw (its-header, n, t, room, short) refl
+
+    pub cxf-write-scanned : cxfTables ≡ scannedTables → length cxfLent ≡ 275 → (r ≡ record { number = 0; row = 0; length = 275 }) × (cxfLeft ≡ scanned ++ drop 275 cxfLent)
+    unfolding scanned
+    cxf-write-scanned t room = (cxf-told (Wrote 275) (rw (its-header, n, t, room) scanned-spelt), post .1 ∙ rw (its-header, n, t, room, scanned-spelt, scanned-written) refl)
+
+    pub cxf-write-few-corners : cxfTables ≡ rasterOf 3 → (r ≡ record { number = 15; row = 1; length = 0 }) × (cxfLeft ≡ cxfLent)
+    cxf-write-few-corners t = (cxf-told (Refused (Faulty 1)) (rw (its-header, n, t) (few-corners _)), cxf-untouched (Faulty 1) (rw (its-header, n, t) (few-corners _)))
 
     pub cxf-write-faulty : cxfTables ≡ sheetWith 2 14 → r ≡ record { number = 15; row = 1; length = 0 }
     cxf-write-faulty t = cxf-told (Refused (Faulty 1)) (rw (its-header, n, t) (faulty _))
