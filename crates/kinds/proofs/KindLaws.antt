@@ -9,7 +9,7 @@ use lib.Seq.{getD-take, getD-drop}
 use lib.Dec.{leb, ltb, eqb}
 use mir.Syntax.{w64}
 use mir.Val.{Fits}
-use borrow.Author.Tests.{leb-true, ltb-true, ltb-false, ne-eqb}
+use borrow.Author.Tests.{leb-true, leb-false, ltb-true, ltb-false, ne-eqb}
 use Rattle.laws.specs.Lists.{all, below, holds, same, packed, packedAt}
 use Rattle.laws.proofs.Choice.{and-left, and-right, cond-elim}
 use Rattle.laws.proofs.ListLaws.{below-at, values, values-at}
@@ -95,6 +95,22 @@ next-no-place kind p h = sym (past p (0 ∷ getD schedule kind []) h (most-all k
 pub fixed-none : (kind : ℕ) → kindMost < kind → 0 ≡ fixedVertices kind
 unfolding fixedVertices fixed
 fixed-none kind h = rw (List·getD-eq-default fixed 0 {n = kind} h)
+
+isFew : ℕ → Bool
+isFew kind = leb (fixedVertices kind) 9999
+
+all-few : below kinds isFew ≡ true
+unfolding below isFew fixedVertices fixed
+all-few = refl
+
+-- they are no more than a record may say
+pub fixed-few : (kind : ℕ) → fixedVertices kind ≤ 9999
+unfolding isFew
+fixed-few kind = go (leb kind kindMost) refl
+  where
+    go : (x : Bool) → leb kind kindMost ≡ x → fixedVertices kind ≤ 9999
+    go true e = leb-true (fixedVertices kind) 9999 (below-at kinds isFew kind all-few (omega (arith, leb-true kind kindMost e)))
+    go false e = omega (arith, fixed-none kind (leb-false kind kindMost e))
 
 -- ---- the code's tables of the listed codes: one list behind the other, and where each begins
 

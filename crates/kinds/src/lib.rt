@@ -5,10 +5,8 @@ ghost use mathlib.Core.List.{[]};
 ghost use lib.ListN.{getD};
 ghost use Rattle.laws.specs.Lists.{holds};
 ghost use Rattle.kinds.specs.Kinds.{schedule, nextOf, fixedVertices, isListed, wantAt};
+use token::KINDS;
 use token::Want;
-
-// How many kinds there are.
-const KINDS: usize = 7;
 
 // A row of a sheet has 15 numbers: 12 that its section gives, and behind them where its letters, its island counts and its points begin.
 pub const ROW_WIDTH: usize = 15;

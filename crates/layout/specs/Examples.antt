@@ -49,6 +49,6 @@ unfolding computed specimenTables padded
 specimen = refl
 
 -- so is a scanned sheet: a raster's points follow its letters with no count
-scanned-written : sheetText scannedHeader 2 scannedTables ≡ scanned
+pub scanned-written : sheetText scannedHeader 2 scannedTables ≡ scanned
 unfolding computed scannedTables scanned
 scanned-written = refl

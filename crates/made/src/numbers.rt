@@ -23,13 +23,12 @@ use kinds::ROW_WIDTH;
 use kinds::fixed_vertices;
 use kinds::want_at;
 use spelling::is_real;
+use token::KINDS;
 use token::Want;
 use token::may_lie_outside;
 
-// How many kinds there are, as a number of a row and as a count.
-const KIND_MOST: i64 = 7;
-
-const KINDS: usize = 7;
+// The last kind, as a number of a row.
+const KIND_MOST: i64 = KINDS as i64;
 
 fn is_between(least: i64, most: i64, z: i64) -> bool
     ensures { λ r. ⌜ r ≡ (leZ least z && leZ z most) ⌝ }

@@ -1,19 +1,18 @@
 -- Where a walk of the reader stands in the meaning's walk, and what a turn makes of that. Assumes nothing.
-use mathlib.Core.Path.{_≡_, refl, sym, _∙_, ap, ap₂, subst}
-use mathlib.Core.Bool.{Bool, true, false, cond, not, _&&_, _||_}
-use mathlib.Core.List.{List, [], _∷_, _++_}
+use mathlib.Core.Path.{_≡_, refl, sym, _∙_, ap, subst}
+use mathlib.Core.Bool.{Bool, true, false, cond, _&&_}
+use mathlib.Core.List.{List, [], _∷_}
 use Prim.Native.Nat.{ℕ, zero, suc, _+_, _-_, _*_, _/_, _≤_, _<_}
 use native.Mathlib.Omega.{arith}
-use lib.ListN.{length, take, drop, length-append, length-set, length-take, length-drop}
-use lib.Seq.{drop-drop, length-take-le}
+use lib.ListN.{length, take, drop, length-append, length-set, length-drop}
+use lib.Seq.{drop-drop}
 use lib.Dec.{leb, eqb}
-use borrow.Author.Tests.{leb-true, leb-false, eqb-true, le-leb, lt-leb}
+use borrow.Author.Tests.{leb-true, leb-false}
 use Rattle.laws.proofs.Choice.{cond-elim}
 use Rattle.record.specs.declared.Mode.{Mode}
 use Rattle.record.specs.declared.Mode.the-variants.{Loose, Exact}
 use Rattle.record.specs.declared.Line.{Line}
-use Rattle.record.specs.Refusals.{fileMost}
-use Rattle.record.specs.Record.{isLoose, lineOf}
+use Rattle.record.specs.Record.{lineOf}
 use Rattle.record.proofs.RecordLaws.{line-view, line-none}
 use Rattle.number.specs.declared.Whole.{Whole}
 use Rattle.number.specs.declared.Word.{Word}
@@ -24,30 +23,26 @@ use Rattle.number.proofs.WordLaws.{word-is, trimmed-le}
 use Rattle.token.specs.Lex.{unlift, ofText, lexOf}
 use Rattle.token.specs.declared.Token.{Token}
 use Rattle.token.specs.declared.Want.the-variants.{Text, Int, Real}
-use Rattle.kinds.specs.Kinds.{rowWidth, nextOf, fixedVertices, isListed, wantAt}
-use Rattle.machine.specs.Machine.{wantOf, isDue, verticesOf, fieldsEnd, fieldOf, islandOf, isShut, ringStep, vertexOf, keyStep, stepOf, ofStep, ofToken, ofLine, oneOf}
-use Rattle.machine.specs.declared.Ring.{Ring}
+use Rattle.kinds.specs.Kinds.{rowWidth, wantAt}
+use Rattle.machine.specs.Machine.{wantOf, isDue, stepOf, ofStep, ofToken, ofLine, oneOf}
 use Rattle.machine.specs.declared.State.{State}
 use Rattle.machine.specs.declared.State.the-variants.{Due, Field, Island, X, Y}
-use Rattle.machine.specs.declared.Step.{Step}
 use Rattle.machine.specs.declared.Step.the-variants.{Go, No, End}
 use Rattle.machine.specs.declared.One.{One}
-use Rattle.sheet.specs.Tables.{Tables, empty, startsOf, newRow, setLast, put, ringAfter}
+use Rattle.sheet.specs.Tables.{Tables, startsOf, newRow, setLast, put, ringAfter}
 use Rattle.sheet.specs.Reading.{Sections, read, stop, after, walk}
 use Rattle.sheet.specs.Reading as Reading
 use Rattle.sheet.proofs.Okay.{Okay, go-okay}
 use Rattle.sheet.proofs.Pass.{Went, Ended, OneView, one-view}
 use Rattle.sheet.proofs.Whole.{oddOf, StepOdd, oddNext, step-odd}
-use Rattle.reader.specs.Turn.{noSize, sized, sizeLine, sizeOf, isTurning, sizeNext, islNext, noNeeds, added, closing, turned, turnOf, InFile}
+use Rattle.reader.specs.Turn.{sized, sizeLine, sizeOf, isTurning, sizeNext, islNext, added, closing, turned, turnOf, InFile}
 use Rattle.reader.specs.Store.{startsBehind}
-use Rattle.reader.specs.Read.{needsOf, judgedOf}
+use Rattle.reader.specs.Read.{needsOf}
 use Rattle.reader.specs.declared.Needs.{Needs}
 use Rattle.reader.specs.declared.ReadStand.{ReadStand}
 use Rattle.reader.specs.declared.Turn.{Turn}
 use Rattle.reader.specs.declared.Size.{Size}
-use Rattle.reader.specs.declared.Judged.{Judged}
-use Rattle.reader.specs.declared.Judged.the-variants as Judged
-use Rattle.reader.proofs.Rings.{counts, Pend, ring-next, go-pend, step-free}
+use Rattle.reader.proofs.Rings.{Pend, ring-next, go-pend, step-free}
 
 -- ---- the needs count the tables
 

@@ -6,24 +6,23 @@ use Prim.Native.Nat.{ℕ, zero, suc, _+_, _-_, _/_, _%_, _^_, _≤_, _<_, zero-l
 use native.Mathlib.Omega.{arith}
 use lib.ListN.{length, take, drop, getD, set}
 use lib.Seq.{paste, paste-zero, length-paste}
-use lib.Dec.{leb, eqb, ltb}
+use lib.Dec.{eqb, ltb}
 use lib.IntN.{ℤ, pos, negsuc, _-ℤ_}
 use lib.Signed.{mag}
 use mir.Syntax.{w64}
 use mir.Val.{SFits, toZ, ofZ}
 use mir.ValLaws.{toZ-pos, toZ-ofZ}
-use borrow.Author.Tests.{eq-eqb, ne-eqb, leb-true, leb-false}
-use Rattle.laws.specs.Lists.{below, pasted}
-use Rattle.laws.proofs.ListLaws.{below-at}
+use borrow.Author.Tests.{eq-eqb, ne-eqb}
+use Rattle.laws.specs.Lists.{pasted}
 use Rattle.laws.proofs.TableLaws.{paste-more, paste-all, pasted-behind}
 use Rattle.record.specs.declared.Mode.the-variants.{Loose}
 use Rattle.number.specs.declared.Word.{Word}
 use Rattle.number.specs.declared.Word.the-variants as Word
 use Rattle.number.specs.Words.{wordOf, trimmed}
 use Rattle.number.proofs.WordLaws.{word-is}
-use Rattle.token.specs.Lex.{kindMost, liftBy, unlift}
-use Rattle.kinds.specs.Kinds.{rowWidth, ownWidth, verticesPlace, fixed, fixedVertices, unsaid}
-use Rattle.kinds.proofs.KindLaws.{fixed-none}
+use Rattle.token.specs.Lex.{liftBy, unlift}
+use Rattle.kinds.specs.Kinds.{rowWidth, ownWidth, verticesPlace, fixedVertices, unsaid}
+use Rattle.kinds.proofs.KindLaws.{fixed-few}
 use Rattle.sheet.specs.Tables.{Starts, startCells, ownCells, newRow}
 use Rattle.sheet.proofs.StartLaws.{own-at}
 use Rattle.reader.specs.Store.{tokenMost}
@@ -75,22 +74,6 @@ module _ (j t : ℕ) where
       cell-rest e = rw (ne-eqb j 0 m, ne-eqb j 1 n, ne-eqb j verticesPlace e)
 
 pub ruleset cell-ways = (cell-first, cell-second, cell-vertices, cell-rest)
-
--- vertices that no record counts are few, of each kind by computation
-isFew : ℕ → Bool
-isFew kind = leb (fixedVertices kind) 9999
-
-all-few : below (kindMost + 1) isFew ≡ true
-unfolding below isFew fixedVertices fixed
-all-few = refl
-
-fixed-few : (kind : ℕ) → fixedVertices kind ≤ 9999
-unfolding isFew
-fixed-few kind = go (leb kind kindMost) refl
-  where
-    go : (b : Bool) → leb kind kindMost ≡ b → fixedVertices kind ≤ 9999
-    go true e = leb-true (fixedVertices kind) 9999 (below-at (kindMost + 1) isFew kind all-few (omega (arith, leb-true kind kindMost e)))
-    go false e = omega (arith, fixed-none kind (leb-false kind kindMost e))
 
 module _ (j t v : ℕ) (e : v ≡ cellAt j t) where
   pub cell-is : j < ownWidth → pos v ≡ getD (ownCells t) j (pos 0)

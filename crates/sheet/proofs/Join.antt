@@ -1,23 +1,23 @@
 -- Two maps in one file: a second map's elements put just before the EOF record of a first are read as the first's
 -- elements followed by the second's. Assumes nothing.
-use mathlib.Core.Path.{_≡_, refl, sym, _∙_, ap, ap₂, subst}
+use mathlib.Core.Path.{_≡_, sym, _∙_, ap, ap₂, subst}
 use mathlib.Core.List.{List, [], _∷_, _++_, append-assoc}
-use Prim.Native.Nat.{ℕ, _+_, _-_, _%_, _≤_, _<_}
+use Prim.Native.Nat.{ℕ, _+_, _-_, _%_, _≤_}
 use native.Mathlib.Omega.{arith}
 use lib.ListN.{length, take, drop, length-append}
-use lib.Seq.{take-at, drop-at, take-append-seam, drop-append-seam}
+use lib.Seq.{take-at, drop-at, take-append-seam}
 use Rattle.record.specs.declared.Mode.{Mode}
 use Rattle.record.specs.Refusals.{fileMost}
 use Rattle.heading.specs.declared.Header.{Header}
 use Rattle.sheet.specs.Tables.{Tables, empty, put, ringAfter, _followed_}
-use Rattle.sheet.specs.Reading.{Reading, sheet, meaning, reading, sectionsAt, eofAt, sectionBytes, joined}
+use Rattle.sheet.specs.Reading.{sheet, meaning, reading, sectionsAt, eofAt, sectionBytes, joined}
 use Rattle.machine.specs.declared.State.{State}
 use Rattle.machine.specs.declared.State.the-variants.{Due}
 use Rattle.sheet.proofs.Okay.{Okay, go-okay, ring-join, put-join}
 use Rattle.sheet.proofs.StartLaws.{followed-empty}
 use Rattle.sheet.proofs.Whole.{Whole, go-whole, pass-whole, empty-whole}
 use Rattle.sheet.proofs.Pass.{Goes, Pass, done, more}
-use Rattle.sheet.proofs.Meaning.{File, Parts, meaning-file, file-meaning, file-at, file-eof, file-parts, parts-file, reading-meaning, meaning-reading}
+use Rattle.sheet.proofs.Meaning.{File, meaning-file, file-meaning, file-at, file-eof, file-parts, parts-file, reading-meaning, meaning-reading}
 
 -- what was read before does not matter
 pub pass-join : {mode : Mode} {st st′ : State} {o o′ : Tables} {bs : List ℕ} (a : Tables) → length (a .points) % 2 ≡ 0 → Okay st o → Whole st o

@@ -1,8 +1,8 @@
 -- What holds of each state that the machine comes to, and what was read before does not matter. Assumes nothing.
-use mathlib.Core.Path.{_≡_, refl, sym, _∙_, ap, subst}
-use mathlib.Core.List.{List, [], _∷_, _++_, append-assoc, append-nil}
-use mathlib.Core.Bool.{Bool, true, false, cond, not, _&&_, _||_}
-use Prim.Native.Nat.{ℕ, zero, suc, _+_, _-_, _*_, _/_, _%_, _≤_, _<_}
+use mathlib.Core.Path.{_≡_, sym, _∙_, ap, subst}
+use mathlib.Core.List.{List, [], _∷_, _++_, append-assoc}
+use mathlib.Core.Bool.{not, _&&_}
+use Prim.Native.Nat.{ℕ, zero, suc, _+_, _-_, _*_, _/_, _%_, _≤_}
 use native.Mathlib.Omega.{arith}
 use lib.ListN.{length, getD, set, length-append, length-set}
 use lib.Seq.{getD-append-add}
@@ -14,7 +14,7 @@ use Rattle.record.specs.Record.{isLoose}
 use Rattle.laws.proofs.Choice.{cond-elim}
 use Rattle.kinds.specs.Kinds.{rowWidth, nextOf, fixedVertices, isListed, wantAt}
 use Rattle.machine.specs.Machine.{verticesOf, fieldsEnd, fieldOf, islandOf, isShut, ringStep, vertexOf, keyStep, stepOf}
-use Rattle.sheet.specs.Tables.{Tables, Starts, startsOf, movedOn, _followed_, newRow, cellOf, setLast, put, ringsOf, ringAfter}
+use Rattle.sheet.specs.Tables.{Tables, Starts, startsOf, movedOn, _followed_, newRow, cellOf, setLast, put, ringAfter}
 use Rattle.machine.specs.declared.Ring.{Ring}
 use Rattle.machine.specs.declared.State.{State}
 use Rattle.machine.specs.declared.State.the-variants.{Due, Field, Island, X, Y}

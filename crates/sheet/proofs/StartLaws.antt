@@ -8,8 +8,8 @@ use lib.ListN.{length, getD, take, drop, set, replicate, getD-replicate, length-
 use lib.Dec.{eqb}
 use lib.IntN.{ℤ, pos, _+ℤ_, +ℤ-idr, +ℤ-assoc, pos-+ℤ-pos}
 use borrow.Author.Tests.{eqb-true, eqb-false, ne-eqb}
-use Rattle.kinds.specs.Kinds.{rowWidth, ownWidth, firstLetterPlace, firstIslandPlace, firstPointPlace, verticesPlace, fixedVertices, unsaid}
-use Rattle.sheet.specs.Tables.{Tables, empty, Starts, noStarts, _plus_, startsOf, moveAt, moveFrom, movedOn, startCells, startingAt, _followed_, ownCells, newRow}
+use Rattle.kinds.specs.Kinds.{rowWidth, ownWidth, firstLetterPlace, firstIslandPlace, firstPointPlace, fixedVertices, unsaid}
+use Rattle.sheet.specs.Tables.{Tables, empty, Starts, noStarts, _plus_, startsOf, moveAt, moveFrom, movedOn, startCells, _followed_, ownCells, newRow}
 
 -- ---- a new row
 

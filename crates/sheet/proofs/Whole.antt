@@ -2,7 +2,7 @@
 use mathlib.Core.Path.{_≡_, refl, subst}
 use mathlib.Core.List.{List, [], _∷_}
 use mathlib.Core.Bool.{not, _&&_}
-use Prim.Native.Nat.{ℕ, _+_, _-_, _*_, _/_, _%_}
+use Prim.Native.Nat.{ℕ, _+_, _*_, _/_, _%_}
 use native.Mathlib.Omega.{arith}
 use lib.ListN.{length, length-append, length-set}
 use lib.Dec.{leb, eqb}
@@ -10,14 +10,14 @@ use Rattle.laws.proofs.Choice.{cond-elim}
 use Rattle.record.specs.declared.Mode.{Mode}
 use Rattle.record.specs.Record.{isLoose}
 use Rattle.token.specs.Lex.{unlift}
-use Rattle.kinds.specs.Kinds.{rowWidth, nextOf, fixedVertices, isListed, wantAt}
+use Rattle.kinds.specs.Kinds.{rowWidth, nextOf, fixedVertices, isListed}
 use Rattle.machine.specs.declared.State.{State}
 use Rattle.machine.specs.declared.State.the-variants.{Due, Field, Island, X, Y}
 use Rattle.machine.specs.declared.Step.{Step}
 use Rattle.machine.specs.declared.Step.the-variants.{Go, No, End}
 use Rattle.machine.specs.Machine.{verticesOf, fieldsEnd, fieldOf, islandOf, isShut, ringStep, vertexOf, keyStep, stepOf}
-use Rattle.sheet.specs.Tables.{Tables, empty, startsOf, newRow, cellOf, setLast, put}
-use Rattle.sheet.proofs.Pass.{Goes, Pass, done, more}
+use Rattle.sheet.specs.Tables.{Tables, empty, startsOf, newRow, setLast, put}
+use Rattle.sheet.proofs.Pass.{Pass, done, more}
 
 -- an x without its y
 abbrev pub oddOf : State → ℕ

@@ -156,7 +156,7 @@ scannedTables =
 abbrev pub scannedHeader : Header
 scannedHeader = record { kind = 1; name = text "Z999_000100"; scale = pos 1000000 }
 
-scanned-exact : reading Exact scanned ≡ sheet scannedHeader scannedTables
+pub scanned-exact : reading Exact scanned ≡ sheet scannedHeader scannedTables
 unfolding computed scanned scannedTables
 scanned-exact = refl
 
@@ -279,6 +279,12 @@ joined-is : reading Loose (joined Loose bordered listed)
     ≡ reading Loose (text "MAPPA\nZ999_000100\n1000.000\n" ++ text "BORDO\n7\n18\n0.000\n1.000\n1.000\n1.000\n1.000\n1\n9\n4\n0.000\n0.000\n9.000\n0.000\n9.000\n9.000\n0.000\n9.000\n0.000\n0.000\n2.000\n2.000\n3.000\n2.000\n3.000\n3.000\n2.000\n2.000\n" ++ text "BORDO\n7\n18\n0.000\n1.000\n1.000\n1.000\n1.000\n0\n5\n0.000\n0.000\n10.000\n0.000\n10.000\n20.000\n0.000\n20.000\n0.000\n0.000\nTESTO\\\nEOF\n18\n0.000\n3.000\n-0.005\n" ++ text "EOF")
 unfolding computed bordered listed
 joined-is = refl
+
+-- a scanned sheet before another and behind it: the raster's points stay its own, and the second's starts are moved on
+joined-scanned : (reading Exact (joined Exact scanned padded) ≡ sheet scannedHeader (scannedTables followed specimenTables))
+    × (reading Loose (joined Loose padded scanned) ≡ sheet specimenHeader (specimenTables followed scannedTables))
+unfolding computed scanned padded scannedTables specimenTables moveFrom moveAt
+joined-scanned = (refl, refl)
 
 -- ---- sheets of one element each, and refusals beside them
 

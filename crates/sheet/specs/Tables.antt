@@ -1,7 +1,7 @@
 -- The sheet tables: document 01, "Sheet tables"; a row's starts: document 02, T-07. Assumes nothing: these are definitions.
 use Prim.Native.Nat.{ℕ, suc, _+_, _-_, _/_, _%_}
 use mathlib.Core.List.{List, [], _∷_, _++_}
-use mathlib.Core.Bool.{Bool, cond}
+use mathlib.Core.Bool.{cond}
 use lib.ListN.{length, getD, set, replicate}
 use lib.Dec.{eqb}
 use lib.IntN.{ℤ, pos, _+ℤ_}

@@ -13,7 +13,8 @@ use Rattle.laws.specs.Whole.{eqZ}
 use Rattle.laws.proofs.Choice.{and-left, and-right, false≢true}
 use Rattle.laws.proofs.ListLaws.{below-at, all-each, left-none}
 use Rattle.token.specs.Lex.{kindMost, mayLieOutside}
-use Rattle.kinds.specs.Kinds.{rowWidth, ownWidth, schedule, fixed, fixedVertices, unsaid, wantAt}
+use Rattle.kinds.specs.Kinds.{rowWidth, ownWidth, schedule, unsaid, wantAt}
+use Rattle.kinds.proofs.KindLaws.{fixed-few}
 use Rattle.sheet.specs.Tables.{Tables}
 use Rattle.made.specs.Made.{natOf, countAt, kindOf, islandsOf, pointsOf, isBetween, inRange, hasField, isOutside, isCell, cellTest, areNumbers, areLetters, sum, fourAtLeast, areCounts, areReals, areClosed, ringSizes, arePoints, isMade}
 use Rattle.row.specs.Walk.{cellIn}
@@ -128,14 +129,6 @@ module _ (kind p : ℕ) (z : ℤ) (e : isCell kind p z ≡ true) (h : 2 ≤ p) w
       go true f = k (cell-in f)
       go false f = omega (arith, cell-none f, u)
 
--- vertices that no record counts are few
-isFew : ℕ → Bool
-isFew kind = leb (fixedVertices kind) 9999
-
-fixed-few : (kind : ℕ) → kind ≤ kindMost → fixedVertices kind ≤ 9999
-unfolding isFew below fixedVertices fixed
-fixed-few kind h = leb-true (fixedVertices kind) 9999 (below-at (kindMost + 1) isFew kind refl (omega arith))
-
 -- ---- the numbers of a row
 
 module _ (rows : List ℤ) (e : areNumbers rows ≡ true) where
@@ -168,7 +161,7 @@ module _ (rows : List ℤ) (e : areNumbers rows ≡ true) where
 
   pub vertices-in : cellIn rows 11 ≤ 9999
   unfolding wantAt inRange unsaid
-  vertices-in = cell-most (cellIn rows 0) 11 (cell 11) (cells 11 (omega arith)) (omega arith) 9999 (fixed-few (cellIn rows 0) (kind-in .1)) (λ f. between 0 9999 (cell 11) f .1)
+  vertices-in = cell-most (cellIn rows 0) 11 (cell 11) (cells 11 (omega arith)) (omega arith) 9999 (fixed-few (cellIn rows 0)) (λ f. between 0 9999 (cell 11) f .1)
 
   pub field-in : (p : ℕ) → hasField (cellIn rows 0) p ≡ true → inRange (wantAt p) (cell p) ≡ true
   field-in p f =
