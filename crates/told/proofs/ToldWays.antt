@@ -21,6 +21,7 @@ use Rattle.column.specs.Columns.{integerPlaced, unplacedWhole}
 use Rattle.column.proofs.PlacedLaws.{integer-unplaced}
 use Rattle.heading.specs.declared.Header.{Header}
 use Rattle.heading.specs.Heading.{noHeader}
+use Rattle.sheet.specs.Tables.{Tables}
 use Rattle.reader.specs.declared.Outcome.{Outcome}
 use Rattle.reader.specs.Read.{written}
 use Rattle.tile.specs.declared.Tile.{Tile}
@@ -28,6 +29,8 @@ use Rattle.tile.specs.Tiles.{tileOf, noOffset}
 use Rattle.classes.specs.declared.Class.{Class}
 use Rattle.classes.specs.declared.Class.the-variants as Class
 use Rattle.classes.specs.Classes.{indexOf}
+use Rattle.edit.specs.declared.Edited.{Edited}
+use Rattle.edit.specs.Answers.{tablesAt}
 use Rattle.listing.specs.declared.Listed.{Listed}
 use Rattle.listing.specs.Listed.{listedOf}
 use Rattle.listing.specs.Listed as Listed
@@ -95,6 +98,11 @@ stored f t l e q p = p ∙ ap₂ (λ (a : Outcome). λ (xs : List _). written (a
 pub put-out {ℓ κ} : {M : Type ℓ} {A : Type κ} (g : A → List ℕ → List ℕ → List ℕ) (f : M → A) (t : M → List ℕ) (l : List ℕ) {m n : M} {o : A} {l′ : List ℕ}
     → m ≡ n → o ≡ f m → l′ ≡ g o (t m) l → l′ ≡ g (f n) (t n) l
 put-out g f t l e q p = p ∙ ap₂ (λ (a : _). λ (xs : List ℕ). g a xs l) (asked f q e) (ap t e)
+
+-- a table at exit, where an edit makes u of the tables t
+pub edited {ℓ κ} : {M : Type ℓ} {A : Type κ} (g : Tables → List A) (f : M → Edited) (u t : Tables) {m n : M} {o : Edited} {l′ : List A}
+    → m ≡ n → o ≡ f m → l′ ≡ g (tablesAt o u t) → l′ ≡ g (tablesAt (f n) u t)
+edited g f u t e q p = p ∙ ap (λ (a : Edited). g (tablesAt a u t)) (asked f q e)
 
 -- the listing s, its answer and the buffer l at exit
 pub listed : (s l : List ℕ) {l′ : List ℕ} {r v : Listed} → r ≡ listedOf s (length l) → l′ ≡ Listed.listedIn r s l → r ≡ v

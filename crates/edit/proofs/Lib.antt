@@ -1,0 +1,11 @@
+-- The laws of `edit` and the ways through its code; `pub mod` lets other crates cite a file.
+mod PartWays
+mod PlaceWays
+mod RowMoves
+mod RowLoops
+mod PointMoves
+mod SheetMoves
+mod CloseWays
+mod LowerWays
+mod FallLaws
+mod ColumnLaws
