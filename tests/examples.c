@@ -430,7 +430,12 @@ static void starts(const interface *i) {
 #define ISLE "BORDO,7,  18,       0.500,       1.000,       2.000,       3.000,       4.000,   1,   8,   4," RING_OF_4 RING_OF_4
 #define SIGN "TESTO,ab,  40,       0.250,       5.000,       6.000,"
 #define MARK "FIDUCIALE,9,  20,       5.000,       6.000,       7.000,       8.000,"
+#define PLUS "SIMBOLO,  14,       0.750,       5.000,       6.000,"
 #define SCAN "RIFERIMENTO_RASTER,a.tif,       0.000,       0.000,       1.000,       0.000,       1.000,      -1.000,       0.000,      -1.000,"
+#define BOOK "LIBRETTO,(0),   1,   3,       1.000,       2.000,       3.000,       4.000,       5.000,       6.000,"
+
+/* One of each kind, in their order. */
+static const char *const EACH[LAST_KIND] = {ISLE, SIGN, PLUS, MARK, LINE_OF_2, SCAN, BOOK};
 
 /* A sheet less a row is the sheet that the file without it gives, and what is freed, and behind it, stands as it stood. */
 static void less(const interface *i, const char *what, const char *with, uint64_t row, const char *without) {
@@ -452,28 +457,38 @@ static void less(const interface *i, const char *what, const char *with, uint64_
                         memcmp(h.points + points, before.points + points, sizeof h.points - points * sizeof h.points[0]) == 0);
 }
 
+/* Rows before and behind an element of each kind, or none: it is taken out as the first, one between, the last or the only row. */
+static void each_removed(const interface *i, const char *what, const char *before, uint64_t row, const char *behind) {
+    char with[2000], without[2000], named[200];
+    for (int k = 0; k < LAST_KIND; k++) {
+        snprintf(with, sizeof with, HEAD "%s%s%sEOF,", before, EACH[k], behind);
+        snprintf(without, sizeof without, HEAD "%s%sEOF,", before, behind);
+        snprintf(named, sizeof named, "%s of kind %d removed", what, k + 1);
+        less(i, named, with, row, without);
+    }
+}
+
 static void removing(const interface *i) {
     held h, before;
-    less(i, "the first of three removed", HEAD ISLE SIGN LINE_OF_2 "EOF,", 0, HEAD SIGN LINE_OF_2 "EOF,");
-    less(i, "the second of three removed", HEAD ISLE SIGN LINE_OF_2 "EOF,", 1, HEAD ISLE LINE_OF_2 "EOF,");
-    less(i, "the last of three removed", HEAD ISLE SIGN LINE_OF_2 "EOF,", 2, HEAD ISLE SIGN "EOF,");
+    each_removed(i, "the first row", "", 0, ISLE SIGN LINE_OF_2);
+    each_removed(i, "a row between", BOOK ISLE, 2, ISLE SCAN SIGN);
+    each_removed(i, "the last row", SIGN ISLE SCAN, 3, "");
+    each_removed(i, "the only row", "", 0, "");
     less(i, "a border between borders removed", HEAD ISLE ISLE ISLE "EOF,", 1, HEAD ISLE ISLE "EOF,");
-    less(i, "a line between rasters removed", HEAD SCAN LINE_OF_2 SCAN "EOF,", 1, HEAD SCAN SCAN "EOF,");
-    less(i, "a raster before a border removed", HEAD SCAN ISLE MARK "EOF,", 0, HEAD ISLE MARK "EOF,");
-    less(i, "a mark before a border removed", HEAD MARK ISLE "EOF,", 0, HEAD ISLE "EOF,");
-    less(i, "the only border removed", HEAD ISLE "EOF,", 0, HEAD "EOF,");
-    less(i, "the only text removed", HEAD SIGN "EOF,", 0, HEAD "EOF,");
-    less(i, "the only raster removed", HEAD SCAN "EOF,", 0, HEAD "EOF,");
+    read_into(i, HEAD "EOF,", 1, &before);
+    h = before;
+    cxf_edited e = i->remove(THE_SHEET(&h), 0);
+    expect(i, "a row removed of an empty sheet", e.number == 19 && e.row == 0 && e.count == 0 && memcmp(&h, &before, sizeof h) == 0);
     read_into(i, HEAD ISLE SIGN "EOF,", 1, &before);
     static const uint64_t none[] = {2, 3, 4294967296, UINT64_MAX};
     for (int k = 0; k < 4; k++) {
         h = before;
-        const cxf_edited e = i->remove(THE_SHEET(&h), none[k]);
+        e = i->remove(THE_SHEET(&h), none[k]);
         expect(i, "no such row", e.number == 19 && e.row == 0 && e.count == 0 && memcmp(&h, &before, sizeof h) == 0);
     }
     before.rows[ROW_WIDTH] = 9; /* 15 before 19 */
     h = before;
-    cxf_edited e = i->remove(THE_SHEET(&h), 5);
+    e = i->remove(THE_SHEET(&h), 5);
     expect(i, "a row removed of a sheet that is not well made", e.number == 15 && e.row == 1 && e.count == 0 && memcmp(&h, &before, sizeof h) == 0);
     before.r.scale = 0;
     h = before;
@@ -506,16 +521,16 @@ static void just_moved(const interface *i, const char *what, const char *high, c
 static void moving(const interface *i) {
     held before, h;
     /* the angle, the sizes and what a kind lacks stay */
-    read_into(i, HEAD ISLE SIGN MARK "SIMBOLO,  14,       0.750,       5.000,       6.000," LINE_OF_2 SCAN "EOF,", 1, &before);
+    read_into(i, HEAD ISLE SIGN MARK PLUS LINE_OF_2 SCAN BOOK "EOF,", 1, &before);
     h = before;
     cxf_edited e = i->move(THE_SHEET(&h), 1000000, -2000);
-    static const int64_t places[6][8] = {
+    static const int64_t places[LAST_KIND][6] = {
         {18, 500, 1001000, 0, 1003000, 2000}, {40, 250, 1005000, 4000, 0, 0}, {0, 0, 1005000, 4000, 1007000, 6000},
-        {0, 750, 1005000, 4000, 0, 0},        {0, 0, 0, 0, 0, 0},             {0, 0, 0, 0, 0, 0},
+        {0, 750, 1005000, 4000, 0, 0},        {0, 0, 0, 0, 0, 0},             {0, 0, 0, 0, 0, 0}, {0, 0, 0, 0, 0, 0},
     };
-    expect(i, "a move", before.r.number == 0 && e.number == 0 && e.row == 0 && e.count == 6);
-    for (uint64_t row = 0; row < 6; row++) {
-        expect(i, "a move's rows", memcmp(h.rows + ROW_WIDTH * row + 3, places[row], 6 * sizeof places[0][0]) == 0);
+    expect(i, "a move", before.r.number == 0 && e.number == 0 && e.row == 0 && e.count == LAST_KIND);
+    for (uint64_t row = 0; row < LAST_KIND; row++) {
+        expect(i, "a move's rows", memcmp(h.rows + ROW_WIDTH * row + 3, places[row], sizeof places[row]) == 0);
         memcpy(h.rows + ROW_WIDTH * row + 5, before.rows + ROW_WIDTH * row + 5, 4 * sizeof h.rows[0]);
     }
     expect(i, "the other numbers of the rows", memcmp(h.rows, before.rows, sizeof h.rows) == 0);
@@ -526,12 +541,19 @@ static void moving(const interface *i) {
                HEAD "TESTO,a,   0,       0.000,       0.000,       0.000,EOF,");
     just_moved(i, "a symbol that just fits", HEAD "SIMBOLO,  14,       0.000,       0.000,       0.000,EOF,",
                HEAD "SIMBOLO,  14,       0.000,       0.000,       0.000,EOF,");
+    just_moved(i, "a mark that just fits", HEAD "FIDUCIALE,9,  20,       0.000,       0.000,      -1.000,      -1.000,EOF,",
+               HEAD "FIDUCIALE,9,  20,       0.000,       0.000,       1.000,       1.000,EOF,");
     just_moved(i, "a label point that just fits", HEAD "FIDUCIALE,9,  20,      -1.000,      -1.000,       0.000,       0.000,EOF,",
                HEAD "FIDUCIALE,9,  20,       1.000,       1.000,       0.000,       0.000,EOF,");
     just_moved(i, "a line's vertex that just fits", HEAD "LINEA,   1,   2,      -1.000,      -1.000,       0.000,       0.000,EOF,",
                HEAD "LINEA,   1,   2,       1.000,       1.000,       0.000,       0.000,EOF,");
 #define AT(m) "      " m ".000,      " m ".000,"
 #define POINT_RING(m) AT(m) AT(m) AT(m) AT(m)
+    just_moved(i, "a border's position that just fits", HEAD "BORDO,7,  18,       0.000," AT(" 0") AT("-1") "   0,   4," POINT_RING("-1") "EOF,",
+               HEAD "BORDO,7,  18,       0.000," AT(" 0") AT(" 1") "   0,   4," POINT_RING(" 1") "EOF,");
+    just_moved(i, "a border's vertex that just fits",
+               HEAD "BORDO,7,  18,       0.000," AT("-1") AT("-1") "   0,   4," AT("-1") AT(" 0") AT("-1") AT("-1") "EOF,",
+               HEAD "BORDO,7,  18,       0.000," AT(" 1") AT(" 1") "   0,   4," AT(" 1") AT(" 0") AT(" 1") AT(" 1") "EOF,");
     just_moved(i, "an inner point that just fits", HEAD "BORDO,7,  18,       0.000," AT("-1") AT(" 0") "   0,   4," POINT_RING("-1") "EOF,",
                HEAD "BORDO,7,  18,       0.000," AT(" 1") AT(" 0") "   0,   4," POINT_RING(" 1") "EOF,");
     just_moved(i, "an island's vertex that just fits",
@@ -539,6 +561,8 @@ static void moving(const interface *i) {
                HEAD "BORDO,7,  18,       0.000," AT(" 1") AT(" 1") "   1,   8,   4," POINT_RING(" 1") AT(" 1") AT(" 0") AT(" 1") AT(" 1") "EOF,");
     just_moved(i, "a raster's corner that just fits", HEAD "RIFERIMENTO_RASTER,a," AT("-1") AT("-1") AT("-1") AT(" 0") "EOF,",
                HEAD "RIFERIMENTO_RASTER,a," AT(" 1") AT(" 1") AT(" 1") AT(" 0") "EOF,");
+    just_moved(i, "a survey book's vertex that just fits", HEAD "LIBRETTO,0,   1,   2," AT("-1") AT(" 0") "EOF,",
+               HEAD "LIBRETTO,0,   1,   2," AT(" 1") AT(" 0") "EOF,");
 #undef POINT_RING
 #undef AT
 
