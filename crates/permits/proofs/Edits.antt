@@ -11,15 +11,15 @@ use denote.Ref.{now}
 use Rattle.laws.specs.Text.{text}
 use Rattle.heading.specs.declared.Header.{Header}
 use Rattle.heading.specs.Heading.{noHeader}
-use Rattle.sheet.specs.Tables.{Tables, empty, moveAt}
+use Rattle.sheet.specs.Tables.{Tables, empty}
 use Rattle.made.specs.declared.Verdict.the-variants.{BadHeader, Faulty}
-use Rattle.made.specs.Made.{tablesOf, usedOf}
+use Rattle.made.specs.Made.{tablesOf}
 use Rattle.made.specs.Examples.{placed}
-use Rattle.row.specs.Examples.{computed as computedSeek}
 use Rattle.edit.specs.declared.Edited.{Edited}
 use Rattle.edit.specs.declared.Edited.the-variants.{Done, Missing, MovedOff, Refused}
 use Rattle.edit.specs.Answers.{tablesAt}
-use Rattle.edit.specs.Removals.{fallFrom, without, removedTables, removeOf}
+use Rattle.edit.specs.Removals.{removedTables, removeOf}
+use Rattle.edit.specs.RemoveExamples.{computed as computedRemoval}
 use Rattle.edit.specs.Moves.{movedTables, moveOf}
 use Rattle.edit.specs.MoveExamples.{row, sheetOf, computed as computedMove}
 use Rattle.edit.proofs.removing.remove_row as remove-row
@@ -41,10 +41,6 @@ use Rattle.permits.proofs.Readings.{four}
 -- what is answered, and what the tables hold at exit
 abbrev removal : Header → ℕ → Tables → ℕ → Edited × Tables
 removal h count t k = (removeOf h count t k, tablesAt (removeOf h count t k) (removedTables count k t) t)
-
-unfoldable pub computedRemoval : Header → ℕ → Tables → ℕ → Edited × Tables
-unfolding removeOf without fallFrom moveAt usedOf computedSeek
-computedRemoval h count t k = removal h count t k
 
 -- the parcel of four rows: the text and the building close up, their starts less a letter, an island count and nine points; then the freed tails as they were
 abbrev pub noParcel : Tables
