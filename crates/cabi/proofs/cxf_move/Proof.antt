@@ -41,16 +41,20 @@ bits z = toZ w64 (ofZ w64 z)
 
 returns : tie.Need-returns
 returns c =
-    let s = c .before .before .before .before .before .before .before .before .before .before .before .before .before .before .before .before .before in
-    let w = c .before .before .before .before .before .before .before .move-sheet in
+    let s = c .before .before .before .before .before .before .before .before .before .before .before .before in
+    let w = c .before .before .before .move-sheet in
     let t = tablesOf (s .args .rows .now) (s .args .letters .now) (s .args .islands .now) (s .args .points .now) in
     let f : Header → Edited = λ h. moveOf h (s .args .count) t (bits (s .args .dx)) (bits (s .args .dy)) in
     let u = movedTables (bits (s .args .dx)) (bits (s .args .dy)) (s .args .count) t in
-    let e = header-asked (s .args .kind) (s .args .name .now) (s .fits .scale) (c .before .before .before .before .before .before .before .before .before .before .before .before .header-of .ensures) in
+    let e = header-asked (s .args .kind) (s .args .name .now) (s .fits .scale) (c .before .before .before .before .before .before .before .before .header-of .ensures) in
     let q = w .ensures .0 in
-    rw (toZ-ofZ (s .fits .dx), toZ-ofZ (s .fits .dy)) at (
-      c .edit-told .ensures ∙ ap editTold (asked f q e),
-      (edited (λ (x : Tables). x .rows) f u t e q (w .ensures .1 .0), (refl, (refl, edited (λ (x : Tables). x .points) f u t e q (w .ensures .1 .1)))),
+    let x = toZ-ofZ (s .fits .dx) in
+    let y = toZ-ofZ (s .fits .dy) in (
+      rw (x, y) at (c .edit-told .ensures ∙ ap editTold (asked f q e)),
+      (
+        rw (x, y) at (edited (λ (z : Tables). z .rows) f u t e q (w .ensures .1 .0)),
+        (refl, (refl, rw (x, y) at (edited (λ (z : Tables). z .points) f u t e q (w .ensures .1 .1)))),
+      ),
     )
 
 pub cxf-move-spec : {M : Type 1} → statement M

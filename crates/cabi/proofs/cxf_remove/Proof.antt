@@ -34,7 +34,7 @@ same-length-4 c = search needs
 
 returns : tie.Need-returns
 returns c =
-    let s = c .before .before .before .before .before .before .before .before .before .before .before .before .before .before .before .before .before in
+    let s = c .before .before .before .before .before .before .before .before .before .before .before .before .before .before .before .before in
     let w = c .before .before .before .before .before .before .before .remove-row in
     let t = tablesOf (s .args .rows .now) (s .args .letters .now) (s .args .islands .now) (s .args .points .now) in
     let f : Header → Edited = λ h. removeOf h (s .args .count) t (s .args .row) in
