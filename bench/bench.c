@@ -68,9 +68,9 @@ static bytes loose_text(bytes exact) {
 
 /* Appends a row: its kind, letters and a ring, or a line, of so many vertices on a circle about a point. */
 static void add_row(tables *t, int64_t kind, int64_t code, const char *letters, size_t vertices, double radius, int64_t x, int64_t y) {
-    int64_t *row = t->rows + 12 * t->count++, *p = t->points + t->points_len;
+    int64_t *row = t->rows + ROW_WIDTH * t->count++, *p = t->points + t->points_len;
     size_t n = strlen(letters);
-    memset(row, 0, 12 * sizeof *row);
+    memset(row, 0, ROW_WIDTH * sizeof *row);
     row[0] = kind, row[2] = code, row[3] = code ? 0 : 18, row[9] = (int64_t)n, row[11] = (int64_t)vertices;
     if (kind != 5) row[5] = x, row[6] = y;
     memcpy(t->letters + t->letters_len, letters, n);
@@ -79,12 +79,12 @@ static void add_row(tables *t, int64_t kind, int64_t code, const char *letters, 
         p[2 * v] = x + llround(radius * cos(a)), p[2 * v + 1] = y + llround(radius * sin(a));
     }
     if (vertices) p[2 * vertices - 2] = p[0], p[2 * vertices - 1] = p[1];
-    t->rows_len += 12, t->letters_len += n, t->points_len += 2 * vertices;
+    t->rows_len += ROW_WIDTH, t->letters_len += n, t->points_len += 2 * vertices;
 }
 
 static tables empty_sheet(size_t size) {
     tables t = { .kind = 1, .name = "Z999_000100", .name_len = 11, .scale = 1000000 };
-    t.rows = room(size * 2), t.letters = room(size), t.points = room(size), t.islands = room(2);
+    t.rows = room(size * 3), t.letters = room(size), t.points = room(size), t.islands = room(2);
     return t;
 }
 
@@ -203,6 +203,7 @@ static void measure(const char *name, item run, job full, job quarter) {
 }
 
 static job job_of(tables t, bool loose) {
+    set_starts(t.rows, t.count);
     bytes exact = exact_text(&t);
     return (job){ t, loose ? loose_text(exact) : exact, !loose };
 }

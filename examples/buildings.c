@@ -64,9 +64,11 @@ int main(int argc, char **argv)
         return 1;
     }
 
-    /* What was read is well made, so each row may be asked as a sheet of its own. */
-    for (cxf_sheet rest = cxf_sheet_of(&r, rows, letters, islands, points); rest.count > 0; rest = cxf_later_rows(rest)) {
-        cxf_sheet row = cxf_first_row(rest);
+    /* What was read is well made, so each row may be asked as a sheet of its own; its starts say where its parts are. */
+    cxf_sheet sheet = cxf_sheet_of(&r, rows, letters, islands, points);
+    for (uint64_t k = 0; k < sheet.count; k++) {
+        int64_t own[CXF_ROW];
+        cxf_sheet row = cxf_row_alone(sheet, k, own);
         cxf_border b = cxf_border_at(CXF_SPREAD(row), 0);
         if (b.number != 0 || b.class_of != CXF_BUILDING)
             continue;

@@ -92,8 +92,10 @@ int main(int argc, char **argv)
                 cxf_refusal_text(r.number));
         return 1;
     }
-    for (cxf_sheet rest = cxf_sheet_of(&r, rows, letters, islands, points); rest.count > 0; rest = cxf_later_rows(rest)) {
-        cxf_sheet row = cxf_first_row(rest);
+    cxf_sheet sheet = cxf_sheet_of(&r, rows, letters, islands, points);
+    for (uint64_t k = 0; k < sheet.count; k++) {
+        int64_t own[CXF_ROW];
+        cxf_sheet row = cxf_row_alone(sheet, k, own);
         cxf_border b = cxf_border_at(CXF_SPREAD(row), 0);
         if (b.number == 0 && b.class_of == CXF_BUILDING && b.islands > 0)
             return print_mask(row, b);

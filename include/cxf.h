@@ -26,7 +26,7 @@ extern "C" {
 /* It rises whenever a struct, a width or a meaning changes. A program that was compiled with one number, or a binding that was
    written for one, is to refuse a library that answers another, rather than read rows wrongly:
        if (cxf_interface() != CXF_INTERFACE) .. */
-#define CXF_INTERFACE 2
+#define CXF_INTERFACE 3
 
 uint64_t cxf_interface(void);
 
@@ -151,7 +151,10 @@ enum {
     CXF_ROW_LETTERS = 9,  /* how many letters, island counts and vertices are this row's: they stand in the other three */
     CXF_ROW_ISLANDS = 10, /* tables in the order of the rows, with no gaps. The vertices of a BORDO are those of its outer */
     CXF_ROW_VERTICES = 11,/* ring, then those of its islands; each ring ends with the vertex it began with */
-    CXF_ROW = 12
+    CXF_ROW_FIRST_LETTER = 12, /* where they begin, or would begin if there are none: what the rows before have, letters, */
+    CXF_ROW_FIRST_ISLAND = 13, /* island counts and points; the points of a row begin at points[2 * row[CXF_ROW_FIRST_POINT]] */
+    CXF_ROW_FIRST_POINT = 14,
+    CXF_ROW = 15
 };
 
 typedef struct {
@@ -164,8 +167,8 @@ typedef struct {
     uint8_t name[CXF_NAME_LENGTH];           /* the sheet's name, with no 0 at its end */
 } cxf_reading;
 
-/* Reads a whole file into four lent tables: rows, 12 numbers each; letters; island counts; points, x and y after each other.
-   The room of a table is rows_len / 12 rows, letters_len letters, islands_len counts, points_len / 2 points. CXF_ROWS_MOST and
+/* Reads a whole file into four lent tables: rows, 15 numbers each; letters; island counts; points, x and y after each other.
+   The room of a table is rows_len / 15 rows, letters_len letters, islands_len counts, points_len / 2 points. CXF_ROWS_MOST and
    the three beside it are enough for any file. To learn what a file needs, ask with four lengths of 0: the answer is 14 and the
    needs (0 where the sheet has no rows). Past the used part no table is altered. */
 cxf_reading cxf_read(const uint8_t *src, size_t src_len, uint64_t mode,
@@ -228,36 +231,28 @@ static inline cxf_sheet cxf_sheet_of(const cxf_reading *r, const int64_t *rows, 
    10 and 22, and with 17 and 18 of the tallies; else it is 0.
 
    So a question takes the time that the whole sheet takes to judge, and questions on all rows together take time that grows with
-   the square of the sheet. Of a
-   sheet that is well made, as what a reading answered is, each row may be asked alone instead, as a sheet of one row with its own
-   parts of the tables: class, texts, areas, ring check and mask are the same. All rows together then take the time of one question:
-       for (cxf_sheet rest = sheet; rest.count > 0; rest = cxf_later_rows(rest)) {
-           cxf_sheet row = cxf_first_row(rest);
-           .. cxf_border_at(CXF_SPREAD(row), 0) .. */
+   the square of the sheet. Of a sheet that is well made, as what a reading answered is, each row may be asked alone instead, as a
+   sheet of one row with its own parts of the tables: class, texts, areas, ring check and mask are the same. No other row is looked at:
+       int64_t own[CXF_ROW];
+       cxf_sheet alone = cxf_row_alone(sheet, 9000, own);
+       .. cxf_border_at(CXF_SPREAD(alone), 0) .. */
 
-/* The first row of a sheet alone, and the rows after it: for a sheet that is well made and has a row. */
-static inline cxf_sheet cxf_first_row(cxf_sheet s)
+/* A row of a sheet alone, for a sheet that is well made and has it. Its parts of the tables are found by its starts; as they begin at 0
+   in a sheet of one row, its numbers are copied to own, which has to be kept as long as the answer. */
+static inline cxf_sheet cxf_row_alone(cxf_sheet s, uint64_t row, int64_t own[CXF_ROW])
 {
+    const int64_t *from = s.rows + row * CXF_ROW;
+    for (int i = 0; i < CXF_ROW; i++)
+        own[i] = i < CXF_ROW_FIRST_LETTER ? from[i] : 0;
     s.count = 1;
+    s.rows = own;
     s.rows_len = CXF_ROW;
-    s.letters_len = (size_t)s.rows[CXF_ROW_LETTERS];
-    s.islands_len = (size_t)s.rows[CXF_ROW_ISLANDS];
-    s.points_len = (size_t)s.rows[CXF_ROW_VERTICES] * 2;
-    return s;
-}
-
-static inline cxf_sheet cxf_later_rows(cxf_sheet s)
-{
-    const cxf_sheet first = cxf_first_row(s);
-    s.count -= 1;
-    s.rows += first.rows_len;
-    s.rows_len -= first.rows_len;
-    s.letters += first.letters_len;
-    s.letters_len -= first.letters_len;
-    s.islands += first.islands_len;
-    s.islands_len -= first.islands_len;
-    s.points += first.points_len;
-    s.points_len -= first.points_len;
+    s.letters += from[CXF_ROW_FIRST_LETTER];
+    s.letters_len = (size_t)from[CXF_ROW_LETTERS];
+    s.islands += from[CXF_ROW_FIRST_ISLAND];
+    s.islands_len = (size_t)from[CXF_ROW_ISLANDS];
+    s.points += 2 * from[CXF_ROW_FIRST_POINT];
+    s.points_len = (size_t)from[CXF_ROW_VERTICES] * 2;
     return s;
 }
 

@@ -16,7 +16,6 @@
 
 #define FILE_LIMIT 16777216u
 #define TALLY_MOST 9000000000000000000LL
-#define ROW_WIDTH 12u
 
 typedef enum {
     READ, WRITE, BORDER_AT, TEXT_AT, RING_AREA, NET_AREA, TALLY_SHEET, TALLY_TAKE, RING_CHECK, TILE_POINT, RECORD_AT, INTEGER, REAL,
@@ -600,8 +599,9 @@ static cxf_mask try_mask(const tables *t, uint64_t row, frame f) {
     return mine;
 }
 
-/* A row with its own parts of the tables, as a sheet of one row. */
+/* A row with its own parts of the tables, as a sheet of one row, its starts set to 0. It holds until the next one is asked for. */
 static tables alone(const tables *t, uint64_t row) {
+    static int64_t own[ROW_WIDTH];
     tables one = *t;
     for (uint64_t i = 0; i <= row; i++) {
         if (i > 0) {
@@ -614,6 +614,9 @@ static tables alone(const tables *t, uint64_t row) {
         one.islands_len = (size_t)one.rows[10];
         one.points_len = 2 * (size_t)one.rows[11];
     }
+    memcpy(own, one.rows, sizeof own);
+    set_starts(own, 1);
+    one.rows = own;
     one.rows_len = ROW_WIDTH;
     one.count = 1;
     return one;
@@ -974,11 +977,22 @@ static bool join_texts(const tables *a, const tables *b, bytes *out) {
     return true;
 }
 
+/* The second's rows behind the first's. T-07: "the second part's starts are moved on by the first's counts". */
+static bool rows_followed(const tables *t, const tables *a, const tables *b) {
+    if (t->rows_len != a->rows_len + b->rows_len || memcmp(t->rows, a->rows, a->rows_len * sizeof a->rows[0]) != 0) return false;
+    const int64_t on[3] = {(int64_t)a->letters_len, (int64_t)a->islands_len, (int64_t)a->points_len / 2};
+    for (size_t i = 0; i < b->rows_len; i++) {
+        const size_t place = i % ROW_WIDTH;
+        if (t->rows[a->rows_len + i] != b->rows[i] + (place >= 12 ? on[place - 12] : 0)) return false;
+    }
+    return true;
+}
+
 static bool joined_so(const tables *t, const tables *a, const tables *b) {
 #define FOLLOWED(table)                                                                                                                \
     (t->table##_len == a->table##_len + b->table##_len && memcmp(t->table, a->table, a->table##_len * sizeof a->table[0]) == 0 &&       \
      memcmp(t->table + a->table##_len, b->table, b->table##_len * sizeof b->table[0]) == 0)
-    return t->count == a->count + b->count && FOLLOWED(rows) && FOLLOWED(letters) && FOLLOWED(islands) && FOLLOWED(points);
+    return t->count == a->count + b->count && rows_followed(t, a, b) && FOLLOWED(letters) && FOLLOWED(islands) && FOLLOWED(points);
 #undef FOLLOWED
 }
 

@@ -15,12 +15,16 @@ typedef struct {
     cxf_text (*text_at)(CXF_SHEET, uint64_t);
     cxf_area (*ring_area)(CXF_SHEET, uint64_t, uint64_t);
     cxf_area (*net_area)(CXF_SHEET, uint64_t);
+    cxf_tally (*tally_sheet)(CXF_SHEET);
+    cxf_tally (*tally_take)(const int64_t *, size_t, CXF_SHEET, uint64_t);
     cxf_ring (*ring_check)(CXF_SHEET, uint64_t, uint64_t);
     cxf_tile (*tile_point)(int64_t, int64_t, int64_t, int64_t);
     cxf_record (*record_at)(const uint8_t *, size_t, uint64_t, uint64_t, uint64_t);
     cxf_number (*integer)(const uint8_t *, size_t, uint64_t);
     cxf_number (*real)(const uint8_t *, size_t, uint64_t);
     cxf_listed (*listing)(const uint8_t *, size_t, uint8_t *, size_t);
+    cxf_sup (*sup_write)(CXF_SHEET, const uint8_t *, size_t, uint8_t *, size_t);
+    cxf_mask (*mask_of)(CXF_SHEET, uint64_t, int64_t, int64_t, int64_t);
 } interface;
 
 static uint64_t wrong;
@@ -142,19 +146,26 @@ static size_t file_of(const char *records, uint8_t *out) {
 
 typedef struct {
     cxf_reading r;
-    int64_t rows[20 * 12], points[200];
+    int64_t rows[20 * ROW_WIDTH], points[200];
     uint8_t letters[200];
     uint16_t islands[20];
 } held;
 
 #define THE_SHEET(h)                                                                                                        \
-    (h)->r.kind, (h)->r.name, 11, (h)->r.scale, (h)->r.rows, (h)->rows, 20 * 12, (h)->letters, 200, (h)->islands, 20, (h)->points, 200
+    (h)->r.kind, (h)->r.name, 11, (h)->r.scale, (h)->r.rows, (h)->rows, 20 * ROW_WIDTH, (h)->letters, 200, (h)->islands, 20, (h)->points, 200
 
 static void read_into(const interface *i, const char *records, uint64_t mode, held *h) {
     static uint8_t src[20000];
     const size_t n = file_of(records, src);
     memset(h, 0, sizeof *h);
-    h->r = i->read(src, n, mode, h->rows, 20 * 12, h->letters, 200, h->islands, 20, h->points, 200);
+    h->r = i->read(src, n, mode, h->rows, 20 * ROW_WIDTH, h->letters, 200, h->islands, 20, h->points, 200);
+}
+
+/* The rows that were read are these, as far as a row goes. */
+static int rows_are(const held *h, const int64_t (*rows)[15], uint64_t count) {
+    for (uint64_t row = 0; row < count; row++)
+        if (memcmp(h->rows + ROW_WIDTH * row, rows[row], ROW_WIDTH * sizeof rows[0][0]) != 0) return 0;
+    return h->r.rows == count;
 }
 
 static void refused(const interface *i, const char *what, const char *records, uint64_t mode, uint64_t refusal, uint64_t record,
@@ -252,17 +263,17 @@ static void specification(const interface *i) {
               "LINEA,   6,   4,   15181.145,  -29700.213,   15179.456,  -29699.078,   15181.315,  -29698.258,   15181.145,  -29700.213,"
               "EOF,",
               1, &h);
-    static const int64_t rows[6][12] = {
-        {1, 0, 0, 18, 0, -14364252, 49599871, -14397849, 49578550, 11, 0, 6},
-        {2, 0, 0, 40, 0, -13763925, 49312319, 0, 0, 10, 0, 0},
-        {2, 0, 0, 18, 0, 9592299, -27610764, 0, 0, 5, 0, 0},
-        {3, 0, 14, 0, 4673, -14497567, 49620796, 0, 0, 0, 0, 0},
-        {4, 0, 20, 0, 0, 15951230, -30505861, 15959230, -30497861, 1, 0, 0},
-        {5, 0, 6, 0, 0, 0, 0, 0, 0, 0, 0, 4},
+    static const int64_t rows[6][15] = {
+        {1, 0, 0, 18, 0, -14364252, 49599871, -14397849, 49578550, 11, 0, 6, 0, 0, 0},
+        {2, 0, 0, 40, 0, -13763925, 49312319, 0, 0, 10, 0, 0, 11, 0, 6},
+        {2, 0, 0, 18, 0, 9592299, -27610764, 0, 0, 5, 0, 0, 21, 0, 6},
+        {3, 0, 14, 0, 4673, -14497567, 49620796, 0, 0, 0, 0, 0, 26, 0, 6},
+        {4, 0, 20, 0, 0, 15951230, -30505861, 15959230, -30497861, 1, 0, 0, 26, 0, 6},
+        {5, 0, 6, 0, 0, 0, 0, 0, 0, 0, 0, 4, 27, 0, 6},
     };
     expect(i, "the specification's examples",
            h.r.number == 0 && h.r.kind == 1 && memcmp(h.r.name, "D458_021200", 11) == 0 && h.r.scale == 2000000 && h.r.rows == 6 &&
-               memcmp(h.rows, rows, sizeof rows) == 0 && h.r.letters == 27 &&
+               rows_are(&h, rows, sizeof rows / sizeof rows[0]) && h.r.letters == 27 &&
                memcmp(h.letters, "A019_004100Corricioni(731)5", 27) == 0 && h.r.points == 10 && h.points[0] == 14941747 &&
                h.points[1] == -29983615 && h.points[12] == 15181145 && h.points[19] == -29700213);
     expect(i, "the specification's border, in a map of kind 1", i->border_at(THE_SHEET(&h), 0).class_of == 6);
@@ -280,7 +291,7 @@ static void specification(const interface *i) {
 static void altered(const interface *i, const char *what, const held *from, int place, int64_t value, uint64_t row) {
     held h = *from;
     uint8_t out[1000];
-    h.rows[12 * row + (uint64_t)place] = value;
+    h.rows[ROW_WIDTH * row + (uint64_t)place] = value;
     const cxf_text t = i->text_at(THE_SHEET(&h), 0);
     const cxf_written w = i->write(THE_SHEET(&h), out, sizeof out);
     expect(i, what, t.number == 15 && t.row == row && w.number == 15 && w.row == row && w.length == 0);
@@ -288,7 +299,7 @@ static void altered(const interface *i, const char *what, const held *from, int 
 
 /* The sections of a scanned sheet (000, 1.1.13 and 1.1.14), which has no example of them. */
 static void scanned(const interface *i) {
-    static const int64_t rows[2][12] = {{6, 0, 0, 0, 0, 0, 0, 0, 0, 15, 0, 4}, {7, 0, 1, 0, 0, 0, 0, 0, 0, 3, 0, 3}};
+    static const int64_t rows[2][15] = {{6, 0, 0, 0, 0, 0, 0, 0, 0, 15, 0, 4, 0, 0, 0}, {7, 0, 1, 0, 0, 0, 0, 0, 0, 3, 0, 3, 15, 0, 4}};
     static const int64_t points[14] = {14000000, -29000000, 15000000,  -29000000, 14000000,  -30000000, 15000000,
                                        -30000000, 15181145, -29700213, 15179456,  -29699078, 15181315,  -29698258};
     uint8_t text[1000], out[1000];
@@ -296,7 +307,7 @@ static void scanned(const interface *i) {
     for (uint64_t mode = 0; mode < 2; mode++) { /* first and last corner differ: they are no ring */
         read_into(i, SCANNED, mode, &h);
         expect(i, "a scanned sheet", h.r.number == 0 && h.r.rows == 2 && h.r.letters == 18 && h.r.islands == 0 && h.r.points == 7 &&
-                                         memcmp(h.rows, rows, sizeof rows) == 0 && memcmp(h.letters, "D458_021200.TIF(0)", 18) == 0 &&
+                                         rows_are(&h, rows, sizeof rows / sizeof rows[0]) && memcmp(h.letters, "D458_021200.TIF(0)", 18) == 0 &&
                                          memcmp(h.points, points, sizeof points) == 0);
     }
     const size_t n = file_of(SCANNED, text);
@@ -323,13 +334,13 @@ static void scanned(const interface *i) {
     altered(i, "kind 7 with a size", &h, 3, 1, 1);
     altered(i, "kind 7 with a place", &h, 5, 1, 1);
     altered(i, "kind 8", &h, 0, 8, 1);
-    h.rows[12 + 2] = 2; /* well made, and a loose file can have it, but it is not written */
+    h.rows[ROW_WIDTH + 2] = 2; /* well made, and a loose file can have it, but it is not written */
     w = i->write(THE_SHEET(&h), out, sizeof out);
     expect(i, "kind 7 with an unlisted type", w.number == 10 && w.row == 1 && i->text_at(THE_SHEET(&h), 1).number == 0);
 
     read_into(i, HEAD "RIFERIMENTO_RASTER, a.tif ,1.000,2.000,3.000,4.000,5.000,6.000,7.000,-0.000 note,LIBRETTO,0,2,2,0.000,0.000,0.000,0.000,EOF", 0, &h);
     expect(i, "a scanned sheet, loose", h.r.number == 0 && h.r.rows == 2 && h.r.letters == 6 && memcmp(h.letters, "a.tif0", 6) == 0 &&
-                                            h.points[0] == 1000 && h.points[6] == 7000 && h.points[7] == 0 && h.rows[12 + 2] == 2);
+                                            h.points[0] == 1000 && h.points[6] == 7000 && h.points[7] == 0 && h.rows[ROW_WIDTH + 2] == 2);
 }
 
 static void scanned_refused(const interface *i) {
@@ -346,6 +357,69 @@ static void scanned_refused(const interface *i) {
     }
     refused(i, "kind 7 with an unlisted type, exact", HEAD "LIBRETTO,0,   2,   2," REAL REAL REAL REAL "EOF,", 1, 10, 6, 47);
 #undef REAL
+}
+
+/* ---- T-07 ---- */
+
+/* Every function that takes a sheet refuses it 15 at that row, and alters nothing. */
+static void not_made(const interface *i, const char *what, const held *from, uint64_t row) {
+    static const int64_t figures[24];
+    held h = *from;
+    uint8_t out[2000];
+    memset(out, '#', sizeof out);
+    const cxf_written w = i->write(THE_SHEET(&h), out, sizeof out);
+    const cxf_border b = i->border_at(THE_SHEET(&h), 0);
+    const cxf_text t = i->text_at(THE_SHEET(&h), 0);
+    const cxf_area a = i->ring_area(THE_SHEET(&h), 0, 0), n = i->net_area(THE_SHEET(&h), 0);
+    const cxf_tally all = i->tally_sheet(THE_SHEET(&h)), one = i->tally_take(figures, 24, THE_SHEET(&h), 0);
+    const cxf_ring c = i->ring_check(THE_SHEET(&h), 0, 0);
+    const cxf_sup s = i->sup_write(THE_SHEET(&h), (const uint8_t *)"20261115", 8, out, sizeof out);
+    const cxf_mask m = i->mask_of(THE_SHEET(&h), 0, 0, 0, 1);
+    expect(i, what, w.number == 15 && w.row == row && b.number == 15 && b.row == row && t.number == 15 && t.row == row);
+    expect(i, what, a.number == 15 && a.row == row && n.number == 15 && n.row == row && c.number == 15 && c.row == row);
+    expect(i, what, all.number == 15 && all.row == row && one.number == 15 && one.row == row);
+    expect(i, what, s.number == 15 && s.row == row && m.number == 15 && m.row == row);
+    expect(i, what, memcmp(&h, from, sizeof h) == 0);
+    for (size_t k = 0; k < sizeof out; k++) expect(i, what, out[k] == '#');
+}
+
+/* "The writer, the tally, the mask and any later operation on a sheet treat a row with a false start as not well made (15)." */
+static void starts(const interface *i) {
+    static const int64_t rows[4][15] = {
+        {1, 0, 0, 18, 0, 0, 0, 0, 0, 1, 1, 8, 0, 0, 0},
+        {3, 0, 14, 0, 0, 0, 0, 0, 0, 0, 0, 0, 1, 1, 8}, /* none of the three: "or would begin if it has none" */
+        {2, 0, 0, 18, 0, 0, 0, 0, 0, 2, 0, 0, 1, 1, 8},
+        {1, 0, 0, 18, 0, 0, 0, 0, 0, 3, 0, 4, 3, 1, 8},
+    };
+    held h, bad;
+    read_into(i,
+              HEAD "BORDO,7,  18," PLACE "   1,   8,   4," RING_OF_4 RING_OF_4 "SIMBOLO,  14,       0.000,       0.000,       0.000,"
+                   "TESTO,ab,  18,       0.000,       0.000,       0.000,BORDO,19+,  18," PLACE "   0,   4," RING_OF_4 "EOF,", 1, &h);
+    expect(i, "a reading's starts", h.r.number == 0 && rows_are(&h, rows, 4));
+    expect(i, "a sheet with true starts", i->text_at(THE_SHEET(&h), 2).number == 0 && i->border_at(THE_SHEET(&h), 3).class_of == 5);
+    for (uint64_t row = 0; row < 4; row++)
+        for (int place = 12; place < 15; place++) {
+            const int64_t true_start = rows[row][place];
+            const int64_t wrong_starts[] = {true_start + 1, true_start - 1, -1, -true_start - 1, INT64_MIN, INT64_MAX, true_start + 4294967296LL};
+            for (size_t k = 0; k < sizeof wrong_starts / sizeof wrong_starts[0]; k++) {
+                bad = h;
+                bad.rows[ROW_WIDTH * row + (uint64_t)place] = wrong_starts[k];
+                not_made(i, "a false start", &bad, row);
+            }
+        }
+    /* a count of a row that is good in itself makes the next row's start false */
+    bad = h;
+    bad.rows[ROW_WIDTH * 2 + 9] = 1;
+    not_made(i, "a count that the next start contradicts", &bad, 3);
+    /* a row alone has its starts at 0 */
+    bad = h;
+    memmove(bad.rows, h.rows + ROW_WIDTH * 3, ROW_WIDTH * sizeof bad.rows[0]);
+    memmove(bad.letters, h.letters + 3, 3);
+    memmove(bad.points, h.points + 16, 8 * sizeof bad.points[0]);
+    bad.r.rows = 1;
+    not_made(i, "a row alone with the starts that it had", &bad, 0);
+    set_starts(bad.rows, 1);
+    expect(i, "a row alone", i->border_at(THE_SHEET(&bad), 0).class_of == 5);
 }
 
 /* ---- Listing ---- */
@@ -428,8 +502,8 @@ static void records(const interface *i) {
 }
 
 #define SIDE(name, P)                                                                                                              \
-    {name, P##_read, P##_write, P##_border_at, P##_text_at, P##_ring_area, P##_net_area, P##_ring_check, P##_tile_point, P##_record_at, P##_integer, \
-     P##_real, P##_listing}
+    {name, P##_read, P##_write, P##_border_at, P##_text_at, P##_ring_area, P##_net_area, P##_tally_sheet, P##_tally_take,          \
+     P##_ring_check, P##_tile_point, P##_record_at, P##_integer, P##_real, P##_listing, P##_sup_write, P##_mask_of}
 
 uint64_t examples(void) {
     static const interface sides[2] = {SIDE("library", cxf), SIDE("reference", ref)};
@@ -440,6 +514,7 @@ uint64_t examples(void) {
         scanned(&sides[k]);
         scanned_refused(&sides[k]);
         specification(&sides[k]);
+        starts(&sides[k]);
         listing(&sides[k]);
         eleven_letters(&sides[k]);
         tiles(&sides[k]);

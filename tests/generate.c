@@ -10,7 +10,11 @@
 #define REAL_HIGH 99999999999LL
 #define REACH 20000000LL
 
-enum { KIND, OUTSIDE, CODE, SIZE, ANGLE, X, Y, SECOND_X, SECOND_Y, LETTERS, ISLANDS, VERTICES, WIDTH };
+enum {
+    KIND, OUTSIDE, CODE, SIZE, ANGLE, X, Y, SECOND_X, SECOND_Y, LETTERS, ISLANDS, VERTICES,
+    FIRST_LETTER, FIRST_ISLAND, FIRST_POINT,
+    WIDTH
+};
 enum { BORDO = 1, TESTO, SIMBOLO, FIDUCIALE, LINEA, RASTER, LIBRETTO };
 
 /* ---- Chance ---- */
@@ -84,9 +88,14 @@ enum { BEYOND = 32 };
         }                                                                               \
     } while (0)
 
+/* A row whose letters, island counts and points have been added before it. */
 static void add_row(tables *t, const int64_t row[WIDTH]) {
     ROOM(t, rows, WIDTH);
-    memcpy(t->rows + t->rows_len, row, WIDTH * sizeof row[0]);
+    int64_t *n = t->rows + t->rows_len;
+    memcpy(n, row, WIDTH * sizeof row[0]);
+    n[FIRST_LETTER] = (int64_t)t->letters_len - n[LETTERS];
+    n[FIRST_ISLAND] = (int64_t)t->islands_len - n[ISLANDS];
+    n[FIRST_POINT] = (int64_t)t->points_len / 2 - n[VERTICES];
     t->rows_len += WIDTH;
     t->count++;
 }
@@ -984,6 +993,31 @@ static void damage_header(rng *g, tables *t) {
     }
 }
 
+/* The starts that the counts give, so that a count that is off is all that is wrong. Counts may be anything: no overflow. */
+static void mend_starts(tables *t) {
+    uint64_t letters = 0, islands = 0, points = 0;
+    for (int64_t *n = t->rows; n + WIDTH <= t->rows + t->rows_len; n += WIDTH) {
+        n[FIRST_LETTER] = (int64_t)letters, n[FIRST_ISLAND] = (int64_t)islands, n[FIRST_POINT] = (int64_t)points;
+        letters += (uint64_t)n[LETTERS], islands += (uint64_t)n[ISLANDS], points += (uint64_t)n[VERTICES];
+    }
+}
+
+/* A start off by one or by little, below zero, at the ends of i64, good in its low bits alone, or where the next row's is. */
+static void false_start(rng *g, tables *t) {
+    static const int64_t ends[] = {INT64_MIN, INT64_MIN + 1, INT64_MAX, INT64_MAX - 1, -1, 0};
+    if (t->rows_len < WIDTH) return;
+    const size_t place = (size_t)between(g, FIRST_LETTER, FIRST_POINT);
+    int64_t *n = t->rows + WIDTH * below(g, t->rows_len / WIDTH);
+    switch (below(g, 6)) {
+    case 0: n[place] += 1; break;
+    case 1: n[place] -= 1; break;
+    case 2: n[place] = PICK(g, ends); break;
+    case 3: n[place] = (int64_t)((uint64_t)n[place] ^ 1ull << between(g, 8, 63)); break;
+    case 4: n[place] += n[place - 3]; break;
+    default: n[place] = n[(size_t)between(g, FIRST_LETTER, FIRST_POINT)]; break;
+    }
+}
+
 void damage_sheet(rng *g, tables *t) {
     static const uint8_t in_letters[] = {' ', ' ', ' ', 31, 127, 126, 0, 255, '+', '(', ')', 'S', 'A', 10, 13};
     static const uint16_t in_islands[] = {0, 3, 4, 5, 9995, 9999, 10000, 65535, 65532};
@@ -992,6 +1026,11 @@ void damage_sheet(rng *g, tables *t) {
     for (size_t i = t->letters_len; i < t->letters_len + BEYOND && i < t->letters_room; i++) t->letters[i] = (uint8_t)any(g);
     for (size_t i = t->islands_len; i < t->islands_len + BEYOND && i < t->islands_room; i++) t->islands[i] = (uint16_t)any(g);
     for (size_t i = t->points_len; i < t->points_len + BEYOND && i < t->points_room; i++) t->points[i] = edge_number(g);
+    bool mended = !one_in(g, 4);
+    if (one_in(g, 8)) {
+        false_start(g, t);
+        return;
+    }
     switch (below(g, 12)) {
     case 0: damage_header(g, t); break;
     case 1:
@@ -1003,6 +1042,7 @@ void damage_sheet(rng *g, tables *t) {
             int64_t *n = t->rows + below(g, t->rows_len);
             /* also numbers that are good in their low bits alone */
             *n = one_in(g, 4) ? (int64_t)((uint64_t)*n ^ 1ull << between(g, 8, 63)) : edge_number(g);
+            if ((size_t)(n - t->rows) % WIDTH >= FIRST_LETTER) mended = false;
         }
         break;
     case 4: /* a count, a kind, an outside mark, a code or a size off by little */
@@ -1042,6 +1082,7 @@ void damage_sheet(rng *g, tables *t) {
     case 10: stretch(g, &t->islands_len, t->islands_room); break;
     default: stretch(g, &t->points_len, t->points_room); break;
     }
+    if (mended) mend_starts(t);
     if (one_in(g, 3) && t->count > 0 && t->rows_len >= WIDTH) /* a code that is well made but unlisted */
         for (size_t k = 0; k < t->rows_len / WIDTH; k++)
             if (has_code(t->rows[WIDTH * k + KIND]) && one_in(g, 4)) t->rows[WIDTH * k + CODE] = other_code(g);

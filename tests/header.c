@@ -196,8 +196,13 @@ IS(CXF_TESTO, 2);
 IS(CXF_SIMBOLO, 3);
 IS(CXF_FIDUCIALE, 4);
 IS(CXF_LINEA, 5);
+IS(CXF_RIFERIMENTO_RASTER, 6);
+IS(CXF_LIBRETTO, 7);
 
-IS(CXF_ROW, 12);
+IS(CXF_ROW, 15);
+IS(CXF_ROW_FIRST_LETTER, 12);
+IS(CXF_ROW_FIRST_ISLAND, 13);
+IS(CXF_ROW_FIRST_POINT, 14);
 IS(CXF_ROW_KIND, 0);
 IS(CXF_ROW_OUTSIDE, 1);
 IS(CXF_ROW_CODE, 2);
@@ -362,9 +367,12 @@ static void rows_alone(const char *path)
     expect(f.r.number == 0 && s.count > 0, "the sample is not read");
     expect(spread_so(s, CXF_SPREAD(s)), "CXF_SPREAD hands something else over");
     uint64_t row = 0;
-    cxf_sheet rest = s;
-    for (; rest.count > 0; rest = cxf_later_rows(rest), row++) {
-        const cxf_sheet alone = cxf_first_row(rest);
+    for (; row < s.count; row++) {
+        int64_t own[CXF_ROW];
+        const cxf_sheet alone = cxf_row_alone(s, row, own);
+        expect(alone.count == 1 && alone.rows == own && alone.rows_len == CXF_ROW && alone.letters == s.letters + s.rows[CXF_ROW * row + 12] &&
+                   alone.islands == s.islands + s.rows[CXF_ROW * row + 13] && alone.points == s.points + 2 * s.rows[CXF_ROW * row + 14],
+               "a row alone has not its own parts of the tables");
         const cxf_border b = cxf_border_at(CXF_SPREAD(s), row), c = cxf_border_at(CXF_SPREAD(alone), 0);
         const cxf_text t = cxf_text_at(CXF_SPREAD(s), row), u = cxf_text_at(CXF_SPREAD(alone), 0);
         const cxf_area a = cxf_net_area(CXF_SPREAD(s), row), d = cxf_net_area(CXF_SPREAD(alone), 0);
@@ -376,8 +384,6 @@ static void rows_alone(const char *path)
             expect(memcmp(&g, &h, sizeof g) == 0 && memcmp(&p, &q, sizeof p) == 0, "a ring of a row alone answers otherwise");
         }
     }
-    expect(row == s.count && rest.rows_len == 0 && rest.letters_len == 0 && rest.islands_len == 0 && rest.points_len == 0,
-           "the rows' own parts are not the tables");
     dispose(&f);
 }
 

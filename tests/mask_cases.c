@@ -13,7 +13,7 @@ enum { ROWS = 32, LETTERS = 400, ISLANDS = 16, POINTS = 400 };
 
 static uint64_t count;
 static const char *name = "Z999_000100";
-static int64_t rows[ROWS * 12], points[2 * POINTS];
+static int64_t rows[ROWS * ROW_WIDTH], points[2 * POINTS];
 static uint8_t letters[LETTERS];
 static uint16_t islands[ISLANDS];
 static size_t letters_len, islands_len, points_len;
@@ -56,7 +56,8 @@ static void picture(uint64_t cells) {
 }
 
 static void ask(const char *title, uint64_t row, int64_t x, int64_t y, int64_t cell) {
-    const cxf_mask m = mask_of(1, (const uint8_t *)name, 11, 1000000, count, rows, 12 * count, letters, letters_len, islands,
+    set_starts(rows, count);
+    const cxf_mask m = mask_of(1, (const uint8_t *)name, 11, 1000000, count, rows, ROW_WIDTH * count, letters, letters_len, islands,
                                islands_len, points, points_len, row, x, y, cell);
     printf("%s\n%llu %llu %llu\n", title, (unsigned long long)m.number, (unsigned long long)m.row, (unsigned long long)m.covered);
     for (int first = 0, last; first < 64; first = last + 1) {
@@ -212,12 +213,12 @@ static void order(void) {
 
     /* a second row, a text, is no border */
     border(), box(20, 108, 60, 40);
-    rows[12] = 2, rows[12 + 9] = 1, letters[1] = 'a', count = letters_len = 2;
+    rows[ROW_WIDTH] = 2, rows[ROW_WIDTH + 9] = 1, letters[1] = 'a', count = letters_len = 2;
     ask("a text", 1, 0, 128, 2);
-    rows[12] = 9;
+    rows[ROW_WIDTH] = 9;
     ask("another row that is not well made", 0, 0, 128, 2);
     ask("a corner beyond all numbers", 0, INT64_MAX, INT64_MIN, 2);
-    rows[12] = 2;
+    rows[ROW_WIDTH] = 2;
     ask("a corner beyond all numbers, of a sheet that is well made", 0, INT64_MAX, INT64_MIN, 2);
 }
 
@@ -235,9 +236,9 @@ static int building(const char *path) {
     }
     const size_t n = fread(src, 1, sizeof src, f);
     fclose(f);
-    const cxf_reading r = ref_read(src, n, 1, rows, ROWS * 12, letters, LETTERS, islands, ISLANDS, points, 2 * POINTS);
+    const cxf_reading r = ref_read(src, n, 1, rows, ROWS * ROW_WIDTH, letters, LETTERS, islands, ISLANDS, points, 2 * POINTS);
     if (r.number != 0) return 1;
-    const cxf_mask m = mask_of(r.kind, r.name, 11, r.scale, r.rows, rows, ROWS * 12, letters, LETTERS, islands, ISLANDS, points,
+    const cxf_mask m = mask_of(r.kind, r.name, 11, r.scale, r.rows, rows, ROWS * ROW_WIDTH, letters, LETTERS, islands, ISLANDS, points,
                                2 * POINTS, 5, -12456350, 8267600, 500);
     if (m.number != 0) return 1;
     printf("18+: 64 by 64 cells of 500 mm, %llu covered\n", (unsigned long long)m.covered);

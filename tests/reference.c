@@ -1,4 +1,4 @@
-/* The reference: document 01's base, and T-01 to T-05 of document 02, in plain C, written from the papers for clarity, not for
+/* The reference: document 01's base, and T-01 to T-07 of document 02, in plain C, written from the papers for clarity, not for
    speed. It shares no line with the library. The sentences in comments are document 01's, or the interface paper's; those
    of the SUP file are T-01's, those of masks T-03's. */
 #include "reference.h"
@@ -18,7 +18,6 @@
 #define TILE_MOST 16777215LL
 #define LISTING_LIMIT 8192u
 #define NAME_LENGTH 11u
-#define ROW_WIDTH 12u
 #define SUP_LEFT 11u
 #define SUP_RIGHT 10u
 #define MASK_SIDE 64
@@ -33,8 +32,10 @@ enum {
     BAD_CELL = 26
 };
 
-/* "Each element is a row of 12 numbers": their places. */
-enum { KIND, OUTSIDE, CODE_AT, SIZE, ANGLE, X, Y, SECOND_X, SECOND_Y, LETTERS, ISLANDS, VERTICES };
+/* "Each element is a row of 12 numbers": their places; T-07's three behind them. */
+enum {
+    KIND, OUTSIDE, CODE_AT, SIZE, ANGLE, X, Y, SECOND_X, SECOND_Y, LETTERS, ISLANDS, VERTICES, FIRST_LETTER, FIRST_ISLAND, FIRST_POINT
+};
 
 /* "kind 1 to 5 in the table's order"; T-05: "kinds 6 and 7" */
 enum { BORDO = 1, TESTO = 2, SIMBOLO = 3, FIDUCIALE = 4, LINEA = 5, RASTER = 6, LIBRETTO = 7 };
@@ -55,6 +56,20 @@ static const struct { const char *word; bool outside, letters, code, size, angle
     {"LIBRETTO", false, true, true, false, false, false, false, true},
 };
 #define RASTER_POINTS 4
+
+/* Where a row's own parts begin in the three further tables: "in element order, with no gaps". */
+typedef struct { size_t letters, islands, points; } spot;
+
+/* T-07: "Let each row store where its letters, islands and points begin, or would begin if it has none" */
+static void put_starts(int64_t *n, spot at) {
+    n[FIRST_LETTER] = (int64_t)at.letters;
+    n[FIRST_ISLAND] = (int64_t)at.islands;
+    n[FIRST_POINT] = (int64_t)at.points;
+}
+
+static bool starts_true(const int64_t *n, spot at) {
+    return n[FIRST_LETTER] == (int64_t)at.letters && n[FIRST_ISLAND] == (int64_t)at.islands && n[FIRST_POINT] == (int64_t)at.points;
+}
 
 static bool is_digit(uint8_t b) { return b >= '0' && b <= '9'; }
 static bool is_capital(uint8_t b) { return b >= 'A' && b <= 'Z'; }
@@ -414,6 +429,7 @@ static bool take_section(pass *p, int64_t kind, bool outside) {
     int64_t row[ROW_WIDTH] = {0};
     row[KIND] = kind;
     row[OUTSIDE] = outside ? 1 : 0;
+    put_starts(row, (spot){(size_t)p->answer.letters, (size_t)p->answer.islands, (size_t)p->answer.points}); /* "Reading fills them." */
     if (SECTIONS[kind].letters && !take_letters(p, &row[LETTERS])) return false;
     if (SECTIONS[kind].code) {
         if (!take_integer(p, &row[CODE_AT])) return false;
@@ -551,9 +567,6 @@ typedef struct {
     { kind, name, name_len, scale, count, rows, rows_len, letters, letters_len, islands, islands_len, points, \
       points_len }
 
-/* Where a row's own parts begin in the three further tables: "in element order, with no gaps". */
-typedef struct { size_t letters, islands, points; } spot;
-
 static bool in_real_range(int64_t n) { return n >= REAL_LEAST && n <= REAL_MOST; }
 static bool in_integer_range(int64_t n) { return n >= 0 && n <= INTEGER_MOST; }
 
@@ -577,7 +590,16 @@ static spot after_row(const sheet *s, uint64_t row, spot at) {
     return at;
 }
 
-/* A row's twelve numbers: "A field the section lacks is 0"; the others as a file could give them. */
+void set_starts(int64_t *rows, uint64_t count) {
+    spot at = {0, 0, 0};
+    for (uint64_t row = 0; row < count; row++) {
+        int64_t *n = rows + ROW_WIDTH * row;
+        put_starts(n, at);
+        at = (spot){at.letters + (size_t)n[LETTERS], at.islands + (size_t)n[ISLANDS], at.points + (size_t)n[VERTICES]};
+    }
+}
+
+/* A row's first twelve numbers: "A field the section lacks is 0"; the others as a file could give them. */
 static bool numbers_made(const int64_t *n) {
     if (n[KIND] < BORDO || n[KIND] > LAST_KIND) return false;
     const int k = (int)n[KIND];
@@ -606,7 +628,7 @@ static bool ring_closed(const sheet *s, size_t first, size_t vertices) {
 static bool row_made(const sheet *s, uint64_t row, spot at) {
     if (row >= s->rows_len / ROW_WIDTH) return false;
     const int64_t *n = row_of(s, row);
-    if (!numbers_made(n)) return false;
+    if (!numbers_made(n) || !starts_true(n, at)) return false; /* "a row with a false start as not well made" */
 
     const size_t letters = (size_t)n[LETTERS], islands = (size_t)n[ISLANDS], vertices = (size_t)n[VERTICES];
     if (letters > s->letters_len - at.letters) return false;

@@ -66,10 +66,16 @@ DECLARE_INTERFACE(ref)
 DECLARE_SUP(cxf)
 DECLARE_SUP(ref)
 uint64_t cxf_interface(void);
+
+/* Fills the starts of rows from their counts, for sheets made by hand. */
+void set_starts(int64_t *rows, uint64_t count);
 #endif
 
 /* T-05: kinds 6 and 7 */
 enum { LAST_KIND = 7 };
+
+/* T-07: "three fields more, 15 in all" */
+#define ROW_WIDTH 15u
 
 #define DECLARE_MASK(P) cxf_mask P##_mask_of(CXF_SHEET, uint64_t row, int64_t corner_x, int64_t corner_y, int64_t cell);
 

@@ -13,7 +13,7 @@ enum { ROWS = 32, LETTERS = 400, ISLANDS = 16, POINTS = 60000, OUT = 2000 };
 
 static uint64_t kind, count;
 static const char *name;
-static int64_t rows[ROWS * 12], points[2 * POINTS];
+static int64_t rows[ROWS * ROW_WIDTH], points[2 * POINTS];
 static uint8_t letters[LETTERS];
 static uint16_t islands[ISLANDS];
 static size_t letters_len, islands_len, points_len;
@@ -29,8 +29,8 @@ static void sheet(uint64_t of_kind, const char *of_name) {
 
 /* A border; its rings follow, the outer one first. */
 static void border(const char *code) {
-    int64_t *row = rows + 12 * count++;
-    memset(row, 0, 12 * sizeof *row);
+    int64_t *row = rows + ROW_WIDTH * count++;
+    memset(row, 0, ROW_WIDTH * sizeof *row);
     row[0] = 1;
     row[9] = (int64_t)strlen(code);
     row[10] = -1; /* the outer ring is no island */
@@ -40,8 +40,8 @@ static void border(const char *code) {
 
 static void text(const char *words) {
     border(words);
-    rows[12 * (count - 1)] = 2;
-    rows[12 * (count - 1) + 10] = 0;
+    rows[ROW_WIDTH * (count - 1)] = 2;
+    rows[ROW_WIDTH * (count - 1) + 10] = 0;
 }
 
 static void point(int64_t x, int64_t y) {
@@ -50,7 +50,7 @@ static void point(int64_t x, int64_t y) {
 }
 
 static void end_ring(size_t vertices) {
-    int64_t *row = rows + 12 * (count - 1);
+    int64_t *row = rows + ROW_WIDTH * (count - 1);
     row[11] += (int64_t)vertices;
     if (++row[10] > 0) islands[islands_len++] = (uint16_t)vertices;
 }
@@ -91,7 +91,8 @@ static const char *const NO_DAY = "20261315";
 static void ask(const char *title, const char *date, size_t out_len) {
     static uint8_t out[OUT];
     memset(out, '#', OUT);
-    const cxf_sup a = write_sup(kind, (const uint8_t *)name, strlen(name), 1000000, count, rows, 12 * count, letters, letters_len, islands,
+    set_starts(rows, count);
+    const cxf_sup a = write_sup(kind, (const uint8_t *)name, strlen(name), 1000000, count, rows, ROW_WIDTH * count, letters, letters_len, islands,
                                 islands_len, points, points_len, (const uint8_t *)date, strlen(date), out, out_len);
     printf("%s\n%llu %llu %llu %llu\n", title, (unsigned long long)a.number, (unsigned long long)a.row, (unsigned long long)a.line,
            (unsigned long long)a.length);
@@ -349,7 +350,7 @@ static void sheet_refusals(void) {
     sheet(1, "Z999_000100");
     metres("1", 1), metres("2", 1);
     border("3"), box(20000001, 1);
-    rows[12] = 9;
+    rows[ROW_WIDTH] = 9;
     ask("a row that is not well made comes before a ring too wide", NO_DAY, OUT);
     name = "z999_000100";
     ask("the header comes before all", NO_DAY, OUT);
@@ -377,9 +378,9 @@ static int file_of(const char *path, const char *date) {
     }
     const size_t n = fread(src, 1, sizeof src, f);
     fclose(f);
-    const cxf_reading r = ref_read(src, n, 1, rows, ROWS * 12, letters, LETTERS, islands, ISLANDS, points, 2 * POINTS);
+    const cxf_reading r = ref_read(src, n, 1, rows, ROWS * ROW_WIDTH, letters, LETTERS, islands, ISLANDS, points, 2 * POINTS);
     if (r.number != 0) return 1;
-    const cxf_sup a = write_sup(r.kind, r.name, 11, r.scale, r.rows, rows, ROWS * 12, letters, LETTERS, islands, ISLANDS, points,
+    const cxf_sup a = write_sup(r.kind, r.name, 11, r.scale, r.rows, rows, ROWS * ROW_WIDTH, letters, LETTERS, islands, ISLANDS, points,
                                 2 * POINTS, (const uint8_t *)date, strlen(date), out, OUT);
     if (a.number != 0) return 1;
     fwrite(out, 1, (size_t)a.length, stdout);

@@ -20,9 +20,9 @@ use Rattle.plane.specs.Areas.{areaOf}
 use Rattle.plane.proofs.AlikeLaws.{area-alike, same-alike}
 use Rattle.made.specs.declared.Verdict.{Verdict}
 use Rattle.made.specs.declared.Verdict.the-variants.{Fine}
-use Rattle.made.specs.Made.{countAt, kindOf, islandsOf, pointsOf, firstOf, sum, ringSizes, isMade, judgeOf, usedOf}
+use Rattle.made.specs.Made.{countAt, kindOf, islandsOf, pointsOf, ownOf, sum, ringSizes, isMade, judgeOf, usedOf}
 use Rattle.made.proofs.RowWays.{made-held}
-use Rattle.made.proofs.OwnLaws.{cell-first, islands-first}
+use Rattle.made.proofs.OwnLaws.{cell-own, islands-own}
 use Rattle.row.specs.declared.Sought.{Sought}
 use Rattle.row.specs.Walk.{nextStand, standOf, leftAt}
 use Rattle.row.specs.Alone.{rowAlone}
@@ -39,20 +39,20 @@ use Rattle.area.proofs.QuestionLaws.{sum-part}
 -- ---- a row's areas, by its own part
 
 module _ (t : Tables) (m : isMade t ≡ true) where
-  pub areas-first : areasOf (countAt (firstOf t) verticesPlace) (islandsOf (firstOf t)) (pointsOf t) ≡ areasOf (countAt t verticesPlace) (islandsOf t) (t .points)
-  areas-first =
+  pub areas-owned : areasOf (countAt (ownOf t) verticesPlace) (islandsOf (ownOf t)) (pointsOf t) ≡ areasOf (countAt t verticesPlace) (islandsOf t) (t .points)
+  areas-owned =
       let v = countAt t verticesPlace in
-      rw (islands-first t, cell-first t verticesPlace (omega arith))
+      rw (islands-own t, cell-own t verticesPlace (omega arith))
       (sym (areas-own v (islandsOf t) (pointsOf t) (drop (2 * v) (t .points)) (omega (arith, length-take-le (2 * v) (t .points) (made-held t m .points))))
       ∙ ap (areasOf v (islandsOf t)) (take-append-drop (2 * v) (t .points)))
 
-  net-first : netAreaOf (firstOf t) ≡ netAreaOf t
+  net-owned : netAreaOf (ownOf t) ≡ netAreaOf t
   unfolding netAreaOf
-  net-first = rw (areas-first, cell-first t 0 (omega arith))
+  net-owned = rw (areas-owned, cell-own t 0 (omega arith))
 
-ring-first : (t : Tables) (first ring : ℕ) → ringOfRow (firstOf t) first ring ≡ ringOfRow t first ring
+ring-owned : (t : Tables) (first ring : ℕ) → ringOfRow (ownOf t) first ring ≡ ringOfRow t first ring
 unfolding ringOfRow
-ring-first t first ring = rw (islands-first t, cell-first t 0 (omega arith), cell-first t verticesPlace (omega arith))
+ring-owned t first ring = rw (islands-own t, cell-own t 0 (omega arith), cell-own t verticesPlace (omega arith))
 
 -- ---- a ring in two tables of points
 
@@ -117,7 +117,7 @@ module _ {A : Type 0} (g : List ℤ → RingAnswer → A) (same : (ps qs : List 
     v = countAt x verticesPlace
 
     abbrev qs : List ℤ
-    qs = rowAlone k t .points
+    qs = ownOf x .points
 
     here : (r : RingPlace) → RingIn v r → g (t .points) (ringFrom first r) ≡ g qs (ringFrom 0 r)
     here (At from n) i =
@@ -126,9 +126,9 @@ module _ {A : Type 0} (g : List ℤ → RingAnswer → A) (same : (ps qs : List 
         (slice-same (t .points) (standOf k (t .rows) .points) first v from n e (i .0) (omega (arith, i .1, made-held x m .points, length-drop (standOf k (t .rows) .points) (t .points))))
     here NoRing i = missing (t .points) qs
 
-    ring-own : g (t .points) (ringOfRow x first ring) ≡ g qs (ringOfRow (rowAlone k t) 0 ring)
+    ring-own : g (t .points) (ringOfRow x first ring) ≡ g qs (ringOfRow (ownOf x) 0 ring)
     unfolding ringOfRow
-    ring-own = by (eqb (kindOf x) 1) ∙ sym (ap (g qs) (ring-first x 0 ring))
+    ring-own = by (eqb (kindOf x) 1) ∙ sym (ap (g qs) (ring-owned x 0 ring))
       where
         by : (b : Bool) → g (t .points) (cond b (ringFrom first (ringOf v (islandsOf x) ring)) NoSuchRing) ≡ g qs (cond b (ringFrom 0 (ringOf v (islandsOf x) ring)) NoSuchRing)
         by true = here (ringOf v (islandsOf x) ring) (ring-in v (islandsOf x) ring)
@@ -143,7 +143,7 @@ areas : (ring : ℕ) → Question (λ (x : Tables) (s : Sought). areaFound (x .p
 areas ring = rings areaFound (λ ps qs p q n s. ap answerOf (area-same ps qs p q n s)) (λ ps qs. refl) (λ ps qs v. refl) ring
 
 nets : Question netFound
-nets = record { own = λ t k m. sym (ap answerOf (net-first (leftAt t (standOf k (t .rows))) m)); missing = λ t u. refl; refused = λ t u v. refl }
+nets = record { own = λ t k m. sym (ap answerOf (net-owned (leftAt t (standOf k (t .rows))) m)); missing = λ t u. refl; refused = λ t u v. refl }
 
 -- **what stands behind the used part never matters**, of any tables
 module _ (h : Header) (n : ℕ) (t : Tables) (k : ℕ) where

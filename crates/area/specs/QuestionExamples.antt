@@ -7,6 +7,7 @@ use Rattle.laws.specs.Text.{text}
 use Rattle.heading.specs.declared.Header.{Header}
 use Rattle.sheet.specs.Tables.{Tables}
 use Rattle.made.specs.Made.{tablesOf, ringSizes}
+use Rattle.made.specs.Examples.{atFirst, placed}
 use Rattle.row.specs.Examples.{computed as computedSought}
 use Rattle.area.specs.declared.AreaAnswer.{AreaAnswer}
 use Rattle.area.specs.declared.AreaAnswer.the-variants.{Doubled}
@@ -18,10 +19,10 @@ abbrev header : Header
 header = record { kind = 1; name = text "Z999_000100"; scale = pos 1000000 }
 
 abbrev label : List ℤ
-label = pos 2 ∷ pos 1 ∷ pos 0 ∷ pos 18 ∷ pos 0 ∷ pos 3000 ∷ negsuc 4 ∷ pos 0 ∷ pos 0 ∷ pos 1 ∷ pos 0 ∷ pos 0 ∷ []
+label = pos 2 ∷ pos 1 ∷ pos 0 ∷ pos 18 ∷ pos 0 ∷ pos 3000 ∷ negsuc 4 ∷ pos 0 ∷ pos 0 ∷ pos 1 ∷ pos 0 ∷ pos 0 ∷ atFirst
 
 abbrev border : List ℤ
-border = pos 1 ∷ pos 0 ∷ pos 0 ∷ pos 18 ∷ pos 0 ∷ pos 1 ∷ pos 1 ∷ pos 1 ∷ pos 1 ∷ pos 1 ∷ pos 1 ∷ pos 8 ∷ []
+border = pos 1 ∷ pos 0 ∷ pos 0 ∷ pos 18 ∷ pos 0 ∷ pos 1 ∷ pos 1 ∷ pos 1 ∷ pos 1 ∷ pos 1 ∷ pos 1 ∷ pos 8 ∷ atFirst
 
 -- a triangle of double the area side * side
 abbrev ring : ℕ → List ℤ
@@ -29,7 +30,7 @@ ring side = pos 0 ∷ pos 0 ∷ pos side ∷ pos 0 ∷ pos side ∷ pos side ∷
 
 -- the island's side
 abbrev sheet : ℕ → Tables
-sheet side = tablesOf (label ++ border) (text "77") (4 ∷ []) (ring 10 ++ ring side)
+sheet side = tablesOf (label ++ placed 1 0 0 border) (text "77") (4 ∷ []) (ring 10 ++ ring side)
 
 -- the definitions opened, so that they compute
 unfoldable pub computed : Header → ℕ → Tables → ℕ → ℕ → AreaAnswer × AreaAnswer

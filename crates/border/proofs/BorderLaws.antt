@@ -5,9 +5,9 @@ use native.Mathlib.Omega.{arith}
 use Rattle.kinds.specs.Kinds.{sizePlace, anglePlace, xPlace, yPlace, x2Place, y2Place, lettersPlace, islandsPlace, verticesPlace}
 use Rattle.heading.specs.declared.Header.{Header}
 use Rattle.sheet.specs.Tables.{Tables, _then_}
-use Rattle.made.specs.Made.{tablesOf, firstOf}
+use Rattle.made.specs.Made.{tablesOf, firstOf, ownOf}
 use Rattle.made.proofs.RowWays.{Held}
-use Rattle.made.proofs.OwnLaws.{cell-first, letters-first, first-then, first-own}
+use Rattle.made.proofs.OwnLaws.{cell-own, letters-own, own-same, first-then, first-own}
 use Rattle.border.specs.Borders.{borderOf}
 
 -- islands and points play no part
@@ -16,14 +16,14 @@ unfolding borderOf
 border-lists h t = refl
 
 -- its own part alone
-pub border-first : (h : Header) (t : Tables) → borderOf h (firstOf t) ≡ borderOf h t
+pub border-owned : (h : Header) (t : Tables) → borderOf h (ownOf t) ≡ borderOf h t
 unfolding borderOf
-border-first h t =
-    let cell = cell-first t in
-    rw (letters-first t, cell sizePlace (omega arith), cell anglePlace (omega arith), cell xPlace (omega arith), cell yPlace (omega arith), cell x2Place (omega arith), cell y2Place (omega arith), cell lettersPlace (omega arith), cell islandsPlace (omega arith), cell verticesPlace (omega arith))
+border-owned h t =
+    let cell = cell-own t in
+    rw (letters-own t, cell sizePlace (omega arith), cell anglePlace (omega arith), cell xPlace (omega arith), cell yPlace (omega arith), cell x2Place (omega arith), cell y2Place (omega arith), cell lettersPlace (omega arith), cell islandsPlace (omega arith), cell verticesPlace (omega arith))
 
 border-alike : (h : Header) (t u : Tables) → firstOf t ≡ firstOf u → borderOf h t ≡ borderOf h u
-border-alike h t u e = sym (border-first h t) ∙ ap (borderOf h) e ∙ border-first h u
+border-alike h t u e = sym (border-owned h t) ∙ ap (borderOf h) (own-same t u e) ∙ border-owned h u
 
 module _ (h : Header) (t u : Tables) (k : Held t) where
   -- tables appended: what follows a row does not alter it

@@ -9,8 +9,8 @@ use Rattle.kinds.specs.Kinds.{sizePlace}
 use Rattle.heading.specs.declared.Header.{Header}
 use Rattle.sheet.specs.Tables.{Tables}
 use Rattle.made.specs.declared.Verdict.the-variants.{Fine}
-use Rattle.made.specs.Made.{firstOf, judgeOf, usedOf}
-use Rattle.made.proofs.OwnLaws.{cell-first, letters-first}
+use Rattle.made.specs.Made.{ownOf, judgeOf, usedOf}
+use Rattle.made.proofs.OwnLaws.{cell-own, letters-own}
 use Rattle.row.specs.Walk.{standOf, leftAt}
 use Rattle.row.specs.Alone.{rowAlone}
 use Rattle.row.proofs.UsedLaws.{Question, asked-used, asked-alone}
@@ -19,23 +19,23 @@ use Rattle.border.specs.BorderAt.{borderFound, borderAt}
 use Rattle.border.specs.TextAt.{textFound, textAt}
 use Rattle.border.specs.declared.BorderAnswer.the-variants as BorderAnswer
 use Rattle.border.specs.declared.TextAnswer.the-variants as TextAnswer
-use Rattle.border.proofs.BorderLaws.{border-first}
+use Rattle.border.proofs.BorderLaws.{border-owned}
 
 -- ---- the row's own part answers
 
-answer-first : (h : Header) (t : Tables)
-    → cond (isBorder (firstOf t)) (BorderAnswer.Is (borderOf h (firstOf t))) BorderAnswer.Missing ≡ cond (isBorder t) (BorderAnswer.Is (borderOf h t)) BorderAnswer.Missing
-answer-first h t = rw (border-first h t, cell-first t 0 (omega arith))
+answer-owned : (h : Header) (t : Tables)
+    → cond (isBorder (ownOf t)) (BorderAnswer.Is (borderOf h (ownOf t))) BorderAnswer.Missing ≡ cond (isBorder t) (BorderAnswer.Is (borderOf h t)) BorderAnswer.Missing
+answer-owned h t = rw (border-owned h t, cell-own t 0 (omega arith))
 
-text-first : (t : Tables) → textOf (firstOf t) ≡ textOf t
+text-owned : (t : Tables) → textOf (ownOf t) ≡ textOf t
 unfolding textOf
-text-first t = rw (letters-first t, cell-first t 0 (omega arith), cell-first t sizePlace (omega arith))
+text-owned t = rw (letters-own t, cell-own t 0 (omega arith), cell-own t sizePlace (omega arith))
 
 borders : (h : Header) → Question (borderFound h)
-borders h = record { own = λ t k m. sym (answer-first h (leftAt t (standOf k (t .rows)))); missing = λ t u. refl; refused = λ t u v. refl }
+borders h = record { own = λ t k m. sym (answer-owned h (leftAt t (standOf k (t .rows)))); missing = λ t u. refl; refused = λ t u v. refl }
 
 texts : Question textFound
-texts = record { own = λ t k m. sym (ap TextAnswer.Is (text-first (leftAt t (standOf k (t .rows))))); missing = λ t u. refl; refused = λ t u v. refl }
+texts = record { own = λ t k m. sym (ap TextAnswer.Is (text-owned (leftAt t (standOf k (t .rows))))); missing = λ t u. refl; refused = λ t u v. refl }
 
 -- ---- **what stands behind the used part never matters**, of any tables
 

@@ -10,7 +10,7 @@ use Rattle.heading.specs.declared.Header.{Header}
 use Rattle.sheet.specs.Tables.{Tables}
 use Rattle.made.specs.declared.Verdict.the-variants.{BadHeader, Faulty}
 use Rattle.made.specs.Made.{tablesOf}
-use Rattle.made.specs.Examples.{header, labelled, raster, book, ring}
+use Rattle.made.specs.Examples.{header, atFirst, placed, labelled, raster, book, ring}
 use Rattle.row.specs.Examples.{computed as computedSought}
 use Rattle.classes.specs.declared.Class.the-variants.{Building}
 use Rattle.classes.specs.Examples.{computed as computedClass}
@@ -31,7 +31,7 @@ computed h count t k = (borderAt h count t k, textAt h count t k)
 -- a row of a kind with so many letters, of a size
 abbrev row : ℕ → ℕ → ℕ → List ℤ
 row kind size letters =
-    pos kind ∷ pos 0 ∷ pos 0 ∷ pos size ∷ pos 0 ∷ pos 0 ∷ pos 0 ∷ pos 0 ∷ pos 0 ∷ pos letters ∷ pos 0 ∷ pos 0 ∷ []
+    pos kind ∷ pos 0 ∷ pos 0 ∷ pos size ∷ pos 0 ∷ pos 0 ∷ pos 0 ∷ pos 0 ∷ pos 0 ∷ pos letters ∷ pos 0 ∷ pos 0 ∷ atFirst
 
 pub said : ℕ → ℕ → ℕ → String → Text
 unfolding computed
@@ -49,7 +49,7 @@ both = (refl, refl)
 
 -- a raster's row and a survey book's are any other row: no border, and neither as a text, whatever their letters
 abbrev rasterSheet : Tables
-rasterSheet = tablesOf (raster 0 0 4 ++ book 0 1 2) (text "77") [] (ring 0 ++ ring 0)
+rasterSheet = tablesOf (raster 0 0 4 ++ placed 1 0 4 (book 0 1 2)) (text "77") [] (ring 0 ++ ring 0)
 
 pub other-rows : (said 6 0 3 "(7)" ≡ record { surface = false; centroid = false }) × (said 7 0 3 "(7)" ≡ record { surface = false; centroid = false })
     × (borderAt (header 1) 2 rasterSheet 0 ≡ Border.Missing) × (borderAt (header 1) 2 rasterSheet 1 ≡ Border.Missing)
@@ -61,7 +61,7 @@ other-rows = (refl, refl, refl, refl, refl)
 
 abbrev sheet : Tables
 sheet =
-    tablesOf (labelled 3 18 ++ (pos 1 ∷ pos 0 ∷ pos 0 ∷ pos 19 ∷ pos 20 ∷ pos 21 ∷ pos 22 ∷ pos 23 ∷ pos 24 ∷ pos 2 ∷ pos 1 ∷ pos 8 ∷ []) ++ labelled 1 0)
+    tablesOf (labelled 3 18 ++ placed 3 0 0 (pos 1 ∷ pos 0 ∷ pos 0 ∷ pos 19 ∷ pos 20 ∷ pos 21 ∷ pos 22 ∷ pos 23 ∷ pos 24 ∷ pos 2 ∷ pos 1 ∷ pos 8 ∷ []) ++ placed 5 1 8 (labelled 1 0))
     (text "(7)8+9") (4 ∷ []) (ring 0 ++ ring 0)
 
 -- the class goes by the row's own letters

@@ -82,7 +82,7 @@ use writer::write;
 pub extern "C" fn cxf_interface() -> usize
     ensures { λ r. ⌜ r ≡ interfaceNumber ⌝ }
 {
-    2
+    3
 }
 
 // Reads a sheet into the tables that are lent.

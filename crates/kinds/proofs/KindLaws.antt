@@ -9,13 +9,13 @@ use lib.Seq.{getD-take, getD-drop}
 use lib.Dec.{leb, ltb, eqb}
 use mir.Syntax.{w64}
 use mir.Val.{Fits}
-use borrow.Author.Tests.{leb-true, ltb-true, ltb-false, ne-eqb}
+use borrow.Author.Tests.{leb-true, leb-false, ltb-true, ltb-false, ne-eqb}
 use Rattle.laws.specs.Lists.{all, below, holds, same, packed, packedAt}
 use Rattle.laws.proofs.Choice.{and-left, and-right, cond-elim}
 use Rattle.laws.proofs.ListLaws.{below-at, values, values-at}
 use Rattle.laws.proofs.Packed.{packed-from, packed-to, packed-is}
 use Rattle.token.specs.Lex.{kindMost}
-use Rattle.kinds.specs.Kinds.{rowWidth, schedule, nextIn, nextOf, fixed, fixedVertices, codes, isListed}
+use Rattle.kinds.specs.Kinds.{ownWidth, schedule, nextIn, nextOf, fixed, fixedVertices, codes, isListed}
 
 -- what holds of 0 and of every place of a list holds of the next place
 next-in : (P : ℕ → Bool) (p : ℕ) (qs : List ℕ) → P 0 ≡ true → all P qs ≡ true → P (nextIn p qs) ≡ true
@@ -65,14 +65,14 @@ most-all = fields-all most11 refl
 -- ---- the code's table of the next fields, and that there are none where it ends
 
 unfoldable pub nextTable : List (List ℕ)
-nextTable = values (λ (kind : ℕ). values (nextOf kind) rowWidth) kinds
+nextTable = values (λ (kind : ℕ). values (nextOf kind) ownWidth) kinds
 
-pub next-at : (kind p n : ℕ) → kind ≤ kindMost → p < rowWidth → n ≡ getD (getD nextTable kind []) p 0 → n ≡ nextOf kind p
+pub next-at : (kind p n : ℕ) → kind ≤ kindMost → p < ownWidth → n ≡ getD (getD nextTable kind []) p 0 → n ≡ nextOf kind p
 unfolding nextTable
 next-at kind p n h k e =
     e
-    ∙ ap (λ (row : List ℕ). getD row p 0) (values-at (λ (kind : ℕ). values (nextOf kind) rowWidth) kinds kind [] (omega arith))
-    ∙ values-at (nextOf kind) rowWidth p 0 k
+    ∙ ap (λ (row : List ℕ). getD row p 0) (values-at (λ (kind : ℕ). values (nextOf kind) ownWidth) kinds kind [] (omega arith))
+    ∙ values-at (nextOf kind) ownWidth p 0 k
 
 pub next-no-kind : (kind p : ℕ) → kindMost < kind → 0 ≡ nextOf kind p
 unfolding nextOf nextIn schedule
@@ -95,6 +95,22 @@ next-no-place kind p h = sym (past p (0 ∷ getD schedule kind []) h (most-all k
 pub fixed-none : (kind : ℕ) → kindMost < kind → 0 ≡ fixedVertices kind
 unfolding fixedVertices fixed
 fixed-none kind h = rw (List·getD-eq-default fixed 0 {n = kind} h)
+
+isFew : ℕ → Bool
+isFew kind = leb (fixedVertices kind) 9999
+
+all-few : below kinds isFew ≡ true
+unfolding below isFew fixedVertices fixed
+all-few = refl
+
+-- they are no more than a record may say
+pub fixed-few : (kind : ℕ) → fixedVertices kind ≤ 9999
+unfolding isFew
+fixed-few kind = go (leb kind kindMost) refl
+  where
+    go : (x : Bool) → leb kind kindMost ≡ x → fixedVertices kind ≤ 9999
+    go true e = leb-true (fixedVertices kind) 9999 (below-at kinds isFew kind all-few (omega (arith, leb-true kind kindMost e)))
+    go false e = omega (arith, fixed-none kind (leb-false kind kindMost e))
 
 -- ---- the code's tables of the listed codes: one list behind the other, and where each begins
 

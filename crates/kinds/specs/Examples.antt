@@ -8,7 +8,7 @@ use Rattle.laws.specs.Lists.{holds}
 use Rattle.token.specs.Lex.{kindMost}
 use Rattle.token.specs.declared.Want.{Want}
 use Rattle.token.specs.declared.Want.the-variants.{Text, Int, Real}
-use Rattle.kinds.specs.Kinds.{codePlace, sizePlace, anglePlace, xPlace, yPlace, x2Place, y2Place, lettersPlace, islandsPlace, verticesPlace, wantAt, schedule, nextIn, nextOf, fixed, fixedVertices, unsaid, codes, isListed}
+use Rattle.kinds.specs.Kinds.{codePlace, sizePlace, anglePlace, xPlace, yPlace, x2Place, y2Place, lettersPlace, islandsPlace, verticesPlace, rowWidth, ownWidth, firstLetterPlace, firstIslandPlace, firstPointPlace, wantAt, schedule, nextIn, nextOf, fixed, fixedVertices, unsaid, codes, isListed}
 
 -- the definitions opened, so that they compute
 unfoldable pub computed : ℕ → ℕ → ℕ × (Want × Bool)
@@ -66,6 +66,10 @@ raster-vertices = (refl, refl, refl)
 rows-of-tables : (length schedule ≡ kindMost + 1) × (length codes ≡ kindMost + 1) × (length fixed ≡ kindMost + 1)
 unfolding computed
 rows-of-tables = (refl, refl, refl)
+
+-- a row's three starts stand behind what its section gives, and fill it
+start-places : (firstLetterPlace ≡ ownWidth) × (firstIslandPlace ≡ firstLetterPlace + 1) × (firstPointPlace ≡ firstIslandPlace + 1) × (rowWidth ≡ firstPointPlace + 1)
+start-places = (refl, refl, refl, refl)
 
 -- letters are text; angle and coordinates are reals; code, size, islands and vertices integers
 wanted : map wantAt (codePlace ∷ sizePlace ∷ anglePlace ∷ xPlace ∷ yPlace ∷ x2Place ∷ y2Place ∷ lettersPlace ∷ islandsPlace ∷ verticesPlace ∷ [])

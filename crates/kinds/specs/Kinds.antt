@@ -1,4 +1,4 @@
--- The sections: document 01's table of the records after each keyword, and its listed codes; T-05's two sections of scanned sheets. Assumes nothing: these are definitions.
+-- The sections: document 01's table of the records after each keyword, and its listed codes; T-05's two sections of scanned sheets; T-07's starts of a row. Assumes nothing: these are definitions.
 -- A kind is a row of each table here, from 1; its index 0 is empty.
 use Prim.Native.Nat.{ℕ}
 use mathlib.Core.List.{List, [], _∷_}
@@ -9,10 +9,14 @@ use Rattle.laws.specs.Lists.{holds}
 use Rattle.token.specs.declared.Want.{Want}
 use Rattle.token.specs.declared.Want.the-variants.{Text, Int, Real}
 
--- ---- a row of 12 numbers, by the place of each
+-- ---- a row of 15 numbers, by the place of each
 
 abbrev pub rowWidth : ℕ
-rowWidth = 12
+rowWidth = 15
+
+-- those that the section itself gives stand before the starts
+abbrev pub ownWidth : ℕ
+ownWidth = 12
 
 abbrev pub codePlace : ℕ
 codePlace = 2
@@ -43,6 +47,16 @@ islandsPlace = 10
 
 abbrev pub verticesPlace : ℕ
 verticesPlace = 11
+
+-- where the row's letters, island counts and points, counted in points, begin, or would begin if it has none
+abbrev pub firstLetterPlace : ℕ
+firstLetterPlace = 12
+
+abbrev pub firstIslandPlace : ℕ
+firstIslandPlace = 13
+
+abbrev pub firstPointPlace : ℕ
+firstPointPlace = 14
 
 -- what the record of a place is read as: angle, x, y and the second x, y are reals
 unfoldable pub wantAt : ℕ → Want

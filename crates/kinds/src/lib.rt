@@ -5,12 +5,19 @@ ghost use mathlib.Core.List.{[]};
 ghost use lib.ListN.{getD};
 ghost use Rattle.laws.specs.Lists.{holds};
 ghost use Rattle.kinds.specs.Kinds.{schedule, nextOf, fixedVertices, isListed, wantAt};
+use token::KINDS;
 use token::Want;
 
-// How many kinds there are.
-const KINDS: usize = 7;
+// A row of a sheet has 15 numbers: 12 that its section gives, and behind them where its letters, its island counts and its points begin.
+pub const ROW_WIDTH: usize = 15;
 
-const PLACES: usize = 12;
+pub const FIRST_LETTER_PLACE: usize = 12;
+
+pub const FIRST_ISLAND_PLACE: usize = 13;
+
+pub const FIRST_POINT_PLACE: usize = 14;
+
+pub const OWN_WIDTH: usize = 12;
 
 // The places of a row that are no integers.
 const ANGLE_PLACE: usize = 4;
@@ -92,8 +99,8 @@ const FIELDS: [u8; 30] = [
 
 const FIELD_STARTS: [usize; 9] = [0, 0, 9, 14, 18, 24, 26, 27, 30];
 
-// By kind, from 0, the place that follows each place of a row in the file; at 0 the first, and 0 after the last.
-const NEXT: [[u8; PLACES]; 8] = [
+// By kind, from 0, the place that follows each of a row's own places in the file; at 0 the first, and 0 after the last.
+const NEXT: [[u8; OWN_WIDTH]; 8] = [
     [0, 0, 0, 0, 0, 0, 0, 0, 0, 0, 0, 0],
     [9, 0, 0, 4, 5, 6, 7, 8, 10, 3, 11, 0],
     [9, 0, 0, 4, 5, 6, 0, 0, 0, 3, 0, 0],
@@ -120,7 +127,7 @@ pub fn next_field(kind: usize, place: usize) -> usize
     if kind > KINDS {
         return 0;
     }
-    if place >= PLACES {
+    if place >= OWN_WIDTH {
         return 0;
     }
     wide(NEXT[kind][place])

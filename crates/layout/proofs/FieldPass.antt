@@ -5,8 +5,8 @@ use mathlib.Core.Path.{_≡_, refl, sym, _∙_, ap, subst}
 use mathlib.Core.List.{List, [], _∷_, _++_, append-nil}
 use mathlib.Core.Bool.{Bool, true, false, cond, not, _&&_, _||_}
 use native.Mathlib.Omega.{arith}
-use lib.ListN.{length, getD, take, set, length-set}
-use lib.Seq.{length-take-le, getD-set-same, getD-set-other}
+use lib.ListN.{length, getD, take, set, length-set, length-append}
+use lib.Seq.{length-take-le, getD-set-same, getD-set-other, set-append-left}
 use lib.Dec.{leb, eqb}
 use lib.IntN.{ℤ, pos, negsuc}
 use lib.Signed.{leZ}
@@ -27,9 +27,9 @@ use Rattle.token.proofs.TokenLaws.{lift-unlift}
 use Rattle.machine.specs.declared.State.{State}
 use Rattle.machine.specs.declared.State.the-variants.{Due, Field, Island, X}
 use Rattle.machine.specs.declared.Step.the-variants.{Go}
-use Rattle.kinds.specs.Kinds.{schedule, nextIn, nextOf, fixedVertices, unsaid, isListed, wantAt}
+use Rattle.kinds.specs.Kinds.{rowWidth, ownWidth, schedule, nextIn, nextOf, fixedVertices, unsaid, isListed, wantAt}
 use Rattle.machine.specs.Machine.{wantOf, freshRing, verticesOf, fieldsEnd, fieldOf, stepOf}
-use Rattle.sheet.specs.Tables.{Tables, cellOf, setLast, put}
+use Rattle.sheet.specs.Tables.{Tables, noStarts, startCells, cellOf, setLast, put}
 use Rattle.sheet.proofs.Pass.{Pass, done}
 use Rattle.made.specs.Made.{cellAt, natOf, countAt, kindOf, lettersOf, sum, fourAtLeast, inRange, hasField, isCell, areLetters, areCounts, isCoded}
 use Rattle.layout.specs.Sheet.{fieldText, fieldsText}
@@ -43,7 +43,7 @@ abbrev cellDue : Tables → List ℕ → ℕ → ℤ
 cellDue t ps q = cond (holds ps q) (pos 0) (cellAt t q)
 
 abbrev pub partly : Tables → List ℕ → Tables
-partly t ps = record { rows = values (cellDue t ps) 12; letters = cond (holds ps 9) [] (lettersOf t); islands = []; points = [] }
+partly t ps = record { rows = values (cellDue t ps) ownWidth ++ startCells noStarts; letters = cond (holds ps 9) [] (lettersOf t); islands = []; points = [] }
 
 -- the islands that a field's state knows
 abbrev pub islandsDue : Tables → List ℕ → ℕ
@@ -265,13 +265,15 @@ module _ (mode : Mode) (t : Tables) (cells : (p : ℕ) → p < 12 → isCell (ki
             getD-set-other (values (cellDue t (p ∷ ps)) 12) p q (cellAt t p) (pos 0) (eqb-false q p e)
             ∙ values-at (cellDue t (p ∷ ps)) 12 q (pos 0) l ∙ rw (holds-there ps p q (eqb-false q p e))
 
-    row-put : setLast (values (cellDue t (p ∷ ps)) 12) p (cellOf (wantAt p) (tokenAt t p)) ≡ values (cellDue t ps) 12
+    row-put : setLast (values (cellDue t (p ∷ ps)) ownWidth ++ startCells noStarts) p (cellOf (wantAt p) (tokenAt t p)) ≡ values (cellDue t ps) ownWidth ++ startCells noStarts
     unfolding setLast
     row-put =
-        let n = values-length (cellDue t (p ∷ ps)) 12 in
-        let i : length (values (cellDue t (p ∷ ps)) 12) - 12 + p ≡ p = omega arith in
+        let old = values (cellDue t (p ∷ ps)) ownWidth in
+        let n = values-length (cellDue t (p ∷ ps)) ownWidth in
+        let i : length (old ++ startCells noStarts) - rowWidth + p ≡ p = omega (arith, n, length-append old (startCells noStarts)) in
         rw (i, token-back (wantAt p) (cellAt t p) (field-in p (h .low) (h .high) (h .has)))
-        (values-are (set (values (cellDue t (p ∷ ps)) 12) p (cellAt t p)) (cellDue t ps) 12 (pos 0) (length-set (values (cellDue t (p ∷ ps)) 12) p (cellAt t p) ∙ n) cell-put)
+        (set-append-left old (startCells noStarts) p (cellAt t p) (omega (arith, n, h .high))
+        ∙ ap (λ (l : List ℤ). l ++ startCells noStarts) (values-are (set old p (cellAt t p)) (cellDue t ps) ownWidth (pos 0) (length-set old p (cellAt t p) ∙ n) cell-put))
 
     letters-put : cond (holds (p ∷ ps) 9) [] (lettersOf t) ++ cond (eqb p 9) (trimmed (fieldText t p (wantAt p))) [] ≡ cond (holds ps 9) [] (lettersOf t)
     unfolding wantAt

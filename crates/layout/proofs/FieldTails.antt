@@ -20,7 +20,7 @@ use Rattle.number.specs.Words.{trimmed}
 use Rattle.number.proofs.WordLaws.{trimmed-first, trimmed-last, trimmed-plain}
 use Rattle.token.specs.declared.Token.the-variants.{Say}
 use Rattle.token.specs.Lex.{lexOf}
-use Rattle.kinds.specs.Kinds.{nextOf, fixedVertices, unsaid, isListed, wantAt}
+use Rattle.kinds.specs.Kinds.{rowWidth, nextOf, fixedVertices, unsaid, isListed, wantAt}
 use Rattle.machine.specs.Machine.{freshRing, verticesOf, fieldsEnd, fieldOf}
 use Rattle.machine.specs.declared.State.the-variants.{Field}
 use Rattle.machine.specs.declared.Step.{Step}
@@ -100,7 +100,7 @@ module _ (mode : Mode) (c e : List ℕ) (t : ℕ) (l : LineEnd mode e) (kind p i
   put-is : put (Field kind p i) t c part ≡ part₁
   unfolding put setLast
   put-is =
-      let z : length (part .rows) - 12 + p ≡ p = omega (arith, k .wide) in
+      let z : length (part .rows) - rowWidth + p ≡ p = omega (arith, k .wide) in
       rw z
 
   abbrev next : ℕ

@@ -20,16 +20,19 @@ use Rattle.token.specs.declared.Token.the-variants.{Say}
 use Rattle.token.specs.declared.Want.the-variants.{Key}
 use Rattle.token.specs.Lex.{kindMost, mayLieOutside, isKey, keyText, lexOf}
 use Rattle.token.proofs.TokenLaws.{key-text, key-only}
-use Rattle.kinds.specs.Kinds.{codePlace, lettersPlace, islandsPlace, verticesPlace, schedule, nextOf, unsaid, isListed}
+use Rattle.kinds.specs.Kinds.{rowWidth, ownWidth, codePlace, lettersPlace, islandsPlace, verticesPlace, firstLetterPlace, firstIslandPlace, firstPointPlace, schedule, nextOf, unsaid, isListed}
 use Rattle.machine.specs.Machine.{keyStep}
 use Rattle.machine.specs.declared.State.the-variants.{Due}
 use Rattle.kinds.proofs.KindLaws.{next-most}
-use Rattle.sheet.specs.Tables.{Tables, empty, _then_, newRow, put}
-use Rattle.sheet.proofs.Okay.{new-at}
+use Rattle.sheet.specs.Tables.{Tables, empty, _then_, noStarts, _plus_, startsOf, startingAt, _followed_, newRow, put}
+use Rattle.sheet.proofs.StartLaws.{new-at, new-starts, length-moved}
 use Rattle.made.specs.declared.Verdict.the-variants.{Fine}
-use Rattle.made.specs.Made.{cellAt, countAt, natOf, kindOf, firstOf, restOf, hasField, isOutside, isCell, cellTest, areNumbers, areLetters, isMade, isCoded, judgeRows, usedOf}
+use Rattle.made.specs.Made.{cellAt, countAt, natOf, kindOf, firstOf, restOf, hasField, isOutside, isCell, cellTest, areNumbers, areLetters, isMade, areStarts, noneBefore, pastRow, isCoded, judgeRows, usedOf}
+use Rattle.made.proofs.UsedLaws.{fine-before}
+use Rattle.made.proofs.StartLaws.{Starting, are-starts, fine-moved, used-moved}
 use Rattle.layout.specs.Sheet.{fieldsText, integersText, realsText, rowText, rowsText}
-use Rattle.layout.proofs.ScheduleLaws.{first-field, field-low}
+use Rattle.layout.proofs.ScheduleLaws.{first-field, field-low, starts-unread}
+use Rattle.layout.proofs.TextLaws.{rows-text-moved}
 use Rattle.layout.proofs.TokenSays.{line-spelt}
 use Rattle.layout.proofs.Tails.{Lettered, Body, Lacking, Begins, FieldsTail, StepTail}
 
@@ -37,16 +40,17 @@ use Rattle.layout.proofs.Tails.{Lettered, Body, Lacking, Begins, Fields
 
 -- a whole section, whatever follows it
 pub record MadeRow (mode : Mode) (now : Tables) (cs : List ℕ) : Type 0 where
-  pub wide : length (now .rows) ≡ 12
+  pub wide : length (now .rows) ≡ rowWidth
   pub letters : length (now .letters) ≡ countAt now lettersPlace
   pub islands : length (now .islands) ≡ countAt now islandsPlace
   pub points : length (now .points) ≡ 2 * countAt now verticesPlace
   pub made : (after : Tables) → isMade (now then after) ≡ true
+  pub starts : Starting noStarts (now .rows)
   pub coded : isCoded mode (kindOf now) (countAt now codePlace) ≡ true
   pub text : mode ≡ Exact → (after : Tables) → rowText (now then after) ≡ cs
 
 -- cells of the first row
-cell-front : (now o : Tables) → length (now .rows) ≡ 12 → (q : ℕ) → q ≤ 11 → cellAt (now then o) q ≡ cellAt now q
+cell-front : (now o : Tables) → length (now .rows) ≡ rowWidth → (q : ℕ) → q < rowWidth → cellAt (now then o) q ≡ cellAt now q
 cell-front now o h q k = List·getD-append (now .rows) (o .rows) (pos 0) q (omega arith)
 
 -- kind and outside are no fields
@@ -77,11 +81,11 @@ key-says t n e =
     }
 
 module _ (mode : Mode) (t : ℕ) (k : SaysKey t) (now : Tables) (cs : List ℕ)
-    (w : FieldsTail mode (t / 2) (getD schedule (t / 2) []) (record { rows = newRow t; letters = []; islands = []; points = [] }) now cs) where
+    (w : FieldsTail mode (t / 2) (getD schedule (t / 2) []) (record { rows = newRow t noStarts; letters = []; islands = []; points = [] }) now cs) where
   abbrev kind : ℕ
   kind = t / 2
 
-  cell-kept : (q : ℕ) → hasField kind q ≡ false → cellAt now q ≡ getD (newRow t) q (pos 0)
+  cell-kept : (q : ℕ) → hasField kind q ≡ false → cellAt now q ≡ getD (newRow t noStarts) q (pos 0)
   unfolding hasField
   cell-kept q h = w .kept q h
 
@@ -92,7 +96,13 @@ module _ (mode : Mode) (t : ℕ) (k : SaysKey t) (now : Tables) (cs : List ℕ)
   outside-now = cell-kept 1 (no-field kind 1 (k .most) (omega arith))
 
   zeros-now : Lacking kind now
-  zeros-now q h l f = cell-kept q f ∙ new-at t q h l
+  zeros-now q h l f = cell-kept q f ∙ new-at t q noStarts h l
+
+  starts-now : Starting noStarts (now .rows)
+  starts-now =
+      let none = starts-unread kind (k .most) in
+      let new = new-starts t noStarts in
+      record { letters = cell-kept firstLetterPlace (none .0) ∙ new .0; islands = cell-kept firstIslandPlace (none .1) ∙ new .1; points = cell-kept firstPointPlace (none .2) ∙ new .2 }
 
   body-now : Body kind now
   body-now = w .body zeros-now
@@ -130,7 +140,7 @@ module _ (mode : Mode) (t : ℕ) (k : SaysKey t) (now : Tables) (cs : List ℕ)
     all-of = now then after
 
     cell-first : (q : ℕ) → q ≤ 11 → cellAt all-of q ≡ cellAt now q
-    cell-first = cell-front now after (w .wide)
+    cell-first q h = cell-front now after (w .wide) q (omega arith)
 
     kind-first : kindOf all-of ≡ kind
     kind-first = ap natOf (cell-first 0 (omega arith) ∙ kind-now)
@@ -150,8 +160,8 @@ module _ (mode : Mode) (t : ℕ) (k : SaysKey t) (now : Tables) (cs : List ℕ)
     numbers-right : areNumbers (all-of .rows) ≡ true
     unfolding areNumbers
     numbers-right =
-        and-both (leb 12 (length (all-of .rows))) (below 12 (cellTest (all-of .rows))) (le-leb 12 (length (all-of .rows)) (omega (arith, w .wide, length-append (now .rows) (after .rows))))
-        (below-all 12 (cellTest (all-of .rows)) (λ q h. rw (kind-first, cell-first q (omega arith)) (cell-right q (omega arith))))
+        and-both (leb rowWidth (length (all-of .rows))) (below ownWidth (cellTest (all-of .rows))) (le-leb rowWidth (length (all-of .rows)) (omega (arith, w .wide, length-append (now .rows) (after .rows))))
+        (below-all ownWidth (cellTest (all-of .rows)) (λ q h. rw (kind-first, cell-first q (omega arith)) (cell-right q (omega arith))))
 
     letters-right : areLetters (countAt now 9) (all-of .letters) ≡ true
     unfolding areLetters
@@ -188,6 +198,7 @@ module _ (mode : Mode) (t : ℕ) (k : SaysKey t) (now : Tables) (cs : List ℕ)
     islands = body-now .islands;
     points = body-now .points;
     made = row-made;
+    starts = starts-now;
     coded = rw kind-now row-coded;
     text = λ m after. row-text after c e l m (f m);
   }
@@ -197,7 +208,7 @@ pub key-tail : (mode : Mode) (c e : List ℕ) (t : ℕ) → LineEnd mode e → l
     → StepTail mode (put Due t c empty) (λ now cs. MadeRow mode now (c ++ (e ++ cs))) (keyStep t)
 unfolding keyStep put
 key-tail mode c e t l says =
-    let Q = StepTail mode (record { rows = newRow t; letters = []; islands = []; points = [] }) (λ now cs. MadeRow mode now (c ++ (e ++ cs))) in
+    let Q = StepTail mode (record { rows = newRow t noStarts; letters = []; islands = []; points = [] }) (λ now cs. MadeRow mode now (c ++ (e ++ cs))) in
     cond-elim Q (eqb t 0) _ _ (λ _. tt)
     (λ z. cond-elim Q (eqb (nextOf (t / 2) 0) 0) _ _ (λ _. tt)
     (λ n.
@@ -210,18 +221,18 @@ key-tail mode c e t l says =
 -- ---- rows, one after the other
 
 pub record MadeRows (mode : Mode) (n : ℕ) (o : Tables) (bs : List ℕ) : Type 0 where
-  pub long : length (o .rows) ≡ 12 * n
-  pub judged : (k : ℕ) → judgeRows mode n k o ≡ Fine
+  pub long : length (o .rows) ≡ rowWidth * n
+  pub judged : judgeRows mode n noneBefore o ≡ Fine
   pub used : usedOf n o ≡ o
   pub text : mode ≡ Exact → rowsText n o ≡ bs
 
 pub no-rows : (mode : Mode) → MadeRows mode 0 empty []
 unfolding judgeRows usedOf rowsText
-no-rows mode = record { long = refl; judged = λ k. refl; used = refl; text = λ m. refl }
+no-rows mode = record { long = refl; judged = refl; used = refl; text = λ m. refl }
 
 -- one section before others
 module _ (mode : Mode) (now o : Tables) (cs : List ℕ) (a : MadeRow mode now cs) where
-  cell-same : (q : ℕ) → q ≤ 11 → cellAt (now then o) q ≡ cellAt now q
+  cell-same : (q : ℕ) → q < rowWidth → cellAt (now then o) q ≡ cellAt now q
   cell-same = cell-front now o (a .wide)
 
   first-row : firstOf (now then o) ≡ now
@@ -230,7 +241,7 @@ module _ (mode : Mode) (now o : Tables) (cs : List ℕ) (a : MadeRow mode now cs
         cell-same 9 (omega arith),
         cell-same 10 (omega arith),
         cell-same 11 (omega arith),
-        take-at (now .rows) (o .rows) 12 (a .wide),
+        take-at (now .rows) (o .rows) rowWidth (a .wide),
         take-at (now .letters) (o .letters) (countAt now 9) (a .letters),
         take-at (now .islands) (o .islands) (countAt now 10) (a .islands),
         take-at (now .points) (o .points) (2 * countAt now 11) (a .points),
@@ -242,17 +253,44 @@ module _ (mode : Mode) (now o : Tables) (cs : List ℕ) (a : MadeRow mode now cs
         cell-same 9 (omega arith),
         cell-same 10 (omega arith),
         cell-same 11 (omega arith),
-        drop-at (now .rows) (o .rows) 12 (a .wide),
+        drop-at (now .rows) (o .rows) rowWidth (a .wide),
         drop-at (now .letters) (o .letters) (countAt now 9) (a .letters),
         drop-at (now .islands) (o .islands) (countAt now 10) (a .islands),
         drop-at (now .points) (o .points) (2 * countAt now 11) (a .points),
       )
 
-  pub one-more : (n : ℕ) (bs : List ℕ) → MadeRows mode n o bs → MadeRows mode (suc n) (now then o) (cs ++ bs)
-  unfolding judgeRows usedOf rowsText
-  one-more n bs w = record {
-    long = omega (arith, length-append (now .rows) (o .rows), a .wide, w .long);
-    judged = λ k. rw (a .made o, other-rows, cell-same 0 (omega arith), cell-same 2 (omega arith), a .coded) (w .judged (k + 1));
-    used = ap₂ (λ (x y : Tables). x then y) first-row (ap (usedOf n) other-rows ∙ w .used);
-    text = λ m. ap₂ (λ (x y : List ℕ). x ++ y) (a .text m o) (ap (rowsText n) other-rows ∙ w .text m);
-  }
+  starts-first : areStarts noStarts ((now then o) .rows) ≡ true
+  starts-first =
+      are-starts noStarts ((now then o) .rows)
+      (record {
+        letters = cell-same firstLetterPlace (omega arith) ∙ a .starts .letters;
+        islands = cell-same firstIslandPlace (omega arith) ∙ a .starts .islands;
+        points = cell-same firstPointPlace (omega arith) ∙ a .starts .points;
+      })
+
+  -- what follows begins where it ends
+  past-first : pastRow noneBefore (now then o) .starts ≡ startsOf now plus noStarts
+  past-first =
+      let l : 0 + countAt (now then o) lettersPlace ≡ length (now .letters) + 0 = omega (arith, ap natOf (cell-same lettersPlace (omega arith)), a .letters) in
+      let i : 0 + countAt (now then o) islandsPlace ≡ length (now .islands) + 0 = omega (arith, ap natOf (cell-same islandsPlace (omega arith)), a .islands) in
+      let p : 0 + countAt (now then o) verticesPlace ≡ length (now .points) / 2 + 0 = omega (arith, ap natOf (cell-same verticesPlace (omega arith)), a .points) in
+      rw (l, i, p)
+
+module _ (mode : Mode) (now o : Tables) (cs : List ℕ) (a : MadeRow mode now cs) where
+  abbrev behind : Tables
+  behind = startingAt (startsOf now) o
+
+  pub one-more : (n : ℕ) (bs : List ℕ) → MadeRows mode n o bs → MadeRows mode (suc n) (now followed o) (cs ++ bs)
+  unfolding usedOf rowsText
+  one-more n bs w =
+      let cell = cell-same mode now behind cs a in
+      let rest : restOf (now followed o) ≡ behind = other-rows mode now behind cs a in
+      record {
+        long = omega (arith, length-append (now .rows) (behind .rows), length-moved (startsOf now) (o .rows), a .wide, w .long);
+        judged = fine-before mode n noneBefore (now followed o) (a .made behind) (starts-first mode now behind cs a) (rw (cell 0 (omega arith), cell 2 (omega arith)) (a .coded))
+            (ap (judgeRows mode n (pastRow noneBefore (now followed o))) rest
+            ∙ fine-moved mode (startsOf now) n noneBefore (pastRow noneBefore (now followed o)) o (past-first mode now behind cs a) (w .judged));
+        used = ap₂ (λ (x y : Tables). x then y) (first-row mode now behind cs a)
+            (ap (usedOf n) rest ∙ used-moved mode (startsOf now) n noneBefore o (w .judged) ∙ ap (startingAt (startsOf now)) (w .used));
+        text = λ m. ap₂ (λ (x y : List ℕ). x ++ y) (a .text m behind) (ap (rowsText n) rest ∙ rows-text-moved (startsOf now) n o ∙ w .text m);
+      }

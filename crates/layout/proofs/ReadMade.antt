@@ -2,7 +2,7 @@
 use mathlib.Core.Path.{_≡_, refl, sym, _∙_}
 use mathlib.Core.List.{List, []}
 use mathlib.Core.Bool.{true}
-use Prim.Native.Nat.{ℕ, _+_, _-_, _*_, _/_, _≤_, _<_}
+use Prim.Native.Nat.{ℕ, _+_, _-_, _*_, _≤_, _<_}
 use native.Mathlib.Omega.{arith}
 use lib.ListN.{length, getD}
 use lib.Signed.{leZ}
@@ -18,11 +18,12 @@ use Rattle.heading.specs.declared.Header.{Header}
 use Rattle.header.specs.Header.{firstWords, isWord, kindSaid, isNamed}
 use Rattle.heading.specs.Heading.{isName, isHeader}
 use Rattle.header.proofs.HeadLaws.{Says, head-view}
-use Rattle.sheet.specs.Tables.{Tables}
+use Rattle.kinds.specs.Kinds.{rowWidth}
+use Rattle.sheet.specs.Tables.{Tables, rowCount}
 use Rattle.sheet.specs.Reading.{sheet, meaning}
 use Rattle.sheet.proofs.Meaning.{meaning-file, file-parts}
 use Rattle.made.specs.declared.Verdict.the-variants.{Fine}
-use Rattle.made.specs.Made.{judgeRows, usedOf}
+use Rattle.made.specs.Made.{noneBefore, judgeRows, usedOf}
 use Rattle.layout.proofs.PassRows.{pass-rows}
 
 -- ---- the header
@@ -56,13 +57,13 @@ header-right mode h c₁ c₂ c₃ s =
 
 -- ---- the rows
 
--- **every reading's result is well made**: its header is right, every row is well made (in exact mode with a listed code), and the
+-- **every reading's result is well made**: its header is right, every row is well made with its starts (in exact mode with a listed code), and the
 -- rows use up the tables with no gaps
 pub reading-made : (mode : Mode) (bs : List ℕ) (h : Header) (o : Tables) → meaning mode bs ≡ sheet h o
-    → (isHeader h ≡ true) × (judgeRows mode (length (o .rows) / 12) 0 o ≡ Fine) × (usedOf (length (o .rows) / 12) o ≡ o) × (length (o .rows) ≡ 12 * (length (o .rows) / 12))
+    → (isHeader h ≡ true) × (judgeRows mode (rowCount o) noneBefore o ≡ Fine) × (usedOf (rowCount o) o ≡ o) × (length (o .rows) ≡ rowWidth * rowCount o)
 reading-made mode bs h o q =
     let f = meaning-file mode bs h o q in
     let v = head-view mode bs h (f .at) (f .head) in
     let (n, m) = pass-rows (file-parts mode bs h o f .0 .pass) in
-    let z : length (o .rows) / 12 ≡ n = omega (arith, m .long) in
-    (header-right mode h (v .c₁) (v .c₂) (v .c₃) (v .says), rw z (m .judged 0), rw z (m .used), omega (arith, m .long))
+    let z : rowCount o ≡ n = omega (arith, m .long) in
+    (header-right mode h (v .c₁) (v .c₂) (v .c₃) (v .says), rw z (m .judged), rw z (m .used), omega (arith, m .long))

@@ -28,7 +28,7 @@ use Rattle.machine.specs.Machine.{wantOf, stepOf, keyStep}
 use Rattle.machine.specs.declared.State.the-variants.{Due, Field}
 use Rattle.machine.specs.declared.Step.{Step}
 use Rattle.machine.specs.declared.Step.the-variants.{Go, No, End}
-use Rattle.sheet.specs.Tables.{Tables}
+use Rattle.sheet.specs.Tables.{Tables, rowCount}
 use Rattle.sheet.specs.Reading.{sheet, meaning}
 use Rattle.sheet.proofs.Pass.{Ended, OneView, one-view}
 use Rattle.sheet.proofs.Meaning.{Parts, meaning-file, file-parts}
@@ -107,9 +107,9 @@ parts-written bs h o n p m =
     rw (head, m .text refl, rest) (sym (p .split))
 
 -- **read then written**: what exact mode accepted is written as its very bytes
-pub read-written : (bs : List ℕ) (h : Header) (o : Tables) → meaning Exact bs ≡ sheet h o → sheetText h (length (o .rows) / 12) o ≡ bs
+pub read-written : (bs : List ℕ) (h : Header) (o : Tables) → meaning Exact bs ≡ sheet h o → sheetText h (rowCount o) o ≡ bs
 read-written bs h o q =
     let p = file-parts Exact bs h o (meaning-file Exact bs h o q) .0 in
     let (n, m) = pass-rows (p .pass) in
-    let z : length (o .rows) / 12 ≡ n = omega (arith, m .long) in
+    let z : rowCount o ≡ n = omega (arith, m .long) in
     rw z (parts-written bs h o n p m)

@@ -11,7 +11,7 @@ use Rattle.laws.specs.Lists.{below, holds, same}
 use Rattle.laws.proofs.Choice.{and-left, and-right, true≢false}
 use Rattle.laws.proofs.ListLaws.{below-at, same-is}
 use Rattle.token.specs.Lex.{kindMost}
-use Rattle.kinds.specs.Kinds.{schedule, nextIn, nextOf, fixed, fixedVertices, unsaid}
+use Rattle.kinds.specs.Kinds.{firstLetterPlace, firstIslandPlace, firstPointPlace, schedule, nextIn, nextOf, fixed, fixedVertices, unsaid}
 use Rattle.made.specs.Made.{hasField}
 
 -- the places from p on
@@ -124,3 +124,20 @@ unfolding below hasField holds schedule ahead fromIn nextOf nextIn same
 first-field kind h n =
     let b = rw (ne-eqb (nextOf kind 0) 0 n) at (below-at (kindMost + 1) firstRule kind refl (omega arith)) in
     (and-left (hasField kind (nextOf kind 0)) _ b, same-is _ _ (and-right (hasField kind (nextOf kind 0)) _ b))
+
+-- no record is read into a start
+noneAtStarts : ℕ → Bool
+noneAtStarts kind = not (hasField kind firstLetterPlace) && not (hasField kind firstIslandPlace) && not (hasField kind firstPointPlace)
+
+pub starts-unread : (kind : ℕ) → kind ≤ kindMost → (hasField kind firstLetterPlace ≡ false) × (hasField kind firstIslandPlace ≡ false) × (hasField kind firstPointPlace ≡ false)
+unfolding noneAtStarts below hasField schedule holds
+starts-unread kind h =
+    let a = not (hasField kind firstLetterPlace) in
+    let b = not (hasField kind firstIslandPlace) in
+    let c = not (hasField kind firstPointPlace) in
+    let e : (a && b && c) ≡ true = below-at (kindMost + 1) noneAtStarts kind refl (omega arith) in
+    (
+      not-true (hasField kind firstLetterPlace) (and-left a b (and-left (a && b) c e)),
+      not-true (hasField kind firstIslandPlace) (and-right a b (and-left (a && b) c e)),
+      not-true (hasField kind firstPointPlace) (and-right (a && b) c e),
+    )

@@ -13,7 +13,7 @@ use Rattle.record.specs.declared.Mode.the-variants.{Exact}
 use Rattle.record.specs.Record.{isLoose, plain}
 use Rattle.number.specs.Words.{blank}
 use Rattle.token.specs.Lex.{kindMost, unlift}
-use Rattle.kinds.specs.Kinds.{codePlace, lettersPlace, islandsPlace, verticesPlace, unsaid, isListed, wantAt}
+use Rattle.kinds.specs.Kinds.{rowWidth, codePlace, lettersPlace, islandsPlace, verticesPlace, unsaid, isListed, wantAt}
 use Rattle.machine.specs.declared.Ring.{Ring}
 use Rattle.machine.specs.declared.State.{State}
 use Rattle.machine.specs.declared.State.the-variants.{Due, Field, Island, X, Y}
@@ -87,7 +87,7 @@ pub record Begins (now o : Tables) : Type 0 where
 
 -- the fields `ps` are read, and the other cells are kept
 pub record FieldsTail (mode : Mode) (kind : ℕ) (ps : List ℕ) (part now : Tables) (cs : List ℕ) : Type 0 where
-  pub wide : length (now .rows) ≡ 12
+  pub wide : length (now .rows) ≡ rowWidth
   pub kept : (p : ℕ) → holds ps p ≡ false → cellAt now p ≡ cellAt part p
   pub ranged : (p : ℕ) → holds ps p ≡ true → inRange (wantAt p) (cellAt now p) ≡ true
   pub noLetters : holds ps lettersPlace ≡ false → now .letters ≡ part .letters
@@ -110,7 +110,7 @@ pub record AtField (kind p i : ℕ) (part : Tables) : Type 0 where
   pub low : kind ≤ kindMost
   pub most : p ≤ 11
   pub field : hasField kind p ≡ true
-  pub wide : length (part .rows) ≡ 12
+  pub wide : length (part .rows) ≡ rowWidth
   pub islands : part .islands ≡ []
   pub points : part .points ≡ []
   pub count : countAt part islandsPlace ≡ i

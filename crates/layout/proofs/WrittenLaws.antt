@@ -39,7 +39,7 @@ use Rattle.sheet.specs.Reading.{sheet, meaning, reading}
 use Rattle.sheet.proofs.Pass.{TailOk, IsEnd}
 use Rattle.sheet.proofs.Meaning.{parts-file, file-meaning, meaning-reading}
 use Rattle.made.specs.declared.Verdict.the-variants.{Fine, BadHeader}
-use Rattle.made.specs.Made.{judgeRows, judgeOf, usedOf}
+use Rattle.made.specs.Made.{noneBefore, judgeRows, judgeOf, usedOf}
 use Rattle.layout.specs.Sheet.{line, rowsText, headerText, sheetText}
 use Rattle.layout.proofs.RowPass.{rows-pass}
 
@@ -155,7 +155,7 @@ header-begins mode h e z =
 pub sheet-meaning : (mode : Mode) (h : Header) (count : ℕ) (t : Tables) → judgeOf mode h count t ≡ Fine → meaning mode (sheetText h count t) ≡ sheet h (usedOf count t)
 unfolding judgeOf sheetText
 sheet-meaning mode h count t e =
-    let j = cond-first (isHeader h) (judgeRows mode count 0 t) BadHeader Fine (λ z. let y : _≡_ {A = ℕ} 0 1 = cc in omega arith) e in
+    let j = cond-first (isHeader h) (judgeRows mode count noneBefore t) BadHeader Fine (λ z. let y : _≡_ {A = ℕ} 0 1 = cc in omega arith) e in
     file-meaning mode (sheetText h count t) h (usedOf count t)
     (parts-file mode (sheetText h count t) h (usedOf count t) (record {
       head = headerText h;
@@ -163,7 +163,7 @@ sheet-meaning mode h count t e =
       rest = line (text "EOF");
       split = refl;
       begins = header-begins mode h (j .0);
-      pass = rows-pass mode count 0 t (j .1);
+      pass = rows-pass mode count t (j .1);
       end = written-end mode;
     }) .0)
 

@@ -11,7 +11,7 @@ use Rattle.header.specs.Header.{firstWords}
 use Rattle.sheet.specs.Tables.{Tables}
 use Rattle.sheet.specs.Examples.{padded, specimenHeader, specimenTables, scanned, scannedHeader, scannedTables}
 use Rattle.made.specs.Made.{tablesOf}
-use Rattle.made.specs.Examples.{header, label, labelled, symbol, border, ring}
+use Rattle.made.specs.Examples.{header, placed, label, labelled, symbol, border, ring}
 use Rattle.layout.specs.Sheet.{fieldsText, integersText, realsText, rowText, rowsText, headerText, sheetText}
 
 -- `sheetText` with every definition opened, so that it computes
@@ -35,7 +35,7 @@ unfolding computed
 inner-blanks = refl
 
 -- an island's count before the points, the outer ring's points before the island's; then the next row
-with-island : rowsText 2 (tablesOf (border 0 1 8 ++ symbol 5) (text "7") (4 ∷ []) (ring 0 ++ ring 0))
+with-island : rowsText 2 (tablesOf (border 0 1 8 ++ placed 1 1 8 (symbol 5)) (text "7") (4 ∷ []) (ring 0 ++ ring 0))
     ≡ text "BORDO\r\n7\r\n  18\r\n       0.000\r\n       0.001\r\n       0.001\r\n       0.001\r\n       0.001\r\n   1\r\n   8\r\n   4\r\n"
     ++ (text "       0.000\r\n       0.000\r\n       0.009\r\n       0.000\r\n       0.009\r\n       0.009\r\n       0.000\r\n       0.000\r\n"
     ++ (text "       0.000\r\n       0.000\r\n       0.009\r\n       0.000\r\n       0.009\r\n       0.009\r\n       0.000\r\n       0.000\r\n"
@@ -49,6 +49,6 @@ unfolding computed specimenTables padded
 specimen = refl
 
 -- so is a scanned sheet: a raster's points follow its letters with no count
-scanned-written : sheetText scannedHeader 2 scannedTables ≡ scanned
+pub scanned-written : sheetText scannedHeader 2 scannedTables ≡ scanned
 unfolding computed scannedTables scanned
 scanned-written = refl

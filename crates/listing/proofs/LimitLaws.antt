@@ -1,7 +1,7 @@
 -- 18 cannot come in the listing: document 01, "Listing program" and "Areas". Assumes nothing.
 -- Of 8,192 bytes at most 1,365 are numbers of points. A border of v vertices adds at most v times 800,000,000,000,000 to any one figure, and
 -- takes 2 v of those numbers, so no figure comes near 9,000,000,000,000,000,000.
-use Prim.Native.Nat.{ℕ, zero, suc, _+_, _-_, _*_, _/_, _≤_}
+use Prim.Native.Nat.{ℕ, zero, suc, _+_, _-_, _*_, _≤_}
 use mathlib.Core.Path.{_≡_, refl}
 use mathlib.Core.List.{List, [], _∷_, _++_}
 use mathlib.Core.Bool.{true, cond}
@@ -13,19 +13,20 @@ use lib.IntN.{ℤ, pos, _+ℤ_}
 use lib.Signed.{leZ}
 use borrow.Author.Tests.{leb-true, le-leb, eqb-true, ne-eqb}
 use Rattle.laws.specs.Lists.{all}
-use Rattle.laws.proofs.Choice.{and-left, and-right, and-both, cond-elim, cond-first}
+use Rattle.laws.proofs.Choice.{and-left, and-right, and-both, cond-elim}
 use Rattle.laws.proofs.Parts.{num, ints, le-true}
 use Rattle.laws.proofs.Parts as Parts
 use Rattle.record.specs.declared.Mode.the-variants.{Loose}
 use Rattle.record.specs.Refusals.{tooWide}
 use Rattle.heading.specs.declared.Header.{Header}
-use Rattle.kinds.specs.Kinds.{codePlace, islandsPlace, verticesPlace}
-use Rattle.sheet.specs.Tables.{Tables}
+use Rattle.kinds.specs.Kinds.{islandsPlace, verticesPlace}
+use Rattle.sheet.specs.Tables.{Tables, rowCount}
 use Rattle.sheet.specs.Reading.{sheet, reading}
 use Rattle.sheet.proofs.Meaning.{reading-meaning}
 use Rattle.reader.proofs.Bytes.{tables-most}
-use Rattle.made.specs.declared.Verdict.the-variants.{Fine, Faulty, Unlisted}
-use Rattle.made.specs.Made.{countAt, kindOf, islandsOf, restOf, sum, fourAtLeast, isMade, isCoded, judgeRows, judgeOf}
+use Rattle.made.specs.declared.Verdict.the-variants.{Fine}
+use Rattle.made.specs.Made.{countAt, kindOf, islandsOf, restOf, sum, fourAtLeast, isMade, Before, noneBefore, pastRow, judgeRows, judgeOf}
+use Rattle.made.proofs.UsedLaws.{fine-on}
 use Rattle.made.proofs.RowWays.{made-held, made-counted}
 use Rattle.plane.specs.declared.Area.{Area}
 use Rattle.plane.specs.declared.Area.the-variants as Area
@@ -45,7 +46,7 @@ use Rattle.tally.specs.declared.Taken.{Taken}
 use Rattle.tally.specs.Tally.{limit, isFigure, isTally, emptyTally, plus, figuresOf, withFigures, addOf}
 use Rattle.tally.specs.Take.{takenWith, bordersAreas, afterAdded, afterAreas, borderTaken, rowTaken, isNone, tallyRows, tallyOf, numberOf, rowOf}
 use Rattle.listing.specs.Listing.{refusedLine, talliedText, sheetListing, inputMost, listingOf}
-use Rattle.listing.proofs.Sound.{OnlyFull, read-tallied, no-faulty, no-unlisted}
+use Rattle.listing.proofs.Sound.{OnlyFull, read-tallied}
 
 -- ---- figures from 0 to c
 
@@ -165,31 +166,28 @@ module _ (h : Header) (k : ℕ) (t : Tables) (a : Tally) (made : isMade t ≡ tr
   row-kept =
       cond-elim (Kept (c + d)) (isBorder t) (borderTaken h k t a) (takenWith a Refusal.None) border-kept (λ _. (tt, up-to-le c (c + d) (a .figures) (omega arith) u))
 
-rows-kept : (h : Header) (n j k : ℕ) (t : Tables) (a : Tally) (c : ℕ) → judgeRows Loose n j t ≡ Fine → UpTo c (a .figures) → 2 * c + length (t .points) * edge-limit ≤ 2 * limit
+rows-kept : (h : Header) (n k : ℕ) (b : Before) (t : Tables) (a : Tally) (c : ℕ) → judgeRows Loose n b t ≡ Fine → UpTo c (a .figures) → 2 * c + length (t .points) * edge-limit ≤ 2 * limit
     → NotFull (tallyRows h n k t a .refusal)
-unfolding judgeRows tallyRows
-rows-kept h zero j k t a c e u room = tt
-rows-kept h (suc n) j k t a c e u room =
-    let coded = isCoded Loose (kindOf t) (countAt t codePlace) in
-    let m = cond-first (isMade t) (cond coded (judgeRows Loose n (j + 1) (restOf t)) (Unlisted j)) (Faulty j) Fine (no-faulty j) e in
-    let r = cond-first coded (judgeRows Loose n (j + 1) (restOf t)) (Unlisted j) Fine (no-unlisted j) (m .1) in
+unfolding tallyRows
+rows-kept h zero k b t a c e u room = tt
+rows-kept h (suc n) k b t a c e u room =
+    let m = fine-on Loose n b t e in
     let v = countAt t verticesPlace in
     let p = made-held t (m .0) .points in
     let x = row-kept h k t a (m .0) c u (omega arith) in
     cond-elim (λ (y : Taken). NotFull (y .refusal)) (isNone (rowTaken h k t a .refusal)) _ _
-    (λ _. rows-kept h n (j + 1) (k + 1) (restOf t) (rowTaken h k t a .tally) (c + v * edge-limit) (r .1) (x .1) (omega (arith, length-drop (2 * v) (t .points))))
+    (λ _. rows-kept h n (k + 1) (pastRow b t) (restOf t) (rowTaken h k t a .tally) (c + v * edge-limit) (m .1) (x .1) (omega (arith, length-drop (2 * v) (t .points))))
     (λ _. x .0)
 
 -- **18 cannot come in the listing**: a file of at most 8,192 bytes that is read, and whose tally is refused, is refused by 17
 pub listing-wide : (bs : List ℕ) (h : Header) (o : Tables) → length bs ≤ inputMost → reading Loose bs ≡ sheet h o
-    → (numberOf (tallyOf h (length (o .rows) / 12) o .refusal) ≡ 0 → ⊥) → numberOf (tallyOf h (length (o .rows) / 12) o .refusal) ≡ tooWide
+    → (numberOf (tallyOf h (rowCount o) o .refusal) ≡ 0 → ⊥) → numberOf (tallyOf h (rowCount o) o .refusal) ≡ tooWide
 unfolding tallyOf judgeOf
 listing-wide bs h o l q =
     let m = reading-made Loose bs h o (reading-meaning Loose bs h o q .1) in
-    let v : judgeOf Loose h (length (o .rows) / 12) o ≡ Fine = rw (m .0, m .1) in
-    let n = length (o .rows) / 12 in
-    only (tallyOf h n o .refusal) (read-tallied bs h o q .1)
-    (rw v (rows-kept h n 0 0 o emptyTally 0 (m .1) (up-to-zeros 0 24) (omega (arith, tables-most Loose bs h o q))))
+    let v : judgeOf Loose h (rowCount o) o ≡ Fine = rw (m .0, m .1) in
+    only (tallyOf h (rowCount o) o .refusal) (read-tallied bs h o q .1)
+    (rw v (rows-kept h (rowCount o) 0 noneBefore o emptyTally 0 (m .1) (up-to-zeros 0 24) (omega (arith, tables-most Loose bs h o q))))
   where
     only : (r : Refusal) → OnlyFull r → NotFull r → (numberOf r ≡ 0 → ⊥) → numberOf r ≡ tooWide
     only Refusal.None f g z = absurd (z refl)
@@ -200,7 +198,7 @@ listing-wide bs h o l q =
 
 -- and that is what it prints: the row, 0 and 0
 pub listing-refused : (bs : List ℕ) (h : Header) (o : Tables) → length bs ≤ inputMost → reading Loose bs ≡ sheet h o
-    → (numberOf (tallyOf h (length (o .rows) / 12) o .refusal) ≡ 0 → ⊥) → listingOf bs ≡ refusedLine tooWide (rowOf (tallyOf h (length (o .rows) / 12) o .refusal)) 0 0
+    → (numberOf (tallyOf h (rowCount o) o .refusal) ≡ 0 → ⊥) → listingOf bs ≡ refusedLine tooWide (rowOf (tallyOf h (rowCount o) o .refusal)) 0 0
 unfolding listingOf sheetListing talliedText
 listing-refused bs h o l q z =
-    rw (le-leb (length bs) inputMost l, q, ne-eqb (numberOf (tallyOf h (length (o .rows) / 12) o .refusal)) 0 z, listing-wide bs h o l q z)
+    rw (le-leb (length bs) inputMost l, q, ne-eqb (numberOf (tallyOf h (rowCount o) o .refusal)) 0 z, listing-wide bs h o l q z)

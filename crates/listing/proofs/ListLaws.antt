@@ -1,5 +1,5 @@
 -- No listing is longer than the array that holds it, and what is written lies in the buffer. Assumes nothing.
-use Prim.Native.Nat.{ℕ, _+_, _*_, _/_, _≤_}
+use Prim.Native.Nat.{ℕ, _+_, _*_, _≤_}
 use mathlib.Core.Path.{_≡_, refl, sym, _∙_, ap}
 use mathlib.Core.List.{List, [], _∷_, _++_}
 use mathlib.Core.Bool.{Bool, true, false, cond, not, _&&_, _||_}
@@ -18,7 +18,7 @@ use Rattle.spelling.specs.Spelling.{countText}
 use Rattle.spelling.proofs.DigitLaws.{digits-most}
 use Rattle.heading.specs.declared.Header.{Header}
 use Rattle.heading.specs.Heading.{nameByte, isName, isHeader}
-use Rattle.sheet.specs.Tables.{Tables}
+use Rattle.sheet.specs.Tables.{Tables, rowCount}
 use Rattle.sheet.specs.Reading.{Reading, sheet, refused, reading}
 use Rattle.sheet.proofs.Meaning.{reading-meaning}
 use Rattle.made.specs.Made.{natOf}
@@ -141,7 +141,7 @@ pub read-most : (bs : List ℕ) → length (readText (readingColumn Loose bs) (r
 read-most bs = by (reading Loose bs) refl
   where
     by : (x : Reading) → reading Loose bs ≡ x → length (readText (readingColumn Loose bs) x) ≤ textMost
-    by (sheet h o) q = sheet-most h (length (o .rows) / 12) o (name-long bs h o q)
+    by (sheet h o) q = sheet-most h (rowCount o) o (name-long bs h o q)
     by (refused m k at) q = refused-most m k at (readingColumn Loose bs)
 
 -- **no listing is longer than 640 bytes**

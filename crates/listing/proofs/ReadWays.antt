@@ -11,6 +11,7 @@ use borrow.Author.Tests.{le-leb, lt-leb, eq-eqb, ne-eqb}
 use Rattle.laws.specs.Lists.{over}
 use Rattle.record.specs.declared.Mode.the-variants.{Loose}
 use Rattle.heading.specs.declared.Header.{Header}
+use Rattle.kinds.specs.Kinds.{rowWidth}
 use Rattle.sheet.specs.Tables.{Tables}
 use Rattle.sheet.specs.Reading.{Reading, sheet, refused, reading}
 use Rattle.reader.specs.declared.Needs.{Needs}
@@ -61,7 +62,7 @@ module _ (h : Header) (count : ℕ) (o : Tables) (t : Taken) (e : t ≡ tallyOf 
 -- ---- the used part of the tables
 
 pub used-is : (h : Header) (a : Needs) (rows : List ℤ) (letters islands : List ℕ) (points : List ℤ)
-    → sheetListing h (a .rows) (tablesOf (take (12 * a .rows) rows) (take (a .letters) letters) (take (a .islands) islands) (take (2 * a .points) points))
+    → sheetListing h (a .rows) (tablesOf (take (rowWidth * a .rows) rows) (take (a .letters) letters) (take (a .islands) islands) (take (2 * a .points) points))
     ≡ sheetListing h (a .rows) (usedPart a (tablesOf rows letters islands points))
 used-is h a rows letters islands points = refl
 
@@ -77,9 +78,9 @@ written-read {ℓ} : {A : Type ℓ} (b : Answer) (a : Needs) → b ≡ Answer.Re
 written-read b a e f t l w = rw (e, f) at w
 
 -- the tables that the code has
-pub enough-tables : Enough inputMost (roomsOf (length (replicate 16380 (pos 0))) (length (replicate {A = ℕ} 8192 0)) (length (replicate {A = ℕ} 4096 0)) (length (replicate 1365 (pos 0))))
+pub enough-tables : Enough inputMost (roomsOf (length (replicate 4380 (pos 0))) (length (replicate {A = ℕ} 8192 0)) (length (replicate {A = ℕ} 4096 0)) (length (replicate 1365 (pos 0))))
 enough-tables =
-    let a : length (replicate 16380 (pos 0)) ≡ 16380 = length-replicate 16380 (pos 0) in
+    let a : length (replicate 4380 (pos 0)) ≡ 4380 = length-replicate 4380 (pos 0) in
     let b : length (replicate {A = ℕ} 8192 0) ≡ 8192 = length-replicate {A = ℕ} 8192 0 in
     let c : length (replicate {A = ℕ} 4096 0) ≡ 4096 = length-replicate {A = ℕ} 4096 0 in
     let d : length (replicate 1365 (pos 0)) ≡ 1365 = length-replicate 1365 (pos 0) in
@@ -136,8 +137,8 @@ module _ (bs : List ℕ) (r : Rooms) (short : length bs ≤ inputMost) (enough :
       counts : a ≡ needsOf o
       counts = told-by (Answer.Read a) q .2
 
-      whole-rows : 12 * a .rows ≡ length (o .rows)
-      whole-rows = ap (λ (y : Needs). 12 * y .rows) counts ∙ sym (tables-whole Loose bs (x .header) o sound .0)
+      whole-rows : rowWidth * a .rows ≡ length (o .rows)
+      whole-rows = ap (λ (y : Needs). rowWidth * y .rows) counts ∙ sym (tables-whole Loose bs (x .header) o sound .0)
 
       whole-points : 2 * a .points ≡ length (o .points)
       whole-points = ap (λ (y : Needs). 2 * y .points) counts ∙ sym (tables-whole Loose bs (x .header) o sound .1)
@@ -163,7 +164,7 @@ module _ (bs : List ℕ) (r : Rooms) (short : length bs ≤ inputMost) (enough :
       pub read-fits : UsedFits a (length rows) (length letters) (length islands) (length points)
       read-fits =
           record {
-            rows-in = part-in (o .rows) rows₀ rows rows-are (12 * a .rows) whole-rows;
+            rows-in = part-in (o .rows) rows₀ rows rows-are (rowWidth * a .rows) whole-rows;
             letters-in = part-in (o .letters) letters₀ letters letters-are (a .letters) letters-count;
             islands-in = part-in (o .islands) islands₀ islands islands-are (a .islands) islands-count;
             points-in = part-in (o .points) points₀ points points-are (2 * a .points) whole-points;
@@ -172,7 +173,7 @@ module _ (bs : List ℕ) (r : Rooms) (short : length bs ≤ inputMost) (enough :
       used-whole : usedPart a (tablesOf rows letters islands points) ≡ o
       used-whole =
           rw (
-            part-is (o .rows) rows₀ rows rows-are (12 * a .rows) whole-rows,
+            part-is (o .rows) rows₀ rows rows-are (rowWidth * a .rows) whole-rows,
             part-is (o .letters) letters₀ letters letters-are (a .letters) letters-count,
             part-is (o .islands) islands₀ islands islands-are (a .islands) islands-count,
             part-is (o .points) points₀ points points-are (2 * a .points) whole-points,

@@ -1,21 +1,19 @@
 -- What the tally can say of a file that is read: it refuses by 17 or 18 alone, and no figure is below 0. Assumes nothing.
-use Prim.Native.Nat.{ℕ, zero, suc, _+_, _/_}
+use Prim.Native.Nat.{ℕ, zero, suc, _+_}
 use mathlib.Core.Path.{_≡_, refl}
 use mathlib.Core.List.{List}
 use mathlib.Core.Bool.{true, cond, _&&_}
-use native.Mathlib.Omega.{arith}
-use lib.ListN.{length}
 use lib.IntN.{ℤ}
 use borrow.Author.Tests.{eqb-true}
-use Rattle.laws.proofs.Choice.{and-right, cond-elim, cond-first}
+use Rattle.laws.proofs.Choice.{and-right, cond-elim}
 use Rattle.record.specs.declared.Mode.the-variants.{Loose}
 use Rattle.heading.specs.declared.Header.{Header}
-use Rattle.kinds.specs.Kinds.{codePlace}
-use Rattle.sheet.specs.Tables.{Tables}
+use Rattle.sheet.specs.Tables.{Tables, rowCount}
 use Rattle.sheet.specs.Reading.{sheet, reading}
 use Rattle.sheet.proofs.Meaning.{reading-meaning}
-use Rattle.made.specs.declared.Verdict.the-variants.{Fine, Faulty, Unlisted}
-use Rattle.made.specs.Made.{countAt, kindOf, restOf, isMade, isCoded, judgeRows, judgeOf}
+use Rattle.made.specs.declared.Verdict.the-variants.{Fine}
+use Rattle.made.specs.Made.{kindOf, restOf, isMade, Before, noneBefore, pastRow, judgeRows, judgeOf}
+use Rattle.made.proofs.UsedLaws.{fine-on}
 use Rattle.border.specs.Borders.{isBorder, borderOf}
 use Rattle.area.specs.declared.Areas.{Areas}
 use Rattle.area.specs.declared.Areas.the-variants as Areas
@@ -73,27 +71,19 @@ module _ (h : Header) (k : ℕ) (t : Tables) (a : Tally) (made : isMade t ≡ tr
   unfolding rowTaken
   row-fair = cond-elim Fair (isBorder t) (borderTaken h k t a) (takenWith a Refusal.None) (λ e. border-fair e) (λ _. (f, tt))
 
-pub no-faulty : (k : ℕ) → Faulty k ≡ Fine → ⊥
-no-faulty k e = let z : _≡_ {A = ℕ} 0 1 = cc in omega arith
-
-pub no-unlisted : (k : ℕ) → Unlisted k ≡ Fine → ⊥
-no-unlisted k e = let z : _≡_ {A = ℕ} 0 1 = cc in omega arith
-
-rows-fair : (h : Header) (n j k : ℕ) (t : Tables) (a : Tally) → judgeRows Loose n j t ≡ Fine → isTally (a .figures) ≡ true → Fair (tallyRows h n k t a)
-unfolding judgeRows tallyRows
-rows-fair h zero j k t a e f = (f, tt)
-rows-fair h (suc n) j k t a e f =
-    let coded = isCoded Loose (kindOf t) (countAt t codePlace) in
-    let m = cond-first (isMade t) (cond coded (judgeRows Loose n (j + 1) (restOf t)) (Unlisted j)) (Faulty j) Fine (no-faulty j) e in
-    let r = cond-first coded (judgeRows Loose n (j + 1) (restOf t)) (Unlisted j) Fine (no-unlisted j) (m .1) in
+rows-fair : (h : Header) (n k : ℕ) (b : Before) (t : Tables) (a : Tally) → judgeRows Loose n b t ≡ Fine → isTally (a .figures) ≡ true → Fair (tallyRows h n k t a)
+unfolding tallyRows
+rows-fair h zero k b t a e f = (f, tt)
+rows-fair h (suc n) k b t a e f =
+    let m = fine-on Loose n b t e in
     let x = row-fair h k t a (m .0) f in
-    cond-elim Fair (isNone (rowTaken h k t a .refusal)) _ _ (λ _. rows-fair h n (j + 1) (k + 1) (restOf t) (rowTaken h k t a .tally) (r .1) (x .0)) (λ _. (none-figured, x .1))
+    cond-elim Fair (isNone (rowTaken h k t a .refusal)) _ _ (λ _. rows-fair h n (k + 1) (pastRow b t) (restOf t) (rowTaken h k t a .tally) (m .1) (x .0)) (λ _. (none-figured, x .1))
 
 -- **a file that is read is refused by 17 or 18 alone, and no figure of its tally is below 0**
 pub read-tallied : (bs : List ℕ) (h : Header) (o : Tables) → reading Loose bs ≡ sheet h o
-    → (isTally (tallyOf h (length (o .rows) / 12) o .tally .figures) ≡ true) × OnlyFull (tallyOf h (length (o .rows) / 12) o .refusal)
+    → (isTally (tallyOf h (rowCount o) o .tally .figures) ≡ true) × OnlyFull (tallyOf h (rowCount o) o .refusal)
 unfolding tallyOf judgeOf
 read-tallied bs h o q =
     let m = reading-made Loose bs h o (reading-meaning Loose bs h o q .1) in
-    let v : judgeOf Loose h (length (o .rows) / 12) o ≡ Fine = rw (m .0, m .1) in
-    rw v (rows-fair h (length (o .rows) / 12) 0 0 o emptyTally (m .1) none-figured)
+    let v : judgeOf Loose h (rowCount o) o ≡ Fine = rw (m .0, m .1) in
+    rw v (rows-fair h (rowCount o) 0 noneBefore o emptyTally (m .1) none-figured)

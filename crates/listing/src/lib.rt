@@ -13,6 +13,7 @@ ghost use Rattle.reader.specs.Columns.{readingColumn};
 ghost use Rattle.reader.specs.Exit.{usedPart};
 ghost use Rattle.listing.specs.Listed.{listedOf, listedIn, textMost, UsedFits};
 use heading::Header;
+use kinds::ROW_WIDTH;
 use made::count_at;
 use reader::Answer;
 use reader::Needs;
@@ -35,16 +36,14 @@ pub const INPUT_MOST: usize = 8192;
 // No listing is longer.
 pub const TEXT_MOST: usize = 640;
 
-// Tables for any input: a row takes 6 bytes of it at least, a letter one, an island count two, each number of a point six.
-const ROWS_ROOM: usize = 16380;
+// Tables for any input: a row takes 28 bytes of it at least, a letter one, an island count two, each number of a point six.
+const ROWS_ROOM: usize = 4380;
 
 const LETTERS_ROOM: usize = 8192;
 
 const ISLANDS_ROOM: usize = 4096;
 
 const POINTS_ROOM: usize = 1365;
-
-const ROW_WIDTH: usize = 12;
 
 const CLASS_FIGURES: usize = 4;
 

@@ -5,4 +5,5 @@ pub mod TableWays
 pub mod RowWays
 pub mod OwnLaws
 pub mod UsedLaws
+pub mod StartLaws
 pub mod JudgeWays

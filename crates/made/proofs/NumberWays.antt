@@ -22,8 +22,8 @@ use Rattle.number.specs.Number.{isReal}
 use Rattle.token.specs.declared.Want.{Want}
 use Rattle.token.specs.declared.Want.the-variants.{Key, Text, Int, Real}
 use Rattle.token.specs.Lex.{kindMost, mayLieOutside}
-use Rattle.kinds.specs.Kinds.{rowWidth, verticesPlace, fixedVertices, unsaid, wantAt}
-use Rattle.made.specs.Made.{natOf, isBetween, inRange, hasField, isOutside, isCell, isCellAt, cellTest, areNumbers}
+use Rattle.kinds.specs.Kinds.{rowWidth, ownWidth, verticesPlace, fixedVertices, unsaid, wantAt}
+use Rattle.made.specs.Made.{natOf, isBetween, inRange, hasField, isOutside, isCell, isCellAt, cellTest, areNumbers, areStarts, startsAt}
 
 -- a signed number in a local
 abbrev bits : ℤ → ℤ
@@ -194,8 +194,8 @@ pub ruleset cell-ways = (cell-kind, cell-outside, cell-field, cell-unsaid)
 
 -- ---- the numbers of a row of a kind
 
-module _ (kind p : ℕ) (rows : List ℤ) (q : below rowWidth (isCellAt kind rows) ≡ below p (isCellAt kind rows)) where
-  pub cells-over : p ≤ 0 → true ≡ below rowWidth (isCellAt kind rows)
+module _ (kind p : ℕ) (rows : List ℤ) (q : below ownWidth (isCellAt kind rows) ≡ below p (isCellAt kind rows)) where
+  pub cells-over : p ≤ 0 → true ≡ below ownWidth (isCellAt kind rows)
   unfolding below
   cells-over h =
       let z : p ≡ 0 = omega arith in
@@ -205,10 +205,10 @@ module _ (kind p : ℕ) (rows : List ℤ) (q : below rowWidth (isCellAt kind row
     here : r ≡ isCellAt kind rows (p - 1)
     here = rw (back (getD rows (p - 1) (pos 0)) m) at e
 
-    pub cells-step : not r ≡ false → below rowWidth (isCellAt kind rows) ≡ below (p - 1) (isCellAt kind rows)
+    pub cells-step : not r ≡ false → below ownWidth (isCellAt kind rows) ≡ below (p - 1) (isCellAt kind rows)
     cells-step t = q ∙ below-on p (isCellAt kind rows) h ∙ rw (← here, not-false r t)
 
-    pub cells-stop : not r ≡ true → false ≡ below rowWidth (isCellAt kind rows)
+    pub cells-stop : not r ≡ true → false ≡ below ownWidth (isCellAt kind rows)
     cells-stop t = sym (q ∙ below-on p (isCellAt kind rows) h ∙ rw (← here, not-true r t))
 
 pub ruleset cells-ways = (cells-over, cells-step, cells-stop)
@@ -226,7 +226,7 @@ module _ (rows : List ℤ) where
   numbers-short h = rw (lt-leb rowWidth (length rows) h)
 
   module _ (l : rowWidth ≤ length rows) (k : ℕ) (e : k ≡ natOf (getD rows 0 (pos 0))) where
-    pub numbers-kind : (kind : ℕ) → k ≡ kind → (r : Bool) → r ≡ below rowWidth (isCellAt kind rows) → r ≡ areNumbers rows
+    pub numbers-kind : (kind : ℕ) → k ≡ kind → (r : Bool) → r ≡ below ownWidth (isCellAt kind rows) → r ≡ areNumbers rows
     unfolding areNumbers below
     numbers-kind kind f r q = rw (le-leb rowWidth (length rows) l, ← e, f) q
 
@@ -237,7 +237,7 @@ module _ (rows : List ℤ) where
         go : (t : Bool) → areNumbers rows ≡ t → false ≡ t
         go true q =
             let h =
-            kind-in (getD rows 0 (pos 0)) (below-at rowWidth (cellTest rows) 0 (and-right (leb rowWidth (length rows)) (below rowWidth (cellTest rows)) q) (omega arith)) in
+            kind-in (getD rows 0 (pos 0)) (below-at ownWidth (cellTest rows) 0 (and-right (leb rowWidth (length rows)) (below ownWidth (cellTest rows)) q) (omega arith)) in
             absurd (n (omega (arith, h .0), omega (arith, h .1)))
         go false q = refl
 
@@ -248,3 +248,55 @@ module _ (rows : List ℤ) where
     numbers-past h = no-kind (λ (l, m). omega arith)
 
 pub ruleset number-ways = (numbers-short, numbers-kind, numbers-none, numbers-past)
+
+-- ---- the starts of the first row
+
+module _ (z : ℤ) (f : SFits w64 z) (n : ℕ) where
+  pub count-below : ltZ (bits z) (pos 0) ≡ true → false ≡ eqZ z (pos n)
+  count-below t = go z (rw (toZ-ofZ f) at t)
+    where
+      go : (y : ℤ) → ltZ y (pos 0) ≡ true → false ≡ eqZ y (pos n)
+      go (pos m) e = absurd (omega (arith, ltb-true m 0 e))
+      go (negsuc m) e = refl
+
+  module _ (t : ltZ (bits z) (pos 0) ≡ false) where
+    by-size : eqZ z (pos n) ≡ eqb (natAbs (bits z)) n
+    by-size = rw (toZ-ofZ f) (go z (rw (toZ-ofZ f) at t))
+      where
+        go : (y : ℤ) → ltZ y (pos 0) ≡ false → eqZ y (pos n) ≡ eqb (natAbs y) n
+        go (pos m) e = refl
+        go (negsuc m) e = absurd (true≢false e)
+
+    pub count-same : natAbs (bits z) ≡ n → true ≡ eqZ z (pos n)
+    count-same e = sym (by-size ∙ eq-eqb (natAbs (bits z)) n e)
+
+    pub count-other : (natAbs (bits z) ≡ n → ⊥) → false ≡ eqZ z (pos n)
+    count-other e = sym (by-size ∙ ne-eqb (natAbs (bits z)) n e)
+
+pub ruleset is-count-ways = (count-below, count-same, count-other)
+
+module _ (l i p : ℕ) (rows : List ℤ) where
+  abbrev cell : ℕ → ℤ
+  cell place = getD rows place (pos 0)
+
+  module _ (m : mag (cell 12) < 2 ^ 63) (a : Bool) (e : a ≡ eqZ (bits (cell 12)) (pos l)) where
+    first-is : a ≡ eqZ (cell 12) (pos l)
+    first-is = rw (back (cell 12) m) at e
+
+    pub starts-letters : not a ≡ true → false ≡ areStarts (startsAt l i p) rows
+    unfolding areStarts
+    starts-letters t = rw (← first-is, not-true a t)
+
+    module _ (t : not a ≡ false) (n : mag (cell 13) < 2 ^ 63) (b : Bool) (f : b ≡ eqZ (bits (cell 13)) (pos i)) where
+      second-is : b ≡ eqZ (cell 13) (pos i)
+      second-is = rw (back (cell 13) n) at f
+
+      pub starts-islands : not b ≡ true → false ≡ areStarts (startsAt l i p) rows
+      unfolding areStarts
+      starts-islands u = rw (← first-is, not-false a t, ← second-is, not-true b u)
+
+      pub starts-points : not b ≡ false → mag (cell 14) < 2 ^ 63 → (r : Bool) → r ≡ eqZ (bits (cell 14)) (pos p) → r ≡ areStarts (startsAt l i p) rows
+      unfolding areStarts
+      starts-points u o r q = rw (← first-is, not-false a t, ← second-is, not-false b u) (rw (back (cell 14) o) at q)
+
+pub ruleset starts-ways = (starts-letters, starts-islands, starts-points)

@@ -14,9 +14,9 @@ use Rattle.laws.specs.Lists.{below}
 use Rattle.laws.specs.Whole.{eqZ}
 use Rattle.laws.proofs.Choice.{and-both}
 use Rattle.laws.proofs.Bits.{eqZ-yes}
-use Rattle.kinds.specs.Kinds.{rowWidth, lettersPlace, islandsPlace, verticesPlace}
-use Rattle.sheet.specs.Tables.{Tables, _then_}
-use Rattle.made.specs.Made.{tablesOf, cellAt, countAt, kindOf, lettersOf, islandsOf, pointsOf, firstOf, restOf, cellTest, areNumbers, areLetters, areCounts, sum, isClosed, areClosed, ringSizes, arePoints, isMade}
+use Rattle.kinds.specs.Kinds.{rowWidth, ownWidth, lettersPlace, islandsPlace, verticesPlace, firstLetterPlace, firstIslandPlace, firstPointPlace}
+use Rattle.sheet.specs.Tables.{Tables, Starts, _then_}
+use Rattle.made.specs.Made.{tablesOf, cellAt, countAt, kindOf, lettersOf, islandsOf, pointsOf, firstOf, ownOf, restOf, cellTest, areNumbers, areLetters, areCounts, sum, isClosed, areClosed, ringSizes, arePoints, isMade, areStarts}
 use Rattle.made.proofs.RowWays.{Held, border-outer}
 
 -- ---- the front of a list
@@ -107,6 +107,12 @@ guard true true p q f = f refl
 guard true false p q f = refl
 guard false c p q f = refl
 
+-- the tests of a row, by its own part, where it is held
+abbrev madeBy : Bool → Tables → Bool
+madeBy held o =
+    held && below ownWidth (cellTest (o .rows)) && areLetters (countAt o lettersPlace) (o .letters) && areCounts (kindOf o) (countAt o islandsPlace) (countAt o verticesPlace) (o .islands)
+    && arePoints (kindOf o) (countAt o verticesPlace) (o .islands) (o .points)
+
 module _ (t : Tables) where
   pub first-first : firstOf (firstOf t) ≡ firstOf t
   first-first =
@@ -115,59 +121,82 @@ module _ (t : Tables) where
   pub cell-first : (k : ℕ) → k < rowWidth → cellAt (firstOf t) k ≡ cellAt t k
   cell-first k h = getD-take rowWidth (t .rows) k (pos 0) h
 
-  pub letters-first : lettersOf (firstOf t) ≡ lettersOf t
-  letters-first = ap (λ (x : Tables). x .letters) first-first
+  -- without its starts
+  pub cell-own : (k : ℕ) → k < ownWidth → cellAt (ownOf t) k ≡ cellAt t k
+  cell-own k h = getD-take ownWidth (t .rows) k (pos 0) h
 
-  pub islands-first : islandsOf (firstOf t) ≡ islandsOf t
-  islands-first = ap (λ (x : Tables). x .islands) first-first
+  abbrev l : ℕ
+  l = countAt t lettersPlace
 
-  pub points-first : pointsOf (firstOf t) ≡ pointsOf t
-  points-first = ap (λ (x : Tables). x .points) first-first
+  abbrev i : ℕ
+  i = countAt t islandsPlace
 
   abbrev v : ℕ
   v = countAt t verticesPlace
 
-  abbrev counts : Bool
-  counts = areCounts (kindOf t) (countAt t islandsPlace) v (t .islands)
+  pub letters-own : lettersOf (ownOf t) ≡ lettersOf t
+  letters-own = rw (cell-own lettersPlace (omega arith)) (take-take l l (t .letters) (omega arith))
 
-  numbers-own : areNumbers (take rowWidth (t .rows)) ≡ areNumbers (t .rows)
-  unfolding areNumbers
-  numbers-own =
+  pub islands-own : islandsOf (ownOf t) ≡ islandsOf t
+  islands-own = rw (cell-own islandsPlace (omega arith)) (take-take i i (t .islands) (omega arith))
+
+  pub points-own : pointsOf (ownOf t) ≡ pointsOf t
+  points-own = rw (cell-own verticesPlace (omega arith)) (take-take (2 * v) (2 * v) (t .points) (omega arith))
+
+  pub own-first : ownOf (firstOf t) ≡ ownOf t
+  own-first =
       rw (
-        long-front rowWidth (t .rows),
-        below-alike rowWidth (cellTest (take rowWidth (t .rows))) (cellTest (t .rows)) (λ i h. rw (cell-first 0 (omega arith), cell-first i h)),
+        cell-first lettersPlace (omega arith),
+        cell-first islandsPlace (omega arith),
+        cell-first verticesPlace (omega arith),
+        take-take ownWidth rowWidth (t .rows) (omega arith),
+        take-take l l (t .letters) (omega arith),
+        take-take i i (t .islands) (omega arith),
+        take-take (2 * v) (2 * v) (t .points) (omega arith),
       )
 
-  letters-own : areLetters (countAt t lettersPlace) (lettersOf t) ≡ areLetters (countAt t lettersPlace) (t .letters)
-  unfolding areLetters
-  letters-own = rw (long-front (countAt t lettersPlace) (t .letters), take-take (countAt t lettersPlace) (countAt t lettersPlace) (t .letters) (omega arith))
+  abbrev counts : Bool
+  counts = areCounts (kindOf t) i v (t .islands)
 
-  counts-own : areCounts (kindOf t) (countAt t islandsPlace) v (islandsOf t) ≡ counts
+  numbers-test : below ownWidth (cellTest (take ownWidth (t .rows))) ≡ below ownWidth (cellTest (t .rows))
+  numbers-test = below-alike ownWidth (cellTest (take ownWidth (t .rows))) (cellTest (t .rows)) (λ i h. rw (cell-own 0 (omega arith), cell-own i h))
+
+  letters-test : areLetters l (lettersOf t) ≡ areLetters l (t .letters)
+  unfolding areLetters
+  letters-test = rw (long-front l (t .letters), take-take l l (t .letters) (omega arith))
+
+  counts-test : areCounts (kindOf t) i v (islandsOf t) ≡ counts
   unfolding areCounts
-  counts-own = rw (long-front (countAt t islandsPlace) (t .islands), take-take (countAt t islandsPlace) (countAt t islandsPlace) (t .islands) (omega arith))
+  counts-test = rw (long-front i (t .islands), take-take i i (t .islands) (omega arith))
 
   -- a border whose counts are right has its rings among its points
-  rings-own : counts ≡ true → (not (eqb (kindOf t) 1) || areClosed (ringSizes v (islandsOf t)) (pointsOf t)) ≡ (not (eqb (kindOf t) 1) || areClosed (ringSizes v (islandsOf t)) (t .points))
+  rings-test : counts ≡ true → (not (eqb (kindOf t) 1) || areClosed (ringSizes v (islandsOf t)) (pointsOf t)) ≡ (not (eqb (kindOf t) 1) || areClosed (ringSizes v (islandsOf t)) (t .points))
   unfolding ringSizes sum
-  rings-own e = go (eqb (kindOf t) 1) refl
+  rings-test e = go (eqb (kindOf t) 1) refl
     where
       go : (b : Bool) → eqb (kindOf t) 1 ≡ b → (not b || areClosed (ringSizes v (islandsOf t)) (pointsOf t)) ≡ (not b || areClosed (ringSizes v (islandsOf t)) (t .points))
       go true k =
-          let o = border-outer (countAt t islandsPlace) v (t .islands) (rw (eqb-true (kindOf t) 1 k) at e) in
+          let o = border-outer i v (t .islands) (rw (eqb-true (kindOf t) 1 k) at e) in
           rings-front (ringSizes v (islandsOf t)) (2 * v) (t .points) (omega arith)
       go false k = refl
 
-  points-own : counts ≡ true → arePoints (kindOf t) v (islandsOf t) (pointsOf t) ≡ arePoints (kindOf t) v (islandsOf t) (t .points)
+  points-test : counts ≡ true → arePoints (kindOf t) v (islandsOf t) (pointsOf t) ≡ arePoints (kindOf t) v (islandsOf t) (t .points)
   unfolding arePoints
-  points-own e = rw (long-front (2 * v) (t .points), take-take (2 * v) (2 * v) (t .points) (omega arith), rings-own e)
+  points-test e = rw (long-front (2 * v) (t .points), take-take (2 * v) (2 * v) (t .points) (omega arith), rings-test e)
 
-  -- **a row is judged by its own part**
-  pub made-first : isMade (firstOf t) ≡ isMade t
-  unfolding isMade
-  made-first =
-      rw (islands-first, cell-first 0 (omega arith), cell-first 9 (omega arith), cell-first 10 (omega arith), cell-first 11 (omega arith), numbers-own, letters-own, counts-own)
-      (guard (areNumbers (t .rows) && areLetters (countAt t lettersPlace) (t .letters)) counts
-      (arePoints (kindOf t) v (islandsOf t) (pointsOf t)) (arePoints (kindOf t) v (islandsOf t) (t .points)) points-own)
+  made-by : madeBy (leb rowWidth (length (t .rows))) (ownOf t) ≡ isMade t
+  unfolding isMade areNumbers
+  made-by =
+      rw (numbers-test, cell-own 0 (omega arith), cell-own 9 (omega arith), cell-own 10 (omega arith), cell-own 11 (omega arith), letters-test, counts-test)
+      (guard (leb rowWidth (length (t .rows)) && below ownWidth (cellTest (t .rows)) && areLetters l (t .letters)) counts
+      (arePoints (kindOf t) v (islandsOf t) (pointsOf t)) (arePoints (kindOf t) v (islandsOf t) (t .points)) points-test)
+
+-- **a row is judged by its own part**: where both are held, or neither is
+pub made-same : (t u : Tables) → leb rowWidth (length (t .rows)) ≡ leb rowWidth (length (u .rows)) → ownOf t ≡ ownOf u → isMade t ≡ isMade u
+made-same t u w e = sym (made-by t) ∙ ap₂ madeBy w e ∙ made-by u
+
+pub made-first : (t : Tables) → isMade (firstOf t) ≡ isMade t
+made-first t = made-same (firstOf t) t (long-front rowWidth (t .rows)) (own-first t)
 
 -- ---- rows with the same own part
 
@@ -175,15 +204,25 @@ module _ (t u : Tables) (e : firstOf t ≡ firstOf u) where
   pub cell-alike : (k : ℕ) → k < rowWidth → cellAt t k ≡ cellAt u k
   cell-alike k h = sym (cell-first t k h) ∙ ap (λ (x : Tables). cellAt x k) e ∙ cell-first u k h
 
+  pub own-same : ownOf t ≡ ownOf u
+  own-same = sym (own-first t) ∙ ap ownOf e ∙ own-first u
+
   pub made-alike : isMade t ≡ isMade u
   made-alike = sym (made-first t) ∙ ap isMade e ∙ made-first u
 
--- what a well made row's own part answers as the tables do
-abbrev pub Own : {A : Type 0} → (Tables → A) → Type 0
-Own f = (t : Tables) → isMade t ≡ true → f (firstOf t) ≡ f t
+  pub starts-alike : (s : Starts) → areStarts s (t .rows) ≡ areStarts s (u .rows)
+  unfolding areStarts
+  starts-alike s = rw (cell-alike firstLetterPlace (omega arith), cell-alike firstIslandPlace (omega arith), cell-alike firstPointPlace (omega arith))
 
-pub own-alike : {A : Type 0} (f : Tables → A) → Own f → (t u : Tables) → firstOf t ≡ firstOf u → isMade u ≡ true → f t ≡ f u
-own-alike f o t u e m = sym (o t (made-alike t u e ∙ m)) ∙ ap f e ∙ o u m
+-- what a well made row's own part answers as the tables do: the starts play no part
+abbrev pub Own : {A : Type 0} → (Tables → A) → Type 0
+Own f = (t : Tables) → isMade t ≡ true → f (ownOf t) ≡ f t
+
+pub own-alike : {A : Type 0} (f : Tables → A) → Own f → (t u : Tables) → ownOf t ≡ ownOf u → isMade t ≡ true → isMade u ≡ true → f t ≡ f u
+own-alike f o t u e m n = sym (o t m) ∙ ap f e ∙ o u n
+
+pub first-alike : {A : Type 0} (f : Tables → A) → Own f → (t u : Tables) → firstOf t ≡ firstOf u → isMade u ≡ true → f t ≡ f u
+first-alike f o t u e m = own-alike f o t u (own-same t u e) (made-alike t u e ∙ m) m
 
 -- ---- a row that is wholly held, and anything behind it
 

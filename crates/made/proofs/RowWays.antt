@@ -2,14 +2,12 @@
 use mathlib.Core.Path.{_≡_, refl, sym, _∙_, ap}
 use mathlib.Core.List.{List, []}
 use mathlib.Core.Bool.{Bool, true, false, not, _&&_}
-use Prim.Native.Nat.{ℕ, zero, suc, _+_, _-_, _*_, _^_, _≤_, _<_, zero-le}
+use Prim.Native.Nat.{ℕ, _+_, _*_, _≤_, _<_, zero-le}
 use native.Mathlib.Omega.{arith}
 use lib.ListN.{length, getD, take}
 use lib.Dec.{leb, eqb}
 use lib.IntN.{ℤ, pos, negsuc}
 use lib.Signed.{leZ}
-use mir.Syntax.{w64}
-use mir.Val.{Fits}
 use borrow.Author.Tests.{leb-true, eqb-true, eqb-false, not-true, not-false}
 use Rattle.laws.specs.Lists.{all, below, holds}
 use Rattle.laws.specs.Whole.{eqZ}
@@ -18,10 +16,10 @@ use Rattle.laws.proofs.ListLaws.{below-at, part-count}
 use Rattle.record.specs.declared.Mode.{Mode}
 use Rattle.record.specs.declared.Mode.the-variants.{Loose, Exact}
 use Rattle.token.specs.declared.Want.the-variants.{Int}
-use Rattle.kinds.specs.Kinds.{rowWidth, codePlace, lettersPlace, islandsPlace, verticesPlace, schedule, unsaid, isListed, wantAt}
-use Rattle.sheet.specs.Tables.{Tables}
+use Rattle.kinds.specs.Kinds.{rowWidth, ownWidth, codePlace, lettersPlace, islandsPlace, verticesPlace, schedule, unsaid, isListed, wantAt}
+use Rattle.sheet.specs.Tables.{Tables, Starts}
 use Rattle.made.specs.declared.RowJudged.the-variants.{Wrong, Strange, On}
-use Rattle.made.specs.Made.{tablesOf, natOf, countAt, kindOf, islandsOf, inRange, hasField, isCell, cellTest, areNumbers, areLetters, sum, fourAtLeast, areCounts, areReals, arePoints, isMade, isCoded}
+use Rattle.made.specs.Made.{tablesOf, natOf, countAt, kindOf, islandsOf, inRange, hasField, isCell, cellTest, areNumbers, areLetters, sum, fourAtLeast, areCounts, areReals, arePoints, isMade, areStarts, isCoded}
 use Rattle.made.specs.Turn.{rowTurn}
 use Rattle.made.proofs.FieldWays.{no-islands}
 
@@ -39,11 +37,11 @@ at-most (negsuc n) e = zero-le
 module _ (rows : List ℤ) (e : areNumbers rows ≡ true) where
   row-held : rowWidth ≤ length rows
   unfolding areNumbers
-  row-held = leb-true rowWidth (length rows) (and-left (leb rowWidth (length rows)) (below rowWidth (cellTest rows)) e)
+  row-held = leb-true rowWidth (length rows) (and-left (leb rowWidth (length rows)) (below ownWidth (cellTest rows)) e)
 
-  cell-right : (p : ℕ) → p < rowWidth → cellTest rows p ≡ true
+  cell-right : (p : ℕ) → p < ownWidth → cellTest rows p ≡ true
   unfolding areNumbers
-  cell-right p = below-at rowWidth (cellTest rows) p (and-right (leb rowWidth (length rows)) (below rowWidth (cellTest rows)) e)
+  cell-right p = below-at ownWidth (cellTest rows) p (and-right (leb rowWidth (length rows)) (below ownWidth (cellTest rows)) e)
 
   islands-none : (natOf (getD rows 0 (pos 0)) ≡ 1 → ⊥) → natOf (getD rows islandsPlace (pos 0)) ≡ 0
   unfolding isCell unsaid
@@ -220,23 +218,28 @@ module _ (mode : Mode) (kind code : ℕ) where
 
 pub ruleset coded-ways = (coded-loose, coded-listed, coded-none)
 
-module _ (mode : Mode) (t : Tables) (a : Bool) (p : a ≡ isMade t) where
-  pub turn-wrong : not a ≡ true → Wrong ≡ rowTurn mode t
+pub turn-held : (t : Tables) (a : Bool) → a ≡ isMade t → not a ≡ false → rowWidth ≤ length (t .rows)
+turn-held t a p u = made-held t (sym p ∙ not-false a u) .row
+
+module _ (mode : Mode) (s : Starts) (t : Tables) (a : Bool) (p : a ≡ isMade t) where
+  pub turn-wrong : not a ≡ true → Wrong ≡ rowTurn mode s t
   unfolding rowTurn
   turn-wrong u = rw (← p, not-true a u)
 
   module _ (u : not a ≡ false) where
-    pub turn-fits : length (t .points) < 2 ^ 64 → (v : ℕ) → v ≡ countAt t verticesPlace → Fits w64 (2 * v)
-    turn-fits h v e = record { fits = omega (arith, made-held t (sym p ∙ not-false a u) .points) }
-
-    module _ (kind code : ℕ) (k : kind ≡ kindOf t) (o : code ≡ countAt t codePlace) (b : Bool) (q : b ≡ isCoded mode kind code) where
-      pub turn-strange : not b ≡ true → Strange ≡ rowTurn mode t
+    module _ (d : Bool) (g : d ≡ areStarts s (t .rows)) where
+      pub turn-misplaced : not d ≡ true → Wrong ≡ rowTurn mode s t
       unfolding rowTurn
-      turn-strange x = rw (← p, not-false a u, ← k, ← o, ← q, not-true b x)
+      turn-misplaced y = rw (← p, not-false a u, ← g, not-true d y)
 
-      pub turn-on : not b ≡ false → (l i v : ℕ) → l ≡ countAt t lettersPlace → i ≡ countAt t islandsPlace → v ≡ countAt t verticesPlace
-          → On l i (2 * v) ≡ rowTurn mode t
-      unfolding rowTurn
-      turn-on x l i v e f g = rw (← p, not-false a u, ← k, ← o, ← q, not-false b x, e, f, g)
+      module _ (y : not d ≡ false) (kind code : ℕ) (k : kind ≡ kindOf t) (o : code ≡ countAt t codePlace) (b : Bool) (q : b ≡ isCoded mode kind code) where
+        pub turn-strange : not b ≡ true → Strange ≡ rowTurn mode s t
+        unfolding rowTurn
+        turn-strange x = rw (← p, not-false a u, ← g, not-false d y, ← k, ← o, ← q, not-true b x)
 
-pub ruleset turn-ways = (turn-wrong, turn-fits, turn-strange, turn-on)
+        pub turn-on : not b ≡ false → (l i v : ℕ) → l ≡ countAt t lettersPlace → i ≡ countAt t islandsPlace → v ≡ countAt t verticesPlace
+            → On l i v ≡ rowTurn mode s t
+        unfolding rowTurn
+        turn-on x l i v e f w = rw (← p, not-false a u, ← g, not-false d y, ← k, ← o, ← q, not-false b x, e, f, w)
+
+pub ruleset turn-ways = (turn-wrong, turn-misplaced, turn-strange, turn-on)

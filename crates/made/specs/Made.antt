@@ -1,7 +1,7 @@
--- A sheet that is handed in, and when it is well made: document 01, "Sheet tables". Assumes nothing: these are definitions.
+-- A sheet that is handed in, and when it is well made: document 01, "Sheet tables", and document 02, T-07 (the starts). Assumes nothing: these are definitions.
 -- The rows before a row use up what stands before its own part of each table, so a row is judged on what is left of the four.
 use Prim.Native.Nat.{ℕ, zero, suc, _+_, _-_, _*_}
-use mathlib.Core.List.{List, [], _∷_}
+use mathlib.Core.List.{List, [], _∷_, _++_}
 use mathlib.Core.Bool.{Bool, true, false, cond, not, _&&_, _||_}
 use lib.ListN.{length, getD, take, drop}
 use lib.Dec.{leb, eqb}
@@ -17,10 +17,10 @@ use Rattle.number.specs.Number.{isReal}
 use Rattle.token.specs.declared.Want.{Want}
 use Rattle.token.specs.declared.Want.the-variants.{Key, Text, Int, Real}
 use Rattle.token.specs.Lex.{kindMost, mayLieOutside}
-use Rattle.kinds.specs.Kinds.{rowWidth, codePlace, lettersPlace, islandsPlace, verticesPlace, schedule, unsaid, isListed, wantAt}
+use Rattle.kinds.specs.Kinds.{rowWidth, ownWidth, codePlace, lettersPlace, islandsPlace, verticesPlace, firstLetterPlace, firstIslandPlace, firstPointPlace, schedule, unsaid, isListed, wantAt}
 use Rattle.heading.specs.declared.Header.{Header}
 use Rattle.heading.specs.Heading.{isHeader}
-use Rattle.sheet.specs.Tables.{Tables, empty, _then_}
+use Rattle.sheet.specs.Tables.{Tables, empty, _then_, Starts, noStarts, _plus_, startCells}
 use Rattle.made.specs.declared.Fault.{Fault}
 use Rattle.made.specs.declared.Verdict.{Verdict}
 use Rattle.made.specs.declared.Verdict.the-variants.{Fine, BadHeader, Faulty, Unlisted}
@@ -57,6 +57,10 @@ pointsOf t = take (2 * countAt t verticesPlace) (t .points)
 -- its own part of the four tables, and what is left behind it
 abbrev pub firstOf : Tables → Tables
 firstOf t = record { rows = take rowWidth (t .rows); letters = lettersOf t; islands = islandsOf t; points = pointsOf t }
+
+-- the same without its starts: all that a question on the row looks at
+abbrev pub ownOf : Tables → Tables
+ownOf t = record { rows = take ownWidth (t .rows); letters = lettersOf t; islands = islandsOf t; points = pointsOf t }
 
 abbrev pub restOf : Tables → Tables
 restOf t =
@@ -97,9 +101,9 @@ isCellAt kind rows p = isCell kind p (getD rows p (pos 0))
 abbrev pub cellTest : List ℤ → ℕ → Bool
 cellTest rows p = isCellAt (natOf (getD rows 0 (pos 0))) rows p
 
--- the row is wholly held, and each of its numbers is right
+-- the row is wholly held, and each of the numbers that its section gives is right
 unfoldable pub areNumbers : List ℤ → Bool
-areNumbers rows = leb rowWidth (length rows) && below rowWidth (cellTest rows)
+areNumbers rows = leb rowWidth (length rows) && below ownWidth (cellTest rows)
 
 -- ---- its letters, island counts and points
 
@@ -155,14 +159,44 @@ isMade t =
 unfoldable pub isCoded : Mode → ℕ → ℕ → Bool
 isCoded mode kind code = isLoose mode || not (hasField kind codePlace) || isListed kind code
 
--- rows in order from the row k on, each 15 then 10
-unfoldable pub judgeRows : Mode → ℕ → ℕ → Tables → Verdict
-judgeRows mode zero k t = Fine
-judgeRows mode (suc n) k t = cond (isMade t) (cond (isCoded mode (kindOf t) (countAt t codePlace)) (judgeRows mode n (k + 1) (restOf t)) (Unlisted k)) (Faulty k)
+-- T-07: "each row stores where its letters, islands and points begin, or would begin if it has none"
+unfoldable pub areStarts : Starts → List ℤ → Bool
+areStarts s rows =
+    eqZ (getD rows firstLetterPlace (pos 0)) (pos (s .letters)) && eqZ (getD rows firstIslandPlace (pos 0)) (pos (s .islands))
+    && eqZ (getD rows firstPointPlace (pos 0)) (pos (s .points))
+
+abbrev pub startsAt : ℕ → ℕ → ℕ → Starts
+startsAt letters islands points = record { letters = letters; islands = islands; points = points }
+
+-- how many letters, island counts and points the first row has
+abbrev pub countsOf : Tables → Starts
+countsOf t = startsAt (countAt t lettersPlace) (countAt t islandsPlace) (countAt t verticesPlace)
+
+-- the first row alone, a sheet of one row: what its section gives, with starts 0, and its own part of the other three tables
+abbrev pub aloneOf : Tables → Tables
+aloneOf t = tablesOf (ownOf t .rows ++ startCells noStarts) (ownOf t .letters) (ownOf t .islands) (ownOf t .points)
+
+-- what stands before a row: so many rows, and so many letters, island counts and points
+pub record Before : Type 0 where
+  pub row : ℕ
+  pub starts : Starts
+
+abbrev pub noneBefore : Before
+noneBefore = record { row = 0; starts = noStarts }
+
+abbrev pub pastRow : Before → Tables → Before
+pastRow b t = record { row = b .row + 1; starts = b .starts plus countsOf t }
+
+-- rows in order, each 15, where its own part or a start is faulty, then 10
+unfoldable pub judgeRows : Mode → ℕ → Before → Tables → Verdict
+judgeRows mode zero b t = Fine
+judgeRows mode (suc n) b t =
+    cond (isMade t && areStarts (b .starts) (t .rows))
+    (cond (isCoded mode (kindOf t) (countAt t codePlace)) (judgeRows mode n (pastRow b t) (restOf t)) (Unlisted (b .row))) (Faulty (b .row))
 
 -- the header (6) first. In loose mode any code is taken: that is "well made"
 unfoldable pub judgeOf : Mode → Header → ℕ → Tables → Verdict
-judgeOf mode h count t = cond (isHeader h) (judgeRows mode count 0 t) BadHeader
+judgeOf mode h count t = cond (isHeader h) (judgeRows mode count noneBefore t) BadHeader
 
 -- ---- the paper's number and values
 

@@ -1,4 +1,4 @@
-// Well made sheets (document 01, "Sheet tables"): a sheet that is handed in is judged completely.
+// Well made sheets (document 01, "Sheet tables"; document 02, T-07, the starts): a sheet that is handed in is judged completely.
 // All of it is proved, and no public function has a `requires`: a sheet is a header, a count of rows and four tables, of any
 // contents and any lengths.
 mod numbers;
@@ -8,13 +8,15 @@ ghost use mathlib.Core.Path.{_≡_};
 ghost use Prim.Native.Nat.{_-_};
 ghost use lib.ListN.{getD};
 ghost use lib.IntN.{pos};
-ghost use Rattle.made.specs.Made.{tablesOf, natOf, areLetters, sum, isMade, isCoded, judgeRows, judgeOf, faultOf};
+ghost use Rattle.made.specs.Made.{tablesOf, startsAt, noneBefore, natOf, areLetters, sum, isMade, isCoded, judgeRows, judgeOf, faultOf};
 ghost use Rattle.made.specs.Turn.{rowTurn};
 use crate::numbers::are_numbers;
+use crate::numbers::are_starts;
 use crate::rings::are_counts;
 use crate::rings::are_points;
 use heading::Header;
 use heading::is_header;
+use kinds::ROW_WIDTH;
 use kinds::has_field;
 use kinds::is_listed;
 use record::Mode;
@@ -37,7 +39,7 @@ pub struct Fault {
     pub row: usize,
 }
 
-// Where a row that is judged leads: to its refusal, or past its letters, island counts and numbers of points.
+// Where a row that is judged leads: to its refusal, or past its letters, island counts and points.
 enum RowJudged {
     Wrong,
     Strange,
@@ -47,8 +49,6 @@ enum RowJudged {
         points: usize,
     },
 }
-
-const ROW_WIDTH: usize = 12;
 
 const CODE_PLACE: usize = 2;
 
@@ -154,11 +154,23 @@ fn is_coded(mode: Mode, kind: usize, code: usize) -> bool
     }
 }
 
-// The first row of the tables: 15, then 10.
-fn judge_row(mode: Mode, rows: &[i64], letters: &[u8], islands: &[u16], points: &[i64]) -> RowJudged
-    ensures { λ r. ⌜ r ≡ rowTurn mode (tablesOf (now (rows .entry)) (now (letters .entry)) (now (islands .entry)) (now (points .entry))) ⌝ }
+// The first row of the tables, behind so many letters, island counts and points: 15, then 10.
+fn judge_row(
+    mode: Mode,
+    l: usize,
+    i: usize,
+    p: usize,
+    rows: &[i64],
+    letters: &[u8],
+    islands: &[u16],
+    points: &[i64],
+) -> RowJudged
+    ensures { λ r. ⌜ r ≡ rowTurn mode (startsAt l i p) (tablesOf (now (rows .entry)) (now (letters .entry)) (now (islands .entry)) (now (points .entry))) ⌝ }
 {
     if !is_made(rows, letters, islands, points) {
+        return RowJudged::Wrong;
+    }
+    if !are_starts(l, i, p, rows) {
         return RowJudged::Wrong;
     }
     if !is_coded(mode, count_at(rows, 0), count_at(rows, CODE_PLACE)) {
@@ -167,7 +179,7 @@ fn judge_row(mode: Mode, rows: &[i64], letters: &[u8], islands: &[u16], points: 
     RowJudged::On {
         letters: count_at(rows, LETTERS_PLACE),
         islands: count_at(rows, ISLANDS_PLACE),
-        points: 2 * count_at(rows, VERTICES_PLACE),
+        points: count_at(rows, VERTICES_PLACE),
     }
 }
 
@@ -180,7 +192,7 @@ fn judge_rows(
     islands: &[u16],
     points: &[i64],
 ) -> Verdict
-    ensures { λ r. ⌜ r ≡ judgeRows mode count 0 (tablesOf (now (rows .entry)) (now (letters .entry)) (now (islands .entry)) (now (points .entry))) ⌝ }
+    ensures { λ r. ⌜ r ≡ judgeRows mode count noneBefore (tablesOf (now (rows .entry)) (now (letters .entry)) (now (islands .entry)) (now (points .entry))) ⌝ }
 {
     let mut k = 0;
     let mut r = 0;
@@ -188,7 +200,16 @@ fn judge_rows(
     let mut i = 0;
     let mut p = 0;
     while k < count {
-        match judge_row(mode, &rows[r..], &letters[l..], &islands[i..], &points[p..]) {
+        match judge_row(
+            mode,
+            l,
+            i,
+            p,
+            &rows[r..],
+            &letters[l..],
+            &islands[i..],
+            &points[2 * p..],
+        ) {
             RowJudged::Wrong => return Verdict::Faulty(k),
             RowJudged::Strange => return Verdict::Unlisted(k),
             RowJudged::On {

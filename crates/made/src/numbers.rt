@@ -1,4 +1,5 @@
-// A row's own twelve numbers (document 01, "Sheet tables"): each in its range, a field that the kind lacks as its section leaves it.
+// A row's fifteen numbers: those that its section gives (document 01, "Sheet tables"), each in its range, a field that the kind lacks as its
+// section leaves it; and its starts (document 02, T-07).
 ghost use mathlib.Core.Path.{_≡_};
 ghost use mathlib.Core.Bool.{_&&_, _||_};
 ghost use Prim.Native.Nat.{_≤_, _<_};
@@ -9,22 +10,25 @@ ghost use lib.Signed.{leZ};
 ghost use Rattle.laws.specs.Lists.{below};
 ghost use Rattle.laws.specs.Whole.{eqZ};
 ghost use Rattle.token.specs.Lex.{kindMost};
-ghost use Rattle.kinds.specs.Kinds.{rowWidth, unsaid};
-ghost use Rattle.made.specs.Made.{inRange, hasField, isOutside, isCell, isCellAt, areNumbers};
-use crate::ROW_WIDTH;
+ghost use Rattle.kinds.specs.Kinds.{rowWidth, ownWidth, unsaid};
+ghost use Rattle.made.specs.Made.{inRange, hasField, isOutside, isCell, isCellAt, areNumbers, areStarts, startsAt};
 use crate::VERTICES_PLACE;
 use crate::count_at;
 use crate::count_of;
+use kinds::FIRST_ISLAND_PLACE;
+use kinds::FIRST_LETTER_PLACE;
+use kinds::FIRST_POINT_PLACE;
+use kinds::OWN_WIDTH;
+use kinds::ROW_WIDTH;
 use kinds::fixed_vertices;
 use kinds::want_at;
 use spelling::is_real;
+use token::KINDS;
 use token::Want;
 use token::may_lie_outside;
 
-// How many kinds there are, as a number of a row and as a count.
-const KIND_MOST: i64 = 7;
-
-const KINDS: usize = 7;
+// The last kind, as a number of a row.
+const KIND_MOST: i64 = KINDS as i64;
 
 fn is_between(least: i64, most: i64, z: i64) -> bool
     ensures { λ r. ⌜ r ≡ (leZ least z && leZ z most) ⌝ }
@@ -82,7 +86,7 @@ fn is_among(n: usize, a: usize, b: usize, c: usize) -> bool
 
 // The rows of a kind have a field at a place. Where the kind is a number of the code, this is settled before it runs.
 fn has(kind: usize, place: usize) -> bool
-    requires { ⌜ (1 ≤ kind) × (kind ≤ kindMost) × (place < rowWidth) ⌝ }
+    requires { ⌜ (1 ≤ kind) × (kind ≤ kindMost) × (place < ownWidth) ⌝ }
     ensures { λ r. ⌜ r ≡ hasField kind place ⌝ }
 {
     match place {
@@ -122,7 +126,7 @@ fn is_unsaid(kind: usize, place: usize, z: i64) -> bool
 
 // A number that a row of a kind may have at a place.
 fn is_cell(kind: usize, place: usize, z: i64) -> bool
-    requires { ⌜ (1 ≤ kind) × (kind ≤ kindMost) × (place < rowWidth) ⌝ }
+    requires { ⌜ (1 ≤ kind) × (kind ≤ kindMost) × (place < ownWidth) ⌝ }
     ensures { λ r. ⌜ r ≡ isCell kind place z ⌝ }
 {
     if place == 0 {
@@ -137,12 +141,12 @@ fn is_cell(kind: usize, place: usize, z: i64) -> bool
     is_unsaid(kind, place, z)
 }
 
-// Each number of the first row, of a kind, is right.
+// Each number that the section of the first row, of a kind, gives is right.
 fn are_cells(kind: usize, rows: &[i64]) -> bool
     requires { ⌜ (1 ≤ kind) × (kind ≤ kindMost) × (rowWidth ≤ length (now rows)) ⌝ }
-    ensures { λ r. ⌜ r ≡ below rowWidth (isCellAt kind (now (rows .entry))) ⌝ }
+    ensures { λ r. ⌜ r ≡ below ownWidth (isCellAt kind (now (rows .entry))) ⌝ }
 {
-    let mut p = ROW_WIDTH;
+    let mut p = OWN_WIDTH;
     while p > 0 {
         p -= 1;
         if !is_cell(kind, p, rows[p]) {
@@ -152,7 +156,7 @@ fn are_cells(kind: usize, rows: &[i64]) -> bool
     true
 }
 
-// The first row is wholly held, and each of its numbers is right. The kinds of most rows are told apart first, so that each has its own tests.
+// The first row is wholly held, and each number that its section gives is right. The kinds of most rows are told apart first, so that each has its own tests.
 pub(crate) fn are_numbers(rows: &[i64]) -> bool
     ensures { λ r. ⌜ r ≡ areNumbers (now (rows .entry)) ⌝ }
 {
@@ -174,4 +178,28 @@ pub(crate) fn are_numbers(rows: &[i64]) -> bool
         5 => are_cells(5, rows),
         _ => are_cells(kind, rows),
     }
+}
+
+// A number of a row is this count.
+fn is_count(z: i64, n: usize) -> bool
+    ensures { λ r. ⌜ r ≡ eqZ z (pos n) ⌝ }
+{
+    if z < 0 {
+        return false;
+    }
+    if z as usize == n { true } else { false }
+}
+
+// The first row's letters, island counts and points begin there.
+pub(crate) fn are_starts(letters: usize, islands: usize, points: usize, rows: &[i64]) -> bool
+    requires { ⌜ rowWidth ≤ length (now rows) ⌝ }
+    ensures { λ r. ⌜ r ≡ areStarts (startsAt letters islands points) (now (rows .entry)) ⌝ }
+{
+    if !is_count(rows[FIRST_LETTER_PLACE], letters) {
+        return false;
+    }
+    if !is_count(rows[FIRST_ISLAND_PLACE], islands) {
+        return false;
+    }
+    is_count(rows[FIRST_POINT_PLACE], points)
 }

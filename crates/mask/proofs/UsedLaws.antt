@@ -11,9 +11,9 @@ use Rattle.kinds.specs.Kinds.{verticesPlace}
 use Rattle.heading.specs.declared.Header.{Header}
 use Rattle.sheet.specs.Tables.{Tables}
 use Rattle.made.specs.declared.Verdict.the-variants.{Fine}
-use Rattle.made.specs.Made.{natOf, countAt, islandsOf, pointsOf, firstOf, isMade, judgeOf, usedOf}
+use Rattle.made.specs.Made.{natOf, countAt, islandsOf, pointsOf, ownOf, isMade, judgeOf, usedOf}
 use Rattle.made.proofs.RowWays.{made-held}
-use Rattle.made.proofs.OwnLaws.{cell-first, islands-first}
+use Rattle.made.proofs.OwnLaws.{cell-own, islands-own}
 use Rattle.row.specs.Walk.{standOf, leftAt}
 use Rattle.row.specs.Alone.{rowAlone}
 use Rattle.row.proofs.UsedLaws.{Question, asked-used, asked-alone}
@@ -21,19 +21,19 @@ use Rattle.mask.specs.Masks.{maskOf, maskOfRow, maskFound, maskAt}
 use Rattle.mask.proofs.SameLaws.{mask-own}
 
 module _ (t : Tables) (m : isMade t ≡ true) (cx cy : ℤ) (s : ℕ) where
-  border-first : maskOf (countAt (firstOf t) verticesPlace) (islandsOf (firstOf t)) (pointsOf t) cx cy s ≡ maskOf (countAt t verticesPlace) (islandsOf t) (t .points) cx cy s
-  border-first =
+  border-owned : maskOf (countAt (ownOf t) verticesPlace) (islandsOf (ownOf t)) (pointsOf t) cx cy s ≡ maskOf (countAt t verticesPlace) (islandsOf t) (t .points) cx cy s
+  border-owned =
       let v = countAt t verticesPlace in
-      rw (islands-first t, cell-first t verticesPlace (omega arith))
+      rw (islands-own t, cell-own t verticesPlace (omega arith))
       (sym (mask-own v (islandsOf t) (pointsOf t) (drop (2 * v) (t .points)) cx cy s (omega (arith, length-take-le (2 * v) (t .points) (made-held t m .points))))
       ∙ ap (λ ps. maskOf v (islandsOf t) ps cx cy s) (take-append-drop (2 * v) (t .points)))
 
-  mask-first : maskOfRow (firstOf t) cx cy s ≡ maskOfRow t cx cy s
+  mask-owned : maskOfRow (ownOf t) cx cy s ≡ maskOfRow t cx cy s
   unfolding maskOfRow
-  mask-first = rw (border-first, cell-first t 0 (omega arith))
+  mask-owned = rw (border-owned, cell-own t 0 (omega arith))
 
 masks : (cx cy : ℤ) (s : ℕ) → Question (maskFound cx cy s)
-masks cx cy s = record { own = λ t k m. sym (mask-first (leftAt t (standOf k (t .rows))) m cx cy s); missing = λ t u. refl; refused = λ t u v. refl }
+masks cx cy s = record { own = λ t k m. sym (mask-owned (leftAt t (standOf k (t .rows))) m cx cy s); missing = λ t u. refl; refused = λ t u v. refl }
 
 module _ (h : Header) (n : ℕ) (t : Tables) (k : ℕ) (cx cy side : ℤ) where
   -- **what stands behind the used part never matters**, of any tables

@@ -9,7 +9,7 @@ use Rattle.laws.specs.Text.{text}
 use Rattle.heading.specs.declared.Header.{Header}
 use Rattle.sheet.specs.Tables.{Tables}
 use Rattle.made.specs.Made.{tablesOf, ringSizes}
-use Rattle.made.specs.Examples.{header, label, border}
+use Rattle.made.specs.Examples.{header, placed, label, border}
 use Rattle.row.specs.Examples.{computed as computedSought}
 use Rattle.area.specs.Examples.{computed as computedAreas}
 use Rattle.grid.specs.Examples.{computedCount}
@@ -33,7 +33,7 @@ squareAt x = pos x ∷ pos 0 ∷ pos (x + 8) ∷ pos 0 ∷ pos (x + 8) ∷ pos 8
 
 -- a text; a square of side 8 with a courtyard of side 4 in its middle
 abbrev court : Tables
-court = tablesOf (label ++ border 0 1 10) (text "77") (5 ∷ []) (square 0 8 ++ square 2 6)
+court = tablesOf (label ++ placed 1 0 0 (border 0 1 10)) (text "77") (5 ∷ []) (square 0 8 ++ square 2 6)
 
 asked : ℕ → ℤ → ℤ → ℤ → Mask
 unfolding computed
@@ -92,7 +92,8 @@ no-border : (refusalOf (asked 0 (pos 0) (pos 8) (pos 0)) ≡ refusal 19 0) × (r
 unfolding asked refusalOf
 no-border = (refl, refl)
 
--- 15 comes before 19 and names the row, 6 before all
-no-sheet : (refusalOf (maskAt (header 1) 3 court 9 (pos 0) (pos 8) (pos 0)) ≡ refusal 15 2) × (refusalOf (maskAt (header 4) 3 court 9 (pos 0) (pos 8) (pos 0)) ≡ refusal 6 0)
+-- 15 comes before 19 and names the row, also where a start is false (T-07); 6 before all
+no-sheet : (refusalOf (maskAt (header 1) 2 (tablesOf (label ++ border 0 1 10) (text "77") (5 ∷ []) (square 0 8 ++ square 2 6)) 9 (pos 0) (pos 8) (pos 0)) ≡ refusal 15 1)
+    × (refusalOf (maskAt (header 1) 3 court 9 (pos 0) (pos 8) (pos 0)) ≡ refusal 15 2) × (refusalOf (maskAt (header 4) 3 court 9 (pos 0) (pos 8) (pos 0)) ≡ refusal 6 0)
 unfolding computed refusalOf
-no-sheet = (refl, refl)
+no-sheet = (refl, refl, refl)

@@ -14,7 +14,7 @@ use Rattle.heading.specs.declared.Header.{Header}
 use Rattle.record.specs.declared.Mode.the-variants.{Loose}
 use Rattle.sheet.specs.Tables.{Tables}
 use Rattle.made.specs.declared.Verdict.the-variants.{Fine}
-use Rattle.made.specs.Made.{tablesOf, kindOf, lettersOf, judgeRows}
+use Rattle.made.specs.Made.{tablesOf, kindOf, lettersOf, noneBefore, judgeRows}
 use Rattle.row.specs.declared.Stand.{Stand}
 use Rattle.row.specs.Walk.{firstStand, standAfter, standOf, leftAt}
 use Rattle.classes.specs.declared.Class.{Class}
@@ -78,7 +78,7 @@ pub record FirstSuch (h : Header) (count : ℕ) (t : Tables) (k : ℕ) : Type 0 
   pub long : isLong h (leftAt t (standOf k (t .rows))) ≡ true
   pub earlier : (j : ℕ) → j < k → isLong h (leftAt t (standOf j (t .rows))) ≡ false
 
-module _ (h : Header) (count : ℕ) (t : Tables) (m : Small t) (f : judgeRows Loose count 0 t ≡ Fine) (k : ℕ) where
+module _ (h : Header) (count : ℕ) (t : Tables) (m : Small t) (f : judgeRows Loose count noneBefore t ≡ Fine) (k : ℕ) where
   abbrev longAt : ℕ → Bool
   longAt j = isLong h (leftAt t (standOf j (t .rows)))
 

@@ -10,7 +10,7 @@ use Rattle.heading.specs.declared.Header.{Header}
 use Rattle.record.specs.declared.Mode.the-variants.{Loose}
 use Rattle.sheet.specs.Tables.{Tables}
 use Rattle.made.specs.declared.Verdict.the-variants.{Fine}
-use Rattle.made.specs.Made.{tablesOf, judgeRows}
+use Rattle.made.specs.Made.{tablesOf, noneBefore, judgeRows}
 use Rattle.row.specs.declared.Stand.{Stand}
 use Rattle.row.specs.Walk.{wordMost, firstStand, nextStand, standAfter, leftAt}
 use Rattle.row.proofs.Walk.{Walk, walk-start, walk-on, walk-stands, stands-small}
@@ -109,7 +109,7 @@ listed-climb h t count m (suc n) d k e w =
     go false c r = climbs-from (goesBefore t) (before-through t) (before-turn t) (λ (d : Stand). d .row) (rows-apart t) (omega arith) c
 
 -- in a judged sheet each comes before those behind it, as rows decide where code and area are equal
-pub in-order-rising : (h : Header) (count : ℕ) (t : Tables) → Small t → judgeRows Loose count 0 t ≡ Fine → Rising (goesBefore t) (supInOrder h count t)
+pub in-order-rising : (h : Header) (count : ℕ) (t : Tables) → Small t → judgeRows Loose count noneBefore t ≡ Fine → Rising (goesBefore t) (supInOrder h count t)
 unfolding supInOrder
 in-order-rising h count t m f =
     sort-rising (goesBefore t) (before-through t) (before-turn t) (λ (d : Stand). d .row) (rows-apart t) [] Rising.rising-nil EachOf.each-nil

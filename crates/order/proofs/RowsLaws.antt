@@ -10,7 +10,7 @@ use Rattle.heading.specs.declared.Header.{Header}
 use Rattle.record.specs.declared.Mode.the-variants.{Loose}
 use Rattle.sheet.specs.Tables.{Tables}
 use Rattle.made.specs.declared.Verdict.the-variants.{Fine}
-use Rattle.made.specs.Made.{judgeRows}
+use Rattle.made.specs.Made.{noneBefore, judgeRows}
 use Rattle.row.specs.declared.Stand.{Stand}
 use Rattle.row.specs.Walk.{firstStand, standAfter, standOf, leftAt}
 use Rattle.row.proofs.Walk.{walk-to}
@@ -33,7 +33,7 @@ unfolding supBordersFrom filter steps
 sup-steps h t zero d = refl
 sup-steps h t (suc n) d = rw (sup-steps h t n (standAfter (t .rows) d))
 
-module _ (t : Tables) (count : ℕ) (m : Small t) (f : judgeRows Loose count 0 t ≡ Fine) where
+module _ (t : Tables) (count : ℕ) (m : Small t) (f : judgeRows Loose count noneBefore t ≡ Fine) where
   pub next-stand : (k : ℕ) → k < count → standAfter (t .rows) (standOf k (t .rows)) ≡ standOf (suc k) (t .rows)
   unfolding standOf
   next-stand k l = walk-after m (walk-to Loose t count f k (omega arith)) l

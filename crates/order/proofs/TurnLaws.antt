@@ -7,7 +7,7 @@ use Rattle.heading.specs.declared.Header.{Header}
 use Rattle.record.specs.declared.Mode.the-variants.{Loose}
 use Rattle.sheet.specs.Tables.{Tables}
 use Rattle.made.specs.declared.Verdict.the-variants.{Fine}
-use Rattle.made.specs.Made.{judgeRows}
+use Rattle.made.specs.Made.{noneBefore, judgeRows}
 use Rattle.row.specs.declared.Stand.{Stand}
 use Rattle.order.specs.declared.Since.the-variants.{First, Past}
 use Rattle.order.specs.declared.Window.{Window}
@@ -18,14 +18,14 @@ use Rattle.order.proofs.WindowLaws.{Viewing, view-first, view-count, vi
 
 pub record Turning (h : Header) (count : ℕ) (t : Tables) (w : Window) (i j : ℕ) : Type 0 where
   pub small : Small t
-  pub fine : judgeRows Loose count 0 t ≡ Fine
+  pub fine : judgeRows Loose count noneBefore t ≡ Fine
   pub views : Viewing h count t small fine w (i - j)
   pub past : j ≤ i
   pub within : j ≤ w .count
   pub inside : j < windowWidth
   pub reached : i ≤ length (supInOrder h count t)
 
-pub turning-start : (h : Header) (count : ℕ) (t : Tables) → Small t → judgeRows Loose count 0 t ≡ Fine → (w : Window) → Shows w (windowOf h count t First) → Turning h count t w 0 0
+pub turning-start : (h : Header) (count : ℕ) (t : Tables) → Small t → judgeRows Loose count noneBefore t ≡ Fine → (w : Window) → Shows w (windowOf h count t First) → Turning h count t w 0 0
 turning-start h count t m f w s =
     record { small = m; fine = f; views = view-first h count t m f w s; past = omega arith; within = omega arith; inside = omega arith; reached = omega arith }
 

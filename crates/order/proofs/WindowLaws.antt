@@ -10,7 +10,7 @@ use Rattle.heading.specs.declared.Header.{Header}
 use Rattle.record.specs.declared.Mode.the-variants.{Loose}
 use Rattle.sheet.specs.Tables.{Tables}
 use Rattle.made.specs.declared.Verdict.the-variants.{Fine}
-use Rattle.made.specs.Made.{judgeRows}
+use Rattle.made.specs.Made.{noneBefore, judgeRows}
 use Rattle.row.specs.declared.Stand.{Stand}
 use Rattle.order.specs.declared.Since.{Since}
 use Rattle.order.specs.declared.Since.the-variants.{First, Past}
@@ -24,7 +24,7 @@ use Rattle.order.proofs.SortLaws.{filter-all, filter-sort, rising-past}
 use Rattle.order.proofs.TotalLaws.{before-through, before-turn}
 use Rattle.order.proofs.OrderLaws.{Small, in-order-rising}
 
-module _ (h : Header) (count : ℕ) (t : Tables) (m : Small t) (f : judgeRows Loose count 0 t ≡ Fine) where
+module _ (h : Header) (count : ℕ) (t : Tables) (m : Small t) (f : judgeRows Loose count noneBefore t ≡ Fine) where
   window-is : (since : Since) → windowOf h count t since ≡ take windowWidth (filter (isPast t since) (supInOrder h count t))
   unfolding windowOf supInOrder filter
   window-is since = ap (take windowWidth) (sym (filter-sort (goesBefore t) (before-through t) (before-turn t) (isPast t since) [] (supBorders h count t) Sorted.sorted-nil))

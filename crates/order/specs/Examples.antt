@@ -9,7 +9,7 @@ use Rattle.heading.specs.declared.Header.{Header}
 use Rattle.kinds.specs.Kinds.{rowWidth}
 use Rattle.sheet.specs.Tables.{Tables}
 use Rattle.made.specs.Made.{tablesOf}
-use Rattle.made.specs.Examples.{header, labelled}
+use Rattle.made.specs.Examples.{header, atFirst, placed, labelled}
 use Rattle.row.specs.declared.Stand.{Stand}
 use Rattle.row.specs.Examples.{computed as computedSought}
 use Rattle.border.specs.Examples.{computed as computedBorder}
@@ -58,7 +58,7 @@ by-area = (refl, refl, refl, refl)
 -- a border of so many letters, islands and vertices
 abbrev bordered : ℕ → ℕ → ℕ → List ℤ
 bordered letters islands vertices =
-    pos 1 ∷ pos 0 ∷ pos 0 ∷ pos 18 ∷ pos 0 ∷ pos 1 ∷ pos 1 ∷ pos 1 ∷ pos 1 ∷ pos letters ∷ pos islands ∷ pos vertices ∷ []
+    pos 1 ∷ pos 0 ∷ pos 0 ∷ pos 18 ∷ pos 0 ∷ pos 1 ∷ pos 1 ∷ pos 1 ∷ pos 1 ∷ pos letters ∷ pos islands ∷ pos vertices ∷ atFirst
 
 -- a square of a side
 abbrev square : ℕ → List ℤ
@@ -67,7 +67,8 @@ square side = pos 0 ∷ pos 0 ∷ pos side ∷ pos 0 ∷ pos side ∷ pos side �
 abbrev sheet : Tables
 sheet =
     tablesOf
-    (bordered 3 0 5 ++ bordered 2 0 5 ++ labelled 2 18 ++ bordered 2 0 5 ++ bordered 2 0 5 ++ bordered 2 1 10 ++ bordered 1 0 5 ++ bordered 2 0 5 ++ bordered 11 0 5)
+    (bordered 3 0 5 ++ placed 3 0 5 (bordered 2 0 5) ++ placed 5 0 10 (labelled 2 18) ++ placed 7 0 10 (bordered 2 0 5) ++ placed 9 0 15 (bordered 2 0 5)
+    ++ placed 11 0 20 (bordered 2 1 10) ++ placed 13 1 30 (bordered 1 0 5) ++ placed 14 1 35 (bordered 2 0 5) ++ placed 16 1 40 (bordered 11 0 5))
     (text "12A12zz127+1291212345678901") (5 ∷ [])
     (square 1 ++ square 3 ++ square 2 ++ square 1 ++ (square 1 ++ square 2) ++ square 1 ++ square 2 ++ square 1)
 
@@ -86,7 +87,7 @@ unfolding computed
 in-order = refl
 
 -- a window past row 3, and one from the first on
-past-row : (rowsOf (windowOf (header 1) 9 sheet (Past (record { row = 36; letters = 7; islands = 0; points = 20 }))) ≡ 7 ∷ 1 ∷ 8 ∷ 0 ∷ 6 ∷ [])
+past-row : (rowsOf (windowOf (header 1) 9 sheet (Past (record { row = 45; letters = 7; islands = 0; points = 20 }))) ≡ 7 ∷ 1 ∷ 8 ∷ 0 ∷ 6 ∷ [])
     × (rowsOf (windowOf (header 1) 9 sheet First) ≡ 5 ∷ 3 ∷ 7 ∷ 1 ∷ 8 ∷ 0 ∷ 6 ∷ [])
 unfolding computed
 past-row = (refl, refl)
@@ -96,7 +97,7 @@ past-row = (refl, refl)
 -- eleven letters three times, two of them equal, and the parcel `7`
 abbrev union : Tables
 union =
-    tablesOf (bordered 11 0 5 ++ bordered 1 0 5 ++ bordered 11 0 5 ++ bordered 11 0 5) (text "B23456789017A2345678901B2345678901") []
+    tablesOf (bordered 11 0 5 ++ placed 11 0 5 (bordered 1 0 5) ++ placed 12 0 10 (bordered 11 0 5) ++ placed 23 0 15 (bordered 11 0 5)) (text "B23456789017A2345678901B2345678901") []
     (square 2 ++ square 1 ++ square 3 ++ square 1)
 
 -- OTHER in place of parcels; in kind 1 the same letters are parcels, in kind 2 those from `A` a water
@@ -116,7 +117,7 @@ nothing = (refl, refl, refl)
 -- a text and a building of 12 letters, a parcel of 11, then parcels of 12 and of 13
 abbrev long-codes : Tables
 long-codes =
-    tablesOf (labelled 12 18 ++ bordered 12 0 5 ++ bordered 11 0 5 ++ bordered 12 0 5 ++ bordered 13 0 5)
+    tablesOf (labelled 12 18 ++ placed 12 0 0 (bordered 12 0 5) ++ placed 24 0 5 (bordered 11 0 5) ++ placed 35 0 10 (bordered 12 0 5) ++ placed 47 0 15 (bordered 13 0 5))
     (text "12345678901212345678901+123456789011234567890121234567890123") [] (square 1 ++ square 1 ++ square 1 ++ square 1)
 
 -- 12 letters are one too many; the first such row alone counts, and a union sheet has none

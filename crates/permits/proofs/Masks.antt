@@ -22,7 +22,7 @@ use Rattle.told.specs.Asked.{headerOf}
 use Rattle.told.specs.Masks.{maskTold}
 use Rattle.cabi.proofs.cxf_mask_of as cxf-mask-of
 use Rattle.cabi.proofs.cxf_mask_of.Reads as cxf-mask-reads
-use Rattle.permits.proofs.SmallSheets.{Tabled, header, noKind, in-C, no-kind-in-C, small, wide, faulty}
+use Rattle.permits.proofs.SmallSheets.{Tabled, header, noKind, in-C, no-kind-in-C, small, wide, faulty, falseStart}
 
 -- the parcel from (10, 20) to (20, 30) on cells of side 5, the corner at (0, 30): the third and fourth cell of the first two rows. Its island, from (0, 0) to (2, 2), has
 -- no centre of the grid
@@ -43,6 +43,10 @@ headed = refl
 made : maskAt header 4 faulty 4 (pos 0) (pos 30) (pos 0) ≡ undrawn (Refused (Verdict.Faulty 3))
 unfolding computed
 made = refl
+
+placed : maskAt header 4 falseStart 1 (pos 0) (pos 30) (pos 5) ≡ undrawn (Refused (Verdict.Faulty 3))
+unfolding computed
+placed = refl
 
 text-row : maskAt header 4 wide 0 (pos 0) (pos 30) (pos 0) ≡ undrawn Missing
 unfolding computed
@@ -81,6 +85,10 @@ module _ (κs : Lfts 4) (a : ArgsD mask-of.signature κs) (r : ResD mask-of.sign
 
   pub mask-faulty-row : Only header 4 faulty 4 (pos 0) (pos 30) (pos 0) (undrawn (Refused (Verdict.Faulty 3)))
   mask-faulty-row = only made
+
+  -- T-07: a row with a false start is not well made, also where another row is asked about
+  pub mask-false-start : Only header 4 falseStart 1 (pos 0) (pos 30) (pos 5) (undrawn (Refused (Verdict.Faulty 3)))
+  mask-false-start = only placed
 
   pub mask-no-border : Only header 4 wide 0 (pos 0) (pos 30) (pos 0) (undrawn Missing)
   mask-no-border = only text-row
@@ -121,6 +129,9 @@ module _ (κs : Lfts 5) (a : ArgsD cxf-mask-of.signature κs) (r : ResD cxf-mask
 
   pub cxf-mask-faulty-row : OnlyCxf header 4 faulty 4 (pos 0) (pos 30) (pos 0) (refused 15 3)
   cxf-mask-faulty-row = only-cxf in-C made
+
+  pub cxf-mask-false-start : OnlyCxf header 4 falseStart 1 (pos 0) (pos 30) (pos 5) (refused 15 3)
+  cxf-mask-false-start = only-cxf in-C placed
 
   pub cxf-mask-no-border : OnlyCxf header 4 wide 0 (pos 0) (pos 30) (pos 0) (refused 19 0)
   cxf-mask-no-border = only-cxf in-C text-row

@@ -1,4 +1,4 @@
--- What the contracts of `read_as`, `read` and `cxf_read`, as their sources write them, permit on some files: document 01, "Sheet tables"; document 02, T-04. Assumes nothing.
+-- What the contracts of `read_as`, `read` and `cxf_read`, as their sources write them, permit on some files: document 01, "Sheet tables"; document 02, T-04, T-05, T-07. Assumes nothing.
 use Prim.Native.Nat.{ℕ}
 use mathlib.Core.Path.{_≡_, refl, _∙_, ap}
 use mathlib.Core.List.{List, [], _∷_, _++_}
@@ -13,7 +13,7 @@ use Rattle.record.specs.declared.Mode.the-variants.{Loose, Exact}
 use Rattle.heading.specs.declared.Header.{Header}
 use Rattle.sheet.specs.Tables.{Tables}
 use Rattle.sheet.specs.Reading.{sheet, reading}
-use Rattle.sheet.specs.Examples.{listed, listed-is}
+use Rattle.sheet.specs.Examples.{listed, listed-is, scanned, scannedHeader, scannedTables, scanned-exact}
 use Rattle.made.specs.Made.{tablesOf}
 use Rattle.reader.specs.declared.Needs.{Needs}
 use Rattle.reader.specs.declared.Answer.the-variants.{NoRoom, Refused}
@@ -34,11 +34,11 @@ use Rattle.cabi.proofs.cxf_read.Reads as cxf-read-reads
 abbrev pub header : Header
 header = record { kind = 1; name = text "Z999_000100"; scale = pos 1000000 }
 
--- a border, and a text outside that says EOF
+-- a border, and a text outside that says EOF, each with its starts
 unfoldable pub rowsHeld : List ℤ
 rowsHeld =
-    pos 1 ∷ pos 0 ∷ pos 0 ∷ pos 18 ∷ pos 0 ∷ pos 1000 ∷ pos 1000 ∷ pos 1000 ∷ pos 1000 ∷ pos 1 ∷ pos 0 ∷ pos 5 ∷
-    pos 2 ∷ pos 1 ∷ pos 0 ∷ pos 18 ∷ pos 0 ∷ pos 3000 ∷ negsuc 4 ∷ pos 0 ∷ pos 0 ∷ pos 3 ∷ pos 0 ∷ pos 0 ∷ []
+    pos 1 ∷ pos 0 ∷ pos 0 ∷ pos 18 ∷ pos 0 ∷ pos 1000 ∷ pos 1000 ∷ pos 1000 ∷ pos 1000 ∷ pos 1 ∷ pos 0 ∷ pos 5 ∷ pos 0 ∷ pos 0 ∷ pos 0 ∷
+    pos 2 ∷ pos 1 ∷ pos 0 ∷ pos 18 ∷ pos 0 ∷ pos 3000 ∷ negsuc 4 ∷ pos 0 ∷ pos 0 ∷ pos 3 ∷ pos 0 ∷ pos 0 ∷ pos 1 ∷ pos 0 ∷ pos 5 ∷ []
 
 unfoldable pub pointsHeld : List ℤ
 pointsHeld = pos 0 ∷ pos 0 ∷ pos 10000 ∷ pos 0 ∷ pos 10000 ∷ pos 20000 ∷ pos 0 ∷ pos 20000 ∷ pos 0 ∷ pos 0 ∷ []
@@ -60,8 +60,8 @@ abbrev pub raster : List ℕ
 raster = text "MAPPA\nZ999_000100\n1000.000\nRIFERIMENTO_RASTER\\\n"
 
 -- a byte behind the EOF record
-abbrev pub followed : List ℕ
-followed = text "MAPPA\r\nZ999_000100\r\n    1000.000\r\nEOF\r\nx"
+abbrev pub tailed : List ℕ
+tailed = text "MAPPA\r\nZ999_000100\r\n    1000.000\r\nEOF\r\nx"
 
 -- a fourth decimal in the scale
 abbrev pub badScale : List ℕ
@@ -71,26 +71,37 @@ abbrev pub itsSheet : Outcome
 itsSheet = readWith needs header
 
 -- tables with room to spare, tables that are just long enough, and a row table one number short
-spare : readOf Loose listed (roomsOf 36 6 1 11) ≡ itsSheet
+spare : readOf Loose listed (roomsOf 45 6 1 11) ≡ itsSheet
 unfolding readOf holdsAll rowsHeld pointsHeld
 spare = rw is refl
 
-enough : readOf Loose listed (roomsOf 24 4 0 10) ≡ itsSheet
+enough : readOf Loose listed (roomsOf 30 4 0 10) ≡ itsSheet
 unfolding readOf holdsAll rowsHeld pointsHeld
 enough = rw is refl
 
-short : readOf Loose listed (roomsOf 23 6 1 11) ≡ refusedWith (NoRoom needs)
+short : readOf Loose listed (roomsOf 29 6 1 11) ≡ refusedWith (NoRoom needs)
 unfolding readOf holdsAll rowsHeld pointsHeld
 short = rw is refl
+
+-- a scanned sheet, in tables that are just long enough
+abbrev pub scannedNeeds : Needs
+scannedNeeds = record { rows = 2; letters = 22; islands = 0; points = 6 }
+
+abbrev pub itsScan : Outcome
+itsScan = readWith scannedNeeds scannedHeader
+
+scanned-read : readOf Exact scanned (roomsOf 30 22 0 12) ≡ itsScan
+unfolding readOf holdsAll scannedTables
+scanned-read = rw scanned-exact refl
 
 -- a refused file, whatever the tables
 refused-raster : (x : Rooms) → readOf Loose raster x ≡ refusedWith (Refused 7 4 27)
 unfolding readOf computedColumn
 refused-raster x = refl
 
-refused-followed : (x : Rooms) → readOf Exact followed x ≡ refusedWith (Refused 13 5 39)
+refused-tailed : (x : Rooms) → readOf Exact tailed x ≡ refusedWith (Refused 13 5 39)
 unfolding readOf computedColumn
-refused-followed x = refl
+refused-tailed x = refl
 
 refused-scale : (x : Rooms) → readOf Loose badScale x ≡ refusedIn 9 (Refused 8 3 18)
 unfolding readOf computedColumn
@@ -104,7 +115,16 @@ four p q r s i = record { rows = p i; letters = q i; islands = r i; points = s i
 -- tables that hold the example, and then the rest as it was
 abbrev pub holding : Tables → Tables
 holding t =
-    record { rows = rowsHeld ++ drop 24 (t .rows); letters = text "7EOF" ++ drop 4 (t .letters); islands = t .islands; points = pointsHeld ++ drop 10 (t .points) }
+    record { rows = rowsHeld ++ drop 30 (t .rows); letters = text "7EOF" ++ drop 4 (t .letters); islands = t .islands; points = pointsHeld ++ drop 10 (t .points) }
+
+abbrev pub holdingScan : Tables → Tables
+holdingScan t =
+    record {
+      rows = scannedTables .rows ++ drop 30 (t .rows);
+      letters = scannedTables .letters ++ drop 22 (t .letters);
+      islands = t .islands;
+      points = scannedTables .points ++ drop 12 (t .points);
+    }
 
 -- ---- `read_as`
 
@@ -125,28 +145,40 @@ module _ (κs : Lfts 5) (a : ArgsD read-as.signature κs) (r : ResD read-as.sign
 
   module _ (m : a .0 ≡ Loose) (s : now (a .1 .0) ≡ listed) where
     -- shuts out a reader that refuses everything
-    pub read-as-answers : Lengths 36 6 1 11 → r ≡ itsSheet
+    pub read-as-answers : Lengths 45 6 1 11 → r ≡ itsSheet
     read-as-answers n = post .0 ∙ rw (m, s, n .0, n .1, n .2, n .3) spare
 
     -- shuts out a reader that returns an empty sheet, and one that reads the first section and invents the rest
-    pub read-as-not-empty : Lengths 36 6 1 11 → left ≡ holding lent
+    pub read-as-not-empty : Lengths 45 6 1 11 → left ≡ holding lent
     unfolding rowsHeld pointsHeld
     read-as-not-empty n =
         let q : r ≡ itsSheet = read-as-answers n in
         four (post .1 .0 ∙ rw (q, m, s, is) refl) (post .1 .1 .0 ∙ rw (q, m, s, is) refl) (post .1 .1 .1 .0 ∙ rw (q, m, s, is) refl) (post .1 .1 .1 .1 ∙ rw (q, m, s, is) refl)
 
     -- shuts out a 14 without need: the tables are just long enough
-    pub read-as-no-14-without-need : Lengths 24 4 0 10 → r ≡ itsSheet
+    pub read-as-no-14-without-need : Lengths 30 4 0 10 → r ≡ itsSheet
     read-as-no-14-without-need n = post .0 ∙ rw (m, s, n .0, n .1, n .2, n .3) enough
 
     -- shuts out a made-up needed count: the row table is one number short
-    pub read-as-needs : Lengths 23 6 1 11 → r ≡ refusedWith (NoRoom needs)
+    pub read-as-needs : Lengths 29 6 1 11 → r ≡ refusedWith (NoRoom needs)
     read-as-needs n = post .0 ∙ rw (m, s, n .0, n .1, n .2, n .3) short
 
-    pub read-as-needs-untouched : Lengths 23 6 1 11 → left ≡ lent
+    pub read-as-needs-untouched : Lengths 29 6 1 11 → left ≡ lent
     read-as-needs-untouched n =
         let q : r ≡ refusedWith (NoRoom needs) = read-as-needs n in
         four (post .1 .0 ∙ rw q refl) (post .1 .1 .0 ∙ rw q refl) (post .1 .1 .1 .0 ∙ rw q refl) (post .1 .1 .1 .1 ∙ rw q refl)
+
+  module _ (m : a .0 ≡ Exact) (s : now (a .1 .0) ≡ scanned) where
+    -- shuts out a reader that knows five kinds
+    pub read-as-scanned : Lengths 30 22 0 12 → r ≡ itsScan
+    read-as-scanned n = post .0 ∙ rw (m, s, n .0, n .1, n .2, n .3) scanned-read
+
+    -- a row of 4 vertices that the file does not count, and their points as they stand
+    pub read-as-scanned-stores : Lengths 30 22 0 12 → left ≡ holdingScan lent
+    unfolding scannedTables
+    read-as-scanned-stores n =
+        let q : r ≡ itsScan = read-as-scanned n in
+        four (post .1 .0 ∙ rw (q, m, s, scanned-exact) refl) (post .1 .1 .0 ∙ rw (q, m, s, scanned-exact) refl) (post .1 .1 .1 .0 ∙ rw (q, m, s, scanned-exact) refl) (post .1 .1 .1 .1 ∙ rw (q, m, s, scanned-exact) refl)
 
   -- number, record and offset
   pub read-as-refuses : a .0 ≡ Loose → now (a .1 .0) ≡ raster → r ≡ refusedWith (Refused 7 4 27)
@@ -155,10 +187,10 @@ module _ (κs : Lfts 5) (a : ArgsD read-as.signature κs) (r : ResD read-as.sign
   pub read-as-untouched : a .0 ≡ Loose → now (a .1 .0) ≡ raster → left ≡ lent
   read-as-untouched m s = untouched (read-as-refuses m s)
 
-  pub read-as-after-eof : a .0 ≡ Exact → now (a .1 .0) ≡ followed → r ≡ refusedWith (Refused 13 5 39)
-  read-as-after-eof m s = post .0 ∙ rw (m, s) (refused-followed _)
+  pub read-as-after-eof : a .0 ≡ Exact → now (a .1 .0) ≡ tailed → r ≡ refusedWith (Refused 13 5 39)
+  read-as-after-eof m s = post .0 ∙ rw (m, s) (refused-tailed _)
 
-  pub read-as-after-eof-untouched : a .0 ≡ Exact → now (a .1 .0) ≡ followed → left ≡ lent
+  pub read-as-after-eof-untouched : a .0 ≡ Exact → now (a .1 .0) ≡ tailed → left ≡ lent
   read-as-after-eof-untouched m s = untouched (read-as-after-eof m s)
 
   -- 8 says the column
@@ -180,19 +212,19 @@ module _ (κs : Lfts 5) (a : ArgsD read.signature κs) (r : ResD read.signature 
   abbrev pub ReadLengths : ℕ → ℕ → ℕ → ℕ → Type 0
   ReadLengths n l i p = (length (readLent .rows) ≡ n) × (length (readLent .letters) ≡ l) × (length (readLent .islands) ≡ i) × (length (readLent .points) ≡ p)
 
-  pub read-answers : now (a .0) ≡ listed → ReadLengths 36 6 1 11 → r ≡ itsSheet
+  pub read-answers : now (a .0) ≡ listed → ReadLengths 45 6 1 11 → r ≡ itsSheet
   read-answers s n = post .0 ∙ rw (s, n .0, n .1, n .2, n .3) spare
 
-  pub read-not-empty : now (a .0) ≡ listed → ReadLengths 36 6 1 11 → readLeft ≡ holding readLent
+  pub read-not-empty : now (a .0) ≡ listed → ReadLengths 45 6 1 11 → readLeft ≡ holding readLent
   unfolding rowsHeld pointsHeld
   read-not-empty s n =
       let q : r ≡ itsSheet = read-answers s n in
       four (post .1 .0 ∙ rw (q, s, is) refl) (post .1 .1 .0 ∙ rw (q, s, is) refl) (post .1 .1 .1 .0 ∙ rw (q, s, is) refl) (post .1 .1 .1 .1 ∙ rw (q, s, is) refl)
 
-  pub read-needs : now (a .0) ≡ listed → ReadLengths 23 6 1 11 → r ≡ refusedWith (NoRoom needs)
+  pub read-needs : now (a .0) ≡ listed → ReadLengths 29 6 1 11 → r ≡ refusedWith (NoRoom needs)
   read-needs s n = post .0 ∙ rw (s, n .0, n .1, n .2, n .3) short
 
-  pub read-needs-untouched : now (a .0) ≡ listed → ReadLengths 23 6 1 11 → readLeft ≡ readLent
+  pub read-needs-untouched : now (a .0) ≡ listed → ReadLengths 29 6 1 11 → readLeft ≡ readLent
   read-needs-untouched s n =
       let q : r ≡ refusedWith (NoRoom needs) = read-needs s n in
       four (post .1 .0 ∙ rw q refl) (post .1 .1 .0 ∙ rw q refl) (post .1 .1 .1 .0 ∙ rw q refl) (post .1 .1 .1 .1 ∙ rw q refl)
@@ -231,28 +263,42 @@ module _ (κs : Lfts 5) (a : ArgsD cxf-read.signature κs) (r : ResD cxf-read.si
     cxf-within : {n l i p : ℕ} → CxfLengths n l i p → within ≡ readOf Loose listed (roomsOf n l i p)
     cxf-within n = rw (m, s, n .0, n .1, n .2, n .3) refl
 
-    pub cxf-read-answers : CxfLengths 36 6 1 11
+    pub cxf-read-answers : CxfLengths 45 6 1 11
         → r ≡ record { number = 0; nth = 0; offset = 0; column = 0; rows = 2; letters = 4; islands = 0; points = 5; kind = 1; scale = pos 1000000; name = text "Z999_000100" }
     cxf-read-answers n = cxf-told itsSheet (cxf-within n ∙ spare)
 
-    pub cxf-read-not-empty : CxfLengths 36 6 1 11 → cxfLeft ≡ holding cxfLent
+    pub cxf-read-not-empty : CxfLengths 45 6 1 11 → cxfLeft ≡ holding cxfLent
     unfolding rowsHeld pointsHeld
     cxf-read-not-empty n =
         let q : within ≡ itsSheet = cxf-within n ∙ spare in
         four (post .1 .0 ∙ rw (q, m, s, is) refl) (post .1 .1 .0 ∙ rw (q, m, s, is) refl) (post .1 .1 .1 .0 ∙ rw (q, m, s, is) refl) (post .1 .1 .1 .1 ∙ rw (q, m, s, is) refl)
 
-    pub cxf-read-no-14-without-need : CxfLengths 24 4 0 10
+    pub cxf-read-no-14-without-need : CxfLengths 30 4 0 10
         → r ≡ record { number = 0; nth = 0; offset = 0; column = 0; rows = 2; letters = 4; islands = 0; points = 5; kind = 1; scale = pos 1000000; name = text "Z999_000100" }
     cxf-read-no-14-without-need n = cxf-told itsSheet (cxf-within n ∙ enough)
 
-    pub cxf-read-needs : CxfLengths 23 6 1 11
+    pub cxf-read-needs : CxfLengths 29 6 1 11
         → r ≡ record { number = 14; nth = 0; offset = 0; column = 0; rows = 2; letters = 4; islands = 0; points = 5; kind = 0; scale = pos 0; name = replicate 11 0 }
     cxf-read-needs n = cxf-told (refusedWith (NoRoom needs)) (cxf-within n ∙ short)
 
-    pub cxf-read-needs-untouched : CxfLengths 23 6 1 11 → cxfLeft ≡ cxfLent
+    pub cxf-read-needs-untouched : CxfLengths 29 6 1 11 → cxfLeft ≡ cxfLent
     cxf-read-needs-untouched n =
         let q : within ≡ refusedWith (NoRoom needs) = cxf-within n ∙ short in
         four (post .1 .0 ∙ rw q refl) (post .1 .1 .0 ∙ rw q refl) (post .1 .1 .1 .0 ∙ rw q refl) (post .1 .1 .1 .1 ∙ rw q refl)
+
+  module _ (m : a .1 .0 ≡ 1) (s : now (a .0) ≡ scanned) where
+    cxf-within-scan : CxfLengths 30 22 0 12 → within ≡ itsScan
+    cxf-within-scan n = rw (m, s, n .0, n .1, n .2, n .3) scanned-read
+
+    pub cxf-read-scanned : CxfLengths 30 22 0 12
+        → r ≡ record { number = 0; nth = 0; offset = 0; column = 0; rows = 2; letters = 22; islands = 0; points = 6; kind = 1; scale = pos 1000000; name = text "Z999_000100" }
+    cxf-read-scanned n = cxf-told itsScan (cxf-within-scan n)
+
+    pub cxf-read-scanned-stores : CxfLengths 30 22 0 12 → cxfLeft ≡ holdingScan cxfLent
+    unfolding scannedTables
+    cxf-read-scanned-stores n =
+        let q : within ≡ itsScan = cxf-within-scan n in
+        four (post .1 .0 ∙ rw (q, m, s, scanned-exact) refl) (post .1 .1 .0 ∙ rw (q, m, s, scanned-exact) refl) (post .1 .1 .1 .0 ∙ rw (q, m, s, scanned-exact) refl) (post .1 .1 .1 .1 ∙ rw (q, m, s, scanned-exact) refl)
 
   pub cxf-read-refuses : a .1 .0 ≡ 0 → now (a .0) ≡ raster
       → r ≡ record { number = 7; nth = 4; offset = 27; column = 0; rows = 0; letters = 0; islands = 0; points = 0; kind = 0; scale = pos 0; name = replicate 11 0 }
@@ -261,12 +307,12 @@ module _ (κs : Lfts 5) (a : ArgsD cxf-read.signature κs) (r : ResD cxf-read.si
   pub cxf-read-untouched : a .1 .0 ≡ 0 → now (a .0) ≡ raster → cxfLeft ≡ cxfLent
   cxf-read-untouched m s = cxf-untouched 7 4 27 0 (rw (m, s) (refused-raster _))
 
-  pub cxf-read-after-eof : a .1 .0 ≡ 2 → now (a .0) ≡ followed
+  pub cxf-read-after-eof : a .1 .0 ≡ 2 → now (a .0) ≡ tailed
       → r ≡ record { number = 13; nth = 5; offset = 39; column = 0; rows = 0; letters = 0; islands = 0; points = 0; kind = 0; scale = pos 0; name = replicate 11 0 }
-  cxf-read-after-eof m s = cxf-told (refusedWith (Refused 13 5 39)) (rw (m, s) (refused-followed _))
+  cxf-read-after-eof m s = cxf-told (refusedWith (Refused 13 5 39)) (rw (m, s) (refused-tailed _))
 
-  pub cxf-read-after-eof-untouched : a .1 .0 ≡ 2 → now (a .0) ≡ followed → cxfLeft ≡ cxfLent
-  cxf-read-after-eof-untouched m s = cxf-untouched 13 5 39 0 (rw (m, s) (refused-followed _))
+  pub cxf-read-after-eof-untouched : a .1 .0 ≡ 2 → now (a .0) ≡ tailed → cxfLeft ≡ cxfLent
+  cxf-read-after-eof-untouched m s = cxf-untouched 13 5 39 0 (rw (m, s) (refused-tailed _))
 
   -- 8 says the column
   pub cxf-read-column : a .1 .0 ≡ 0 → now (a .0) ≡ badScale

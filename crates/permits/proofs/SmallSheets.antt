@@ -46,13 +46,13 @@ long-name-in-C = refl
 
 -- ---- sheets of four rows
 
--- row 0, a text of size 0; row 1, a parcel with an island; row 2, a text in brackets; row 3, a building of size 0
-abbrev rows : List ℤ
-rows =
-    pos 2 ∷ pos 1 ∷ pos 0 ∷ pos 0 ∷ pos 500 ∷ pos 3000 ∷ negsuc 4 ∷ pos 0 ∷ pos 0 ∷ pos 2 ∷ pos 0 ∷ pos 0 ∷
-    pos 1 ∷ pos 0 ∷ pos 0 ∷ pos 18 ∷ pos 90 ∷ pos 1 ∷ pos 2 ∷ pos 3 ∷ negsuc 3 ∷ pos 1 ∷ pos 1 ∷ pos 9 ∷
-    pos 2 ∷ pos 0 ∷ pos 0 ∷ pos 18 ∷ pos 0 ∷ pos 5 ∷ pos 6 ∷ pos 0 ∷ pos 0 ∷ pos 3 ∷ pos 0 ∷ pos 0 ∷
-    pos 1 ∷ pos 0 ∷ pos 0 ∷ pos 0 ∷ pos 0 ∷ pos 7 ∷ pos 8 ∷ pos 9 ∷ pos 10 ∷ pos 2 ∷ pos 0 ∷ pos 5 ∷ []
+-- row 0, a text of size 0; row 1, a parcel with an island; row 2, a text in brackets; row 3, a building of size 0, whose points are said to begin at `first`
+abbrev rows : ℕ → List ℤ
+rows first =
+    pos 2 ∷ pos 1 ∷ pos 0 ∷ pos 0 ∷ pos 500 ∷ pos 3000 ∷ negsuc 4 ∷ pos 0 ∷ pos 0 ∷ pos 2 ∷ pos 0 ∷ pos 0 ∷ pos 0 ∷ pos 0 ∷ pos 0 ∷
+    pos 1 ∷ pos 0 ∷ pos 0 ∷ pos 18 ∷ pos 90 ∷ pos 1 ∷ pos 2 ∷ pos 3 ∷ negsuc 3 ∷ pos 1 ∷ pos 1 ∷ pos 9 ∷ pos 2 ∷ pos 0 ∷ pos 0 ∷
+    pos 2 ∷ pos 0 ∷ pos 0 ∷ pos 18 ∷ pos 0 ∷ pos 5 ∷ pos 6 ∷ pos 0 ∷ pos 0 ∷ pos 3 ∷ pos 0 ∷ pos 0 ∷ pos 3 ∷ pos 1 ∷ pos 9 ∷
+    pos 1 ∷ pos 0 ∷ pos 0 ∷ pos 0 ∷ pos 0 ∷ pos 7 ∷ pos 8 ∷ pos 9 ∷ pos 10 ∷ pos 2 ∷ pos 0 ∷ pos 5 ∷ pos 6 ∷ pos 1 ∷ pos first ∷ []
 
 -- the parcel's square of the doubled area 200, then its island, of the doubled area side * side
 abbrev parcel : ℕ → List ℤ
@@ -64,12 +64,12 @@ parcel side =
 abbrev building : List ℤ
 building = pos 0 ∷ pos 0 ∷ pos 30 ∷ pos 30 ∷ pos 30 ∷ pos 0 ∷ pos 0 ∷ pos 10 ∷ pos 0 ∷ pos 0 ∷ []
 
-abbrev withPoints : List ℤ → Tables
-withPoints points = tablesOf rows (text "S79(7)8+") (4 ∷ []) points
+abbrev withPoints : ℕ → List ℤ → Tables
+withPoints first points = tablesOf (rows first) (text "S79(7)8+") (4 ∷ []) points
 
 -- by the island's side: small, larger than the parcel, too wide
 abbrev pub sheet : ℕ → Tables
-sheet side = withPoints (parcel side ++ building)
+sheet side = withPoints 9 (parcel side ++ building)
 
 abbrev pub small : Tables
 small = sheet 2
@@ -82,9 +82,13 @@ wide = sheet 20000001
 
 -- row 3 has no points
 abbrev pub faulty : Tables
-faulty = withPoints (parcel 2)
+faulty = withPoints 9 (parcel 2)
+
+-- row 3 says that its points begin one point too early
+abbrev pub falseStart : Tables
+falseStart = withPoints 8 (parcel 2 ++ building)
 
 -- ---- a sheet of one row: a parcel of eleven letters
 
 abbrev pub eleven : Tables
-eleven = tablesOf (pos 1 ∷ pos 0 ∷ pos 0 ∷ pos 18 ∷ pos 0 ∷ pos 7 ∷ pos 8 ∷ pos 9 ∷ pos 10 ∷ pos 11 ∷ pos 0 ∷ pos 5 ∷ []) (text "12345678901") [] building
+eleven = tablesOf (pos 1 ∷ pos 0 ∷ pos 0 ∷ pos 18 ∷ pos 0 ∷ pos 7 ∷ pos 8 ∷ pos 9 ∷ pos 10 ∷ pos 11 ∷ pos 0 ∷ pos 5 ∷ pos 0 ∷ pos 0 ∷ pos 0 ∷ []) (text "12345678901") [] building

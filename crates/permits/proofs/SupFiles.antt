@@ -11,9 +11,9 @@ use denote.Ref.{now}
 use Rattle.laws.specs.Text.{text}
 use Rattle.heading.specs.declared.Header.{Header}
 use Rattle.heading.specs.Heading.{noHeader}
-use Rattle.sheet.specs.Tables.{Tables}
+use Rattle.sheet.specs.Tables.{Tables, Starts, noStarts, startCells}
 use Rattle.made.specs.declared.Verdict.the-variants.{BadHeader}
-use Rattle.made.specs.Made.{tablesOf}
+use Rattle.made.specs.Made.{tablesOf, startsAt}
 use Rattle.tally.specs.declared.Refusal.the-variants.{Sheet, Wide}
 use Rattle.sup.specs.declared.SupAnswer.{SupAnswer}
 use Rattle.sup.specs.declared.SupAnswer.the-variants.{Wrote, NoRoom, Refused, BadDate, CodeTooLong, WideFigure}
@@ -30,8 +30,9 @@ use Rattle.permits.proofs.SmallSheets.{Tabled, header, noKind, longName
 
 -- ---- sheets, and the answers to them, computed
 
-abbrev pub borderRow : ℕ → ℕ → ℕ → List ℤ
-borderRow letters islands vertices = pos 1 ∷ pos 0 ∷ pos 0 ∷ pos 18 ∷ pos 0 ∷ pos 5 ∷ pos 5 ∷ pos 5 ∷ pos 5 ∷ pos letters ∷ pos islands ∷ pos vertices ∷ []
+-- a border of so many letters, islands and vertices, behind others that have so many letters, island counts and points
+abbrev pub borderRow : ℕ → ℕ → ℕ → Starts → List ℤ
+borderRow letters islands vertices s = pos 1 ∷ pos 0 ∷ pos 0 ∷ pos 18 ∷ pos 0 ∷ pos 5 ∷ pos 5 ∷ pos 5 ∷ pos 5 ∷ pos letters ∷ pos islands ∷ pos vertices ∷ startCells s
 
 abbrev pub rectangle : ℕ → ℕ → List ℤ
 rectangle width height = pos 0 ∷ pos 0 ∷ pos width ∷ pos 0 ∷ pos width ∷ pos height ∷ pos 0 ∷ pos height ∷ pos 0 ∷ pos 0 ∷ []
@@ -44,7 +45,7 @@ around =
 -- row 0 is the border of the sheet, of 16 m2; row 1 parcel 9, of 9 m2 without its island, whose ring has k vertices; row 2 a parcel of 6 m2
 abbrev pub parcels : List ℕ → ℕ → List ℤ → Tables
 parcels code k island =
-    tablesOf (borderRow 11 0 5 ++ (borderRow 1 1 (5 + k) ++ borderRow (length code) 0 5)) (text "Z999_0001009" ++ code) (k ∷ []) (rectangle 4000 4000 ++ (rectangle 3000 3000 ++ (island ++ rectangle 2000 3000)))
+    tablesOf (borderRow 11 0 5 noStarts ++ (borderRow 1 1 (5 + k) (startsAt 11 0 5) ++ borderRow (length code) 0 5 (startsAt 12 1 (10 + k)))) (text "Z999_0001009" ++ code) (k ∷ []) (rectangle 4000 4000 ++ (rectangle 3000 3000 ++ (island ++ rectangle 2000 3000)))
 
 abbrev pub twoParcels : Tables
 twoParcels = parcels (text "10") 5 (rectangle 1000 1000)

@@ -23,7 +23,7 @@ use Rattle.told.specs.Asked.{headerOf}
 use Rattle.told.specs.Tallies.{tallyTold}
 use Rattle.cabi.proofs.cxf_tally_sheet as cxf-tally-sheet
 use Rattle.cabi.proofs.cxf_tally_sheet.Reads as cxf-tally-reads
-use Rattle.permits.proofs.SmallSheets.{Tabled, header, noKind, in-C, no-kind-in-C, small, wide, faulty}
+use Rattle.permits.proofs.SmallSheets.{Tabled, header, noKind, in-C, no-kind-in-C, small, wide, faulty, falseStart}
 
 -- ---- tally_sheet
 
@@ -52,6 +52,10 @@ made : tallyOf header 4 faulty ≡ takenWith emptyTally (Sheet (Faulty 3))
 unfolding computed
 made = refl
 
+placed : tallyOf header 4 falseStart ≡ takenWith emptyTally (Sheet (Faulty 3))
+unfolding computed
+placed = refl
+
 module _ (κs : Lfts 4) (a : ArgsD tally-sheet.signature κs) (r : ResD tally-sheet.signature κs) (e : AtExit tally-sheet.ended κs) where
   abbrev pub Only : Header → ℕ → Tables → Taken → Type 0
   Only h count t x = a .0 ≡ h → Tabled count t (a .1) → tally-reads.Learnt κs a r e → r ≡ x
@@ -74,6 +78,10 @@ module _ (κs : Lfts 4) (a : ArgsD tally-sheet.signature κs) (r : ResD tally-sh
 
   pub tally-faulty-row : Only header 4 faulty (takenWith emptyTally (Sheet (Faulty 3)))
   tally-faulty-row = only made
+
+  -- T-07: a row with a false start is not well made
+  pub tally-false-start : Only header 4 falseStart (takenWith emptyTally (Sheet (Faulty 3)))
+  tally-false-start = only placed
 
 -- ---- cxf_tally_sheet
 
@@ -99,3 +107,6 @@ module _ (κs : Lfts 5) (a : ArgsD cxf-tally-sheet.signature κs) (r : ResD cxf-
 
   pub cxf-tally-faulty-row : OnlyCxf header 4 faulty (record { number = 15; row = 3; figures = noFigures })
   cxf-tally-faulty-row = only-cxf in-C made
+
+  pub cxf-tally-false-start : OnlyCxf header 4 falseStart (record { number = 15; row = 3; figures = noFigures })
+  cxf-tally-false-start = only-cxf in-C placed

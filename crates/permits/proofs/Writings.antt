@@ -1,4 +1,4 @@
--- What the contracts of `write` and `cxf_write`, as their sources write them, permit on some sheets: document 01, "Refusal numbers". Assumes nothing.
+-- What the contracts of `write` and `cxf_write`, as their sources write them, permit on some sheets: document 01, "Refusal numbers"; document 02, T-05, T-07. Assumes nothing.
 use Prim.Native.Nat.{ℕ}
 use mathlib.Core.Path.{_≡_, refl, _∙_, ap}
 use mathlib.Core.List.{List, [], _∷_, _++_}
@@ -9,14 +9,15 @@ use borrow.Fn.World.{ArgsD, ResD}
 use denote.Triple.Clauses.{AtExit}
 use denote.Ref.{now}
 use Rattle.laws.specs.Text.{text}
-use Rattle.layout.specs.Examples.{computed}
+use Rattle.layout.specs.Examples.{computed, scanned-written}
 use Rattle.heading.specs.declared.Header.{Header}
 use Rattle.heading.specs.Heading.{noHeader, isHeader}
 use Rattle.sheet.specs.Tables.{Tables}
+use Rattle.sheet.specs.Examples.{scanned, scannedTables}
 use Rattle.made.specs.declared.Verdict.{Verdict}
 use Rattle.made.specs.declared.Verdict.the-variants.{BadHeader, Faulty, Unlisted}
 use Rattle.made.specs.Made.{tablesOf, judgeOf}
-use Rattle.made.specs.Examples.{judged}
+use Rattle.made.specs.Examples.{judged, raster, ring}
 use Rattle.layout.specs.Sheet.{sheetText}
 use Rattle.writer.specs.declared.Written.{Written}
 use Rattle.writer.specs.declared.Written.the-variants.{Wrote, NoRoom, Refused}
@@ -35,13 +36,17 @@ header = record { kind = 1; name = text "Z999_000100"; scale = pos 1000000 }
 
 -- a text that lies outside, and a symbol behind it, which may be wrong: `outside` is 0 or 1, 12 is no listed code
 abbrev pub label : List ℤ
-label = pos 2 ∷ pos 1 ∷ pos 0 ∷ pos 18 ∷ pos 0 ∷ pos 3000 ∷ negsuc 4 ∷ pos 0 ∷ pos 0 ∷ pos 1 ∷ pos 0 ∷ pos 0 ∷ []
+label = pos 2 ∷ pos 1 ∷ pos 0 ∷ pos 18 ∷ pos 0 ∷ pos 3000 ∷ negsuc 4 ∷ pos 0 ∷ pos 0 ∷ pos 1 ∷ pos 0 ∷ pos 0 ∷ pos 0 ∷ pos 0 ∷ pos 0 ∷ []
 
-abbrev pub symbol : ℕ → ℕ → List ℤ
-symbol outside code = pos 3 ∷ pos outside ∷ pos code ∷ pos 0 ∷ pos 0 ∷ pos 5 ∷ pos 5 ∷ pos 0 ∷ pos 0 ∷ pos 0 ∷ pos 0 ∷ pos 0 ∷ []
+abbrev pub symbol : ℕ → ℕ → ℕ → List ℤ
+symbol outside code first = pos 3 ∷ pos outside ∷ pos code ∷ pos 0 ∷ pos 0 ∷ pos 5 ∷ pos 5 ∷ pos 0 ∷ pos 0 ∷ pos 0 ∷ pos 0 ∷ pos 0 ∷ pos first ∷ pos 0 ∷ pos 0 ∷ []
 
 abbrev pub sheetWith : ℕ → ℕ → Tables
-sheetWith outside code = tablesOf (label ++ symbol outside code) (text "7") [] []
+sheetWith outside code = tablesOf (label ++ symbol outside code 1) (text "7") [] []
+
+-- the symbol, which has no letters, says that they would begin at 0
+abbrev pub falseStart : Tables
+falseStart = tablesOf (label ++ symbol 0 14 0) (text "7") [] []
 
 abbrev pub file : List ℕ
 file = text "MAPPA\r\nZ999_000100\r\n    1000.000\r\nTESTO\\\r\n7\r\n  18\r\n       0.000\r\n       3.000\r\n      -0.005\r\nSIMBOLO\r\n  14\r\n       0.000\r\n       0.005\r\n       0.005\r\nEOF\r\n"
@@ -67,6 +72,10 @@ faulty : (room : ℕ) → writeOf header 2 (sheetWith 2 14) room ≡ Refused (Fa
 unfolding writeOf judged
 faulty room = refl
 
+misplaced : (room : ℕ) → writeOf header 2 falseStart room ≡ Refused (Faulty 1)
+unfolding writeOf judged
+misplaced room = refl
+
 unlisted : (room : ℕ) → writeOf header 2 (sheetWith 0 12) room ≡ Refused (Unlisted 1)
 unfolding writeOf judged
 unlisted room = refl
@@ -75,6 +84,22 @@ unlisted room = refl
 both : (room : ℕ) → writeOf header 2 (sheetWith 2 12) room ≡ Refused (Faulty 1)
 unfolding writeOf judged
 both room = refl
+
+-- a scanned sheet, and a raster of so many vertices behind a symbol
+scanned-spelt : writeOf header 2 scannedTables 275 ≡ Wrote 275
+unfolding writeOf computed judged scannedTables
+scanned-spelt = refl
+
+abbrev pub rasterOf : ℕ → Tables
+rasterOf vertices = tablesOf (symbol 0 14 0 ++ raster 0 0 vertices) (text "7") [] (ring 0 ++ ring 0)
+
+few-corners : (room : ℕ) → writeOf header 2 (rasterOf 3) room ≡ Refused (Faulty 1)
+unfolding writeOf judged
+few-corners room = refl
+
+many-corners : (room : ℕ) → writeOf header 2 (rasterOf 5) room ≡ Refused (Faulty 1)
+unfolding writeOf judged
+many-corners room = refl
 
 -- a header that is none, whatever is to be written
 no-header : (count : ℕ) (t : Tables) (room : ℕ) → writeOf noHeader count t room ≡ Refused BadHeader
@@ -117,11 +142,35 @@ module _ (κs : Lfts 5) (a : ArgsD write.signature κs) (r : ResD write.signatur
       pub write-needs-untouched : length lent ≡ 154 → left ≡ lent
       write-needs-untouched room = post .1 ∙ rw (write-needs room) refl
 
+    pub write-scanned : tables ≡ scannedTables → length lent ≡ 275 → (r ≡ Wrote 275) × (left ≡ scanned ++ drop 275 lent)
+    unfolding scanned
+    write-scanned t room =
+        let q : r ≡ Wrote 275 = post .0 ∙ rw (h, n, t, room) scanned-spelt in
+        (q, post .1 ∙ rw (q, h, n, t, scanned-written) refl)
+
+    -- a raster has four corners
+    pub write-few-corners : tables ≡ rasterOf 3 → (r ≡ Refused (Faulty 1)) × (left ≡ lent)
+    write-few-corners t =
+        let q : r ≡ Refused (Faulty 1) = post .0 ∙ rw (h, n, t) (few-corners _) in
+        (q, untouched q)
+
+    pub write-many-corners : tables ≡ rasterOf 5 → (r ≡ Refused (Faulty 1)) × (left ≡ lent)
+    write-many-corners t =
+        let q : r ≡ Refused (Faulty 1) = post .0 ∙ rw (h, n, t) (many-corners _) in
+        (q, untouched q)
+
     pub write-faulty : tables ≡ sheetWith 2 14 → r ≡ Refused (Faulty 1)
     write-faulty t = post .0 ∙ rw (h, n, t) (faulty _)
 
     pub write-faulty-untouched : tables ≡ sheetWith 2 14 → left ≡ lent
     write-faulty-untouched t = untouched (write-faulty t)
+
+    -- T-07: a row with a false start is not well made
+    pub write-false-start : tables ≡ falseStart → r ≡ Refused (Faulty 1)
+    write-false-start t = post .0 ∙ rw (h, n, t) (misplaced _)
+
+    pub write-false-start-untouched : tables ≡ falseStart → left ≡ lent
+    write-false-start-untouched t = untouched (write-false-start t)
 
     pub write-unlisted : tables ≡ sheetWith 0 12 → r ≡ Refused (Unlisted 1)
     write-unlisted t = post .0 ∙ rw (h, n, t) (unlisted _)
@@ -194,6 +243,13 @@ module _ (κs : Lfts 6) (a : ArgsD cxf-write.signature κs) (r : ResD cxf-write.
 
       pub cxf-write-needs-untouched : length cxfLent ≡ 154 → cxfLeft ≡ cxfLent
       cxf-write-needs-untouched room = post .1 ∙ rw (its-header, n, t, room, short) refl
+
+    pub cxf-write-scanned : cxfTables ≡ scannedTables → length cxfLent ≡ 275 → (r ≡ record { number = 0; row = 0; length = 275 }) × (cxfLeft ≡ scanned ++ drop 275 cxfLent)
+    unfolding scanned
+    cxf-write-scanned t room = (cxf-told (Wrote 275) (rw (its-header, n, t, room) scanned-spelt), post .1 ∙ rw (its-header, n, t, room, scanned-spelt, scanned-written) refl)
+
+    pub cxf-write-few-corners : cxfTables ≡ rasterOf 3 → (r ≡ record { number = 15; row = 1; length = 0 }) × (cxfLeft ≡ cxfLent)
+    cxf-write-few-corners t = (cxf-told (Refused (Faulty 1)) (rw (its-header, n, t) (few-corners _)), cxf-untouched (Faulty 1) (rw (its-header, n, t) (few-corners _)))
 
     pub cxf-write-faulty : cxfTables ≡ sheetWith 2 14 → r ≡ record { number = 15; row = 1; length = 0 }
     cxf-write-faulty t = cxf-told (Refused (Faulty 1)) (rw (its-header, n, t) (faulty _))

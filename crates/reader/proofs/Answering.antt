@@ -20,6 +20,7 @@ use Rattle.header.specs.Header.{headed}
 use Rattle.header.proofs.HeadLaws.{head-local}
 use Rattle.machine.specs.declared.State.{State}
 use Rattle.machine.specs.declared.State.the-variants.{Due}
+use Rattle.kinds.specs.Kinds.{rowWidth}
 use Rattle.sheet.specs.Tables.{Tables, empty}
 use Rattle.sheet.specs.Reading.{Sections, read, stop, walkFrom, under, sectionsOf, meaning, reading}
 use Rattle.sheet.proofs.Pass.{Pass, done, more, walk-accepts}
@@ -55,12 +56,12 @@ room-is : (o : Tables) (b : Needs) (rows letters islands points : ℕ) → Sized
 unfolding holdsAll
 room-is o b rows letters islands points h e =
     let a = needsOf o in
-    let t₁ = leb (a .rows) (rows / 12) in
+    let t₁ = leb (a .rows) (rows / rowWidth) in
     let t₂ = leb (a .letters) letters in
     let t₃ = leb (a .islands) islands in
     let e₃ = and-left (t₁ && t₂ && t₃) (leb (a .points) (points / 2)) e in
     let e₂ = and-left (t₁ && t₂) t₃ e₃ in
-    let r₁ = leb-true (length (o .rows) / 12) (rows / 12) (and-left t₁ t₂ e₂) in
+    let r₁ = leb-true (length (o .rows) / rowWidth) (rows / rowWidth) (and-left t₁ t₂ e₂) in
     let r₄ = leb-true (length (o .points) / 2) (points / 2) (and-right (t₁ && t₂ && t₃) (leb (a .points) (points / 2)) e) in
     (omega (arith, h .rows), leb-true (length (o .letters)) letters (and-right t₁ t₂ e₂), leb-true (length (o .islands)) islands (and-right (t₁ && t₂) t₃ e₃), omega (arith, h .points))
 

@@ -28,7 +28,7 @@ use Rattle.token.specs.declared.Want.the-variants.{Key, Text, Int, Real}
 use Rattle.token.specs.Lex.{unlift, keywords, keyText, ofKey, ofText, ofDecimal, lexOf}
 use Rattle.token.proofs.TokenLaws.{key-read, key-most, keyMost}
 use Rattle.record.specs.Refusals.{badLetters, badCount}
-use Rattle.kinds.specs.Kinds.{wantAt, schedule, nextIn, nextOf, fixed, fixedVertices, isListed}
+use Rattle.kinds.specs.Kinds.{rowWidth, wantAt, schedule, nextIn, nextOf, fixed, fixedVertices, isListed}
 use Rattle.machine.specs.Machine.{wantOf, freshRing, verticesOf, fieldsEnd, fieldOf, isShut, ringStep, vertexOf, keyStep, stepOf}
 use Rattle.machine.specs.declared.Ring.{Ring}
 use Rattle.machine.specs.declared.State.{State}
@@ -36,7 +36,7 @@ use Rattle.machine.specs.declared.State.the-variants.{Due, Field, Island, X, Y}
 use Rattle.machine.specs.declared.Step.{Step}
 use Rattle.machine.specs.declared.Step.the-variants.{Go, No, End}
 use Rattle.heading.specs.declared.Header.{Header}
-use Rattle.sheet.specs.Tables.{Tables, newRow, cellOf, setLast, put}
+use Rattle.sheet.specs.Tables.{Tables, startsOf, newRow, cellOf, setLast, put}
 use Rattle.sheet.specs.Reading.{sheet, reading}
 use Rattle.sheet.proofs.Pass.{Pass, done, more, end-some}
 use Rattle.sheet.proofs.Meaning.{Parts, meaning-file, reading-meaning, file-parts}
@@ -222,16 +222,16 @@ key-long mode c t q n = go (wordOf mode c) refl q
         omega (arith, k, ap length (v .1), trimmed-le c)
     go Word.Padded e q = absurd (let z : _≡_ {A = ℕ} 0 1 = cc in omega arith)
 
--- a row is 12 numbers, so three times its bytes are seven for each
+-- a row is 15 numbers, so 15 times its bytes are 28 for each
 put-rows : (mode : Mode) (st st′ : State) (next t : ℕ) (c : List ℕ) (o : Tables) (n : ℕ) → lexOf mode (wantOf st) c ≡ Say t → stepOf mode st t next ≡ Go st′
-    → length c + 1 ≤ n → 7 * length (put st t c o .rows) + 3 * owing st ≤ 7 * length (o .rows) + 3 * n + 3 * owing st′
+    → length c + 1 ≤ n → 28 * length (put st t c o .rows) + rowWidth * owing st ≤ 28 * length (o .rows) + rowWidth * n + rowWidth * owing st′
 unfolding put wantOf stepOf setLast vertexOf owed
 put-rows mode Due st′ next t c o n q g h =
     let k = subst (Opens t) g (key-opens t) in
-    omega (arith, k .1, key-long mode c t q (k .0), length-append (o .rows) (newRow t))
+    omega (arith, k .1, key-long mode c t q (k .0), length-append (o .rows) (newRow t (startsOf o)))
 put-rows mode (Field kind p i) st′ next t c o n q g h =
     let k = subst (Pays _) g (field-pays mode kind p i t) in
-    omega (arith, k, least-long mode (wantAt p) c t q, length-set (o .rows) (length (o .rows) - 12 + p) (cellOf (wantAt p) t))
+    omega (arith, k, least-long mode (wantAt p) c t q, length-set (o .rows) (length (o .rows) - rowWidth + p) (cellOf (wantAt p) t))
 put-rows mode (Island l s r) st′ next t c o n q g h = omega arith
 put-rows mode (X r) st′ next t c o n q g h =
     let k : 12 * r .left - 6 ≤ owing st′ = subst (Pays (12 * r .left - 6)) g (omega arith) in
@@ -241,7 +241,7 @@ put-rows mode (Y r x) st′ next t c o n q g h =
     omega (arith, k, real-long mode c t q)
 
 pass-rows : {mode : Mode} {st st₁ : State} {o o₁ : Tables} {body : List ℕ} → Pass mode st o body st₁ o₁
-    → 7 * length (o₁ .rows) + 3 * owing st ≤ 7 * length (o .rows) + 3 * length body + 3 * owing st₁
+    → 28 * length (o₁ .rows) + rowWidth * owing st ≤ 28 * length (o .rows) + rowWidth * length body + rowWidth * owing st₁
 pass-rows done = omega arith
 pass-rows {mode} {st} {o = o} (more {st₁ = stm} {t = t} {c = c} {e = e} {bs = bs} g p) =
     omega (
@@ -289,15 +289,15 @@ module _ (mode : Mode) (bs : List ℕ) (h : Header) (o : Tables) (q : reading mo
   parts = file-parts mode bs h o (meaning-file mode bs h o (reading-meaning mode bs h o q .1)) .0
 
   -- **the tables of a file are bounded by its bytes**
-  pub tables-most : (7 * length (o .rows) ≤ 3 * length bs) × (length (o .letters) + 2 * length (o .islands) + 6 * length (o .points) ≤ length bs)
+  pub tables-most : (28 * length (o .rows) ≤ rowWidth * length bs) × (length (o .letters) + 2 * length (o .islands) + 6 * length (o .points) ≤ length bs)
   tables-most =
       let a = ap length (parts .split) in
       let b = length-append (parts .head) (parts .body ++ parts .rest) in
       let c = length-append (parts .body) (parts .rest) in
       (omega (arith, pass-rows (parts .pass), a, b, c), omega (arith, pass-weight (parts .pass), a, b, c))
 
-  -- rows have 12 numbers and points two: nothing is left over
-  pub tables-whole : (length (o .rows) ≡ 12 * needsOf o .rows) × (length (o .points) ≡ 2 * needsOf o .points)
+  -- rows have 15 numbers and points two: nothing is left over
+  pub tables-whole : (length (o .rows) ≡ rowWidth * needsOf o .rows) × (length (o .points) ≡ 2 * needsOf o .points)
   tables-whole =
       let none : Needs = record { rows = 0; letters = 0; islands = 0; points = 0 } in
       let (b, s) = pass-sized (parts .pass) none (record { rows = refl; letters = refl; islands = refl; points = refl }) in

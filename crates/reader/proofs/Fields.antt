@@ -21,7 +21,7 @@ use Rattle.token.specs.declared.Want.{Want}
 use Rattle.token.specs.declared.Want.the-variants.{Text, Int, Real}
 use Rattle.quick.specs.declared.RealTaken.{RealTaken}
 use Rattle.quick.specs.Seen.{RealAt}
-use Rattle.kinds.specs.Kinds.{wantAt}
+use Rattle.kinds.specs.Kinds.{rowWidth, wantAt}
 use Rattle.machine.specs.Machine.{wantOf, fieldOf, stepOf, oneOf}
 use Rattle.machine.specs.declared.State.{State}
 use Rattle.machine.specs.declared.State.the-variants.{Field}
@@ -77,7 +77,7 @@ size-read mode bs z e h = by (lineOf mode false bs) refl e
         let a : z .width ≡ 0 = ap (λ (x : Size). x .width) q in
         absurd (omega arith)
 
-module _ (mode : Mode) (s : List ℕ) (at place : ℕ) (n : place < 12) (w : Want) (e : w ≡ wantAt place) where
+module _ (mode : Mode) (s : List ℕ) (at place : ℕ) (n : place < rowWidth) (w : Want) (e : w ≡ wantAt place) where
   pub said-real : (q : RealTaken) → w ≡ Real → (0 < q .width → RealAt mode s at (q .width) (q .value)) → 0 < q .width → FieldSays mode s at place (q .width) (q .value)
   said-real q f g h =
       let k : wantAt place ≡ Real = sym e ∙ f in
@@ -171,7 +171,7 @@ module _ (mode : Mode) (s : List ℕ) (d : ReadStand) (w : InFile s d) (l : List
         (h .some, omega (arith, h .some, h .within, length-drop here s), says-most mode (wantAt p) (take (a .len) (drop here s)) (r .token) (omega (arith, h .counted, h .most)) (a .says))
 
     pub entered-on : (kind i : ℕ) → st ≡ Field kind p i → (x : Step) → x ≡ fieldOf mode kind p i (r .token) → (st′ : State) → x ≡ Step.Go st′
-        → (m′ : List ℤ) → m′ ≡ set m (12 * (d .needs .rows - 1) + p) (cellOf (wantAt p) (r .token))
+        → (m′ : List ℤ) → m′ ≡ set m (rowWidth * (d .needs .rows - 1) + p) (cellOf (wantAt p) (r .token))
         → Entered mode s d l st′ (here + r .width) (here + r .width) (k + 1) m′
     entered-on kind i e x g st′ h m′ q =
         let b = entered-inside in
@@ -181,5 +181,5 @@ module _ (mode : Mode) (s : List ℕ) (d : ReadStand) (w : InFile s d) (l : List
           enters = rw q (entered t (a .apart) (field-turn mode s d kind p i here ring k (r .width) (r .token) a st′ (sym g ∙ h)));
           far = omega (arith, v .far, b .0);
           inside = b .1;
-          kept = rw q (length-set m (12 * (d .needs .rows - 1) + p) (cellOf (wantAt p) (r .token)) ∙ v .kept);
+          kept = rw q (length-set m (rowWidth * (d .needs .rows - 1) + p) (cellOf (wantAt p) (r .token)) ∙ v .kept);
         }

@@ -23,7 +23,7 @@ use Rattle.machine.specs.declared.State.the-variants.{Due, Field, Island, X, Y}
 use Rattle.sheet.specs.Tables.{Tables, empty, put}
 use Rattle.sheet.specs.Reading.{Sections, read, stop, walkFrom}
 use Rattle.reader.specs.Turn.{standAt, turnOf}
-use Rattle.reader.specs.Store.{tokenMost, IslandToken, rowsPut, lettersPut, islandsPut, pointsPut, PutRoom, sectionTables, Room, AtNumber, Enters, at-rest, entered, AtVertex, Stores, still, on}
+use Rattle.reader.specs.Store.{tokenMost, Counted, IslandToken, rowsPut, lettersPut, islandsPut, pointsPut, PutRoom, sectionTables, Room, AtNumber, Enters, at-rest, entered, AtVertex, Stores, still, on}
 use Rattle.reader.specs.declared.Needs.{Needs}
 use Rattle.reader.specs.declared.ReadStand.{ReadStand}
 use Rattle.reader.specs.declared.Turn.{Turn}
@@ -97,10 +97,14 @@ module _ {mode : Mode} {s : List ℕ} {target : Sections} {rows₀ : List ℤ} {
       part-is : part ≡ take len (drop (d .at) s)
       part-is = ap (λ (n : ℕ). take n (drop (d .at) s)) (add-sub-cancel-left (d .at) len)
 
-      pub fill-token : (t ≤ tokenMost) × IslandToken (d .state) t
+      pub fill-token : (t ≤ tokenMost) × IslandToken (d .state) t × Counted (d .needs)
       fill-token =
           let c = take len (drop (d .at) s) in
-          (says-most mode (wantOf (d .state)) c t (went .short) (went .says), island-token mode (d .state) c t (went .says))
+          let w = h .stands .within in (
+            says-most mode (wantOf (d .state)) c t (went .short) (went .says),
+            island-token mode (d .state) c t (went .says),
+            (omega (arith, w .letters, w .here, w .small), omega (arith, w .islands, w .here, w .small), omega (arith, w .points, w .here, w .small)),
+          )
 
       pub fill-room : PutRoom (d .state) part (d .needs) (length rows) (length letters) (length islands) (length points)
       fill-room =

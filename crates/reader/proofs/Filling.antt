@@ -1,5 +1,5 @@
 -- What is stored: each table holds what was read so far over what it held at entry. Assumes nothing.
-use mathlib.Core.Path.{_≡_, refl, sym, _∙_, ap, subst}
+use mathlib.Core.Path.{_≡_, refl, sym, _∙_, ap, ap₂, subst}
 use mathlib.Core.Bool.{Bool, true, false, cond}
 use mathlib.Core.List.{List, [], _∷_, _++_, append-nil}
 use Prim.Native.Nat.{ℕ, zero, suc, _+_, _-_, _*_, _≤_, _<_}
@@ -13,11 +13,11 @@ use Rattle.record.specs.declared.Mode.{Mode}
 use Rattle.number.specs.Words.{trimmed}
 use Rattle.token.specs.Lex.{unlift, lexOf}
 use Rattle.token.specs.declared.Token.{Token}
-use Rattle.kinds.specs.Kinds.{wantAt}
+use Rattle.kinds.specs.Kinds.{rowWidth, wantAt}
 use Rattle.machine.specs.Machine.{wantOf}
 use Rattle.machine.specs.declared.State.{State}
 use Rattle.machine.specs.declared.State.the-variants.{Due, Field, Island, X, Y}
-use Rattle.sheet.specs.Tables.{Tables, empty, newRow, cellOf, setLast, put}
+use Rattle.sheet.specs.Tables.{Tables, empty, Starts, startsOf, newRow, cellOf, setLast, put}
 use Rattle.sheet.specs.Reading.{Sections, read, stop, walk}
 use Rattle.sheet.proofs.Okay.{Okay}
 use Rattle.sheet.proofs.Pass.{Goes, Pass, done, more, Accepts, walk-accepts}
@@ -25,7 +25,7 @@ use Rattle.reader.specs.Store.{rowsPut, lettersPut, islandsPut, pointsPu
 use Rattle.reader.specs.Turn.{InFile}
 use Rattle.reader.specs.declared.Needs.{Needs}
 use Rattle.reader.specs.declared.ReadStand.{ReadStand}
-use Rattle.reader.proofs.Standing.{Sized, At, Moved}
+use Rattle.reader.proofs.Standing.{Sized, starts-are, At, Moved}
 
 -- ---- one record, table by table
 
@@ -33,11 +33,12 @@ put-rows : (st : State) (t : ℕ) (c : List ℕ) (o : Tables) (a : Needs) (l : L
     → rowsPut st t a (over (o .rows) l) ≡ over (put st t c o .rows) l
 unfolding put setLast
 put-rows Due t c o a l h k r =
-    ap (λ (n : ℕ). pasted (over (o .rows) l) n (newRow t)) (sym (h .rows)) ∙ over-more (o .rows) (newRow t) l (omega (arith, length-append (o .rows) (newRow t)))
+    ap₂ (λ (n : ℕ) (s : Starts). pasted (over (o .rows) l) n (newRow t s)) (sym (h .rows)) (starts-are o a h)
+    ∙ over-more (o .rows) (newRow t (startsOf o)) l (omega (arith, length-append (o .rows) (newRow t (startsOf o))))
 put-rows (Field kd p i) t c o a l h k r =
-    let z : 12 * (a .rows - 1) + p ≡ length (o .rows) - 12 + p = omega (arith, h .rows, k .0) in
+    let z : rowWidth * (a .rows - 1) + p ≡ length (o .rows) - rowWidth + p = omega (arith, h .rows, k .0) in
     ap (λ (n : ℕ). set (over (o .rows) l) n (cellOf (wantAt p) t)) z
-    ∙ over-set (o .rows) l (length (o .rows) - 12 + p) (cellOf (wantAt p) t) (omega (arith, k .0, k .1))
+    ∙ over-set (o .rows) l (length (o .rows) - rowWidth + p) (cellOf (wantAt p) t) (omega (arith, k .0, k .1))
 put-rows (Island l′ s r′) t c o a l h k r = refl
 put-rows (X r′) t c o a l h k r = refl
 put-rows (Y r′ x) t c o a l h k r = refl
@@ -84,10 +85,10 @@ put-room : (st : State) (t : ℕ) (c : List ℕ) (o : Tables) (a : Needs) (rows 
     → length (put st t c o .rows) ≤ rows → length (put st t c o .letters) ≤ letters → length (put st t c o .islands) ≤ islands → length (put st t c o .points) ≤ points
     → PutRoom st c a rows letters islands points
 unfolding put setLast
-put-room Due t c o a rows letters islands points h k r₁ r₂ r₃ r₄ = omega (arith, length-append (o .rows) (newRow t), h .rows)
+put-room Due t c o a rows letters islands points h k r₁ r₂ r₃ r₄ = omega (arith, length-append (o .rows) (newRow t (startsOf o)), h .rows)
 put-room (Field kd p i) t c o a rows letters islands points h k r₁ r₂ r₃ r₄ = (
   omega (arith, h .rows, k .0),
-  omega (arith, h .rows, length-set (o .rows) (length (o .rows) - 12 + p) (cellOf (wantAt p) t)),
+  omega (arith, h .rows, length-set (o .rows) (length (o .rows) - rowWidth + p) (cellOf (wantAt p) t)),
   k .1,
   omega (arith, h .letters, length-append (o .letters) (cond (eqb p 9) (trimmed c) []), few (eqb p 9)),
 )
@@ -109,9 +110,9 @@ pub record Longer (a b : Tables) : Type 0 where
 
 put-longer : (st : State) (t : ℕ) (c : List ℕ) (o : Tables) → Longer o (put st t c o)
 unfolding put setLast
-put-longer Due t c o = omega (arith, length-append (o .rows) (newRow t))
+put-longer Due t c o = omega (arith, length-append (o .rows) (newRow t (startsOf o)))
 put-longer (Field kd p i) t c o =
-    omega (arith, length-set (o .rows) (length (o .rows) - 12 + p) (cellOf (wantAt p) t), length-append (o .letters) (cond (eqb p 9) (trimmed c) []))
+    omega (arith, length-set (o .rows) (length (o .rows) - rowWidth + p) (cellOf (wantAt p) t), length-append (o .letters) (cond (eqb p 9) (trimmed c) []))
 put-longer (Island l s r) t c o = omega (arith, length-append (o .islands) (t ∷ []))
 put-longer (X r) t c o = omega (arith, length-append (o .points) (unlift t ∷ []))
 put-longer (Y r x) t c o = omega (arith, length-append (o .points) (unlift t ∷ []))

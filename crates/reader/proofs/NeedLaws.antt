@@ -9,6 +9,7 @@ use borrow.Author.Tests.{le-leb}
 use Rattle.laws.proofs.Choice.{false≢true}
 use Rattle.record.specs.declared.Mode.{Mode}
 use Rattle.heading.specs.declared.Header.{Header}
+use Rattle.kinds.specs.Kinds.{rowWidth}
 use Rattle.sheet.specs.Tables.{Tables}
 use Rattle.sheet.specs.Reading.{Reading, sheet, refused, reading}
 use Rattle.reader.specs.declared.Needs.{Needs}
@@ -46,7 +47,7 @@ counts-most mode bs r = by (reading mode bs) refl
 
 -- tables that hold any file of n bytes
 pub record Enough (n : ℕ) (r : Rooms) : Type 0 where
-  pub rows : n / 28 ≤ r .rows / 12
+  pub rows : n / 28 ≤ r .rows / rowWidth
   pub letters : n ≤ r .letters
   pub islands : n / 2 ≤ r .islands
   pub points : n / 12 ≤ r .points / 2
@@ -57,7 +58,7 @@ unfolding holdsAll
 enough-holds mode bs h o r n q l e =
     let m = needs-most mode bs h o q in
     rw (
-      le-leb (length (o .rows) / 12) (r .rows / 12) (omega (arith, e .rows, m .rows)),
+      le-leb (length (o .rows) / rowWidth) (r .rows / rowWidth) (omega (arith, e .rows, m .rows)),
       le-leb (length (o .letters)) (r .letters) (omega (arith, e .letters, m .letters)),
       le-leb (length (o .islands)) (r .islands) (omega (arith, e .islands, m .islands)),
       le-leb (length (o .points) / 2) (r .points / 2) (omega (arith, e .points, m .points)),

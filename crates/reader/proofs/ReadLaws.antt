@@ -14,7 +14,8 @@ use Rattle.record.specs.declared.Mode.{Mode}
 use Rattle.record.specs.declared.Mode.the-variants.{Loose, Exact}
 use Rattle.record.specs.Refusals.{lineEnd, unlistedCode, afterEOF, noRoom, fileMost}
 use Rattle.heading.specs.declared.Header.{Header}
-use Rattle.sheet.specs.Tables.{Tables, _then_, overOf, rowCount}
+use Rattle.kinds.specs.Kinds.{rowWidth}
+use Rattle.sheet.specs.Tables.{Tables, _followed_, overOf, rowCount}
 use Rattle.sheet.specs.Reading.{Reading, sheet, refused, reading, joined}
 use Rattle.sheet.proofs.Exact.{exact-loose}
 use Rattle.sheet.proofs.Join.{joining}
@@ -121,17 +122,17 @@ pub record Larger (r r′ : Rooms) : Type 0 where
 holds-more : (a : Needs) (r r′ : Rooms) → Larger r r′ → holdsAll a r ≡ true → holdsAll a r′ ≡ true
 unfolding holdsAll
 holds-more a r r′ l e =
-    let t₁ = leb (a .rows) (r .rows / 12) in
+    let t₁ = leb (a .rows) (r .rows / rowWidth) in
     let t₂ = leb (a .letters) (r .letters) in
     let t₃ = leb (a .islands) (r .islands) in
     let e₃ = and-left (t₁ && t₂ && t₃) (leb (a .points) (r .points / 2)) e in
     let e₂ = and-left (t₁ && t₂) t₃ e₃ in
-    let r₁ = leb-true (a .rows) (r .rows / 12) (and-left t₁ t₂ e₂) in
+    let r₁ = leb-true (a .rows) (r .rows / rowWidth) (and-left t₁ t₂ e₂) in
     let r₂ = leb-true (a .letters) (r .letters) (and-right t₁ t₂ e₂) in
     let r₃ = leb-true (a .islands) (r .islands) (and-right (t₁ && t₂) t₃ e₃) in
     let r₄ = leb-true (a .points) (r .points / 2) (and-right (t₁ && t₂ && t₃) (leb (a .points) (r .points / 2)) e) in
     rw (
-      le-leb (a .rows) (r′ .rows / 12) (omega (arith, l .rows)),
+      le-leb (a .rows) (r′ .rows / rowWidth) (omega (arith, l .rows)),
       le-leb (a .letters) (r′ .letters) (omega (arith, l .letters)),
       le-leb (a .islands) (r′ .islands) (omega (arith, l .islands)),
       le-leb (a .points) (r′ .points / 2) (omega (arith, l .points)),
@@ -174,11 +175,11 @@ exact-within-loose bs r a h e =
 -- **joining**: a second accepted map's elements put just before the EOF record of a first: if the joined file keeps the length
 -- limit and has room, its elements are the first map's followed by the second's
 pub joined-read : (mode : Mode) (a b : List ℕ) (h h′ : Header) (o o′ : Tables) (r : Rooms) → reading mode a ≡ sheet h o → reading mode b ≡ sheet h′ o′
-    → length (joined mode a b) ≤ fileMost → holdsAll (needsOf (o then o′)) r ≡ true
-    → (readOf mode (joined mode a b) r ≡ readWith (needsOf (o then o′)) h) × (tablesIn (reading mode (joined mode a b)) ≡ o then o′)
+    → length (joined mode a b) ≤ fileMost → holdsAll (needsOf (o followed o′)) r ≡ true
+    → (readOf mode (joined mode a b) r ≡ readWith (needsOf (o followed o′)) h) × (tablesIn (reading mode (joined mode a b)) ≡ o followed o′)
 joined-read mode a b h h′ o o′ r e e′ l f =
     let j = joining mode a b h h′ o o′ e e′ l in
-    (is-read mode (joined mode a b) r h (o then o′) j f, rw j)
+    (is-read mode (joined mode a b) r h (o followed o′) j f, rw j)
 
 -- ---- by the paper's numbers, and by what the lent tables hold at exit
 
@@ -202,7 +203,7 @@ exit-used mode bs t = go (answerTo mode bs t) (answerTo mode bs t .answer) (view
     whole : (h : Header) (o : Tables) (a : Needs) → reading mode bs ≡ sheet h o → usedPart (needsOf o) (atExit (Answer.Read a) o t) ≡ o
     whole h o a e =
         let w = tables-whole mode bs h o e in
-        let rows = part-is (12 * needsOf o .rows) (o .rows) (t .rows) (w .0) in
+        let rows = part-is (rowWidth * needsOf o .rows) (o .rows) (t .rows) (w .0) in
         let letters = part-is (length (o .letters)) (o .letters) (t .letters) refl in
         let islands = part-is (length (o .islands)) (o .islands) (t .islands) refl in
         let points = part-is (2 * needsOf o .points) (o .points) (t .points) (w .1) in
@@ -272,18 +273,18 @@ pub joined-exit : (mode : Mode) (a b : List ℕ) (t u v : Tables) → numberOf (
     → length (joined mode a b) ≤ fileMost → (numberOf (answerTo mode (joined mode a b) v .answer) ≡ noRoom → ⊥)
     → (numberOf (answerTo mode (joined mode a b) v .answer) ≡ 0) × (answerTo mode (joined mode a b) v .header ≡ answerTo mode a t .header)
     × (usedPart (countsOf (answerTo mode (joined mode a b) v .answer)) (exitOf mode (joined mode a b) v)
-    ≡ usedPart (countsOf (answerTo mode a t .answer)) (exitOf mode a t) then usedPart (countsOf (answerTo mode b u .answer)) (exitOf mode b u))
+    ≡ usedPart (countsOf (answerTo mode a t .answer)) (exitOf mode a t) followed usedPart (countsOf (answerTo mode b u .answer)) (exitOf mode b u))
 joined-exit mode a b t u v e e′ l n =
     let p = zero-is mode a (roomsIn t) e in
     let q = zero-is mode b (roomsIn u) e′ in
-    let o = p .tables then q .tables in
+    let o = p .tables followed q .tables in
     let h = answerTo mode a t .header in
     let h′ = answerTo mode b u .header in
     let room = enough h o (joining mode a b h h′ (p .tables) (q .tables) (p .sound) (q .sound) l) (holdsAll (needsOf o) (roomsIn v)) refl in
     let w = joined-read mode a b h h′ (p .tables) (q .tables) (roomsIn v) (p .sound) (q .sound) l room in (
       ap (λ (y : Outcome). numberOf (y .answer)) (w .0),
       ap (λ (y : Outcome). y .header) (w .0),
-      exit-used mode (joined mode a b) v n ∙ w .1 ∙ sym (ap₂ (λ (y z : Tables). y then z) (used mode a t e ∙ ap tablesIn (p .sound)) (used mode b u e′ ∙ ap tablesIn (q .sound))),
+      exit-used mode (joined mode a b) v n ∙ w .1 ∙ sym (ap₂ (λ (y z : Tables). y followed z) (used mode a t e ∙ ap tablesIn (p .sound)) (used mode b u e′ ∙ ap tablesIn (q .sound))),
     )
   where
     enough : (h : Header) (o : Tables) → reading mode (joined mode a b) ≡ sheet h o → (x : Bool) → holdsAll (needsOf o) (roomsIn v) ≡ x → holdsAll (needsOf o) (roomsIn v) ≡ true

@@ -1,19 +1,18 @@
 -- Where a walk of the reader stands in the meaning's walk, and what a turn makes of that. Assumes nothing.
-use mathlib.Core.Path.{_≡_, refl, sym, _∙_, ap, ap₂, subst}
-use mathlib.Core.Bool.{Bool, true, false, cond, not, _&&_, _||_}
-use mathlib.Core.List.{List, [], _∷_, _++_}
+use mathlib.Core.Path.{_≡_, refl, sym, _∙_, ap, subst}
+use mathlib.Core.Bool.{Bool, true, false, cond, _&&_}
+use mathlib.Core.List.{List, [], _∷_}
 use Prim.Native.Nat.{ℕ, zero, suc, _+_, _-_, _*_, _/_, _≤_, _<_}
 use native.Mathlib.Omega.{arith}
-use lib.ListN.{length, take, drop, length-append, length-set, length-take, length-drop}
-use lib.Seq.{drop-drop, length-take-le}
+use lib.ListN.{length, take, drop, length-append, length-set, length-drop}
+use lib.Seq.{drop-drop}
 use lib.Dec.{leb, eqb}
-use borrow.Author.Tests.{leb-true, leb-false, eqb-true, le-leb, lt-leb}
+use borrow.Author.Tests.{leb-true, leb-false}
 use Rattle.laws.proofs.Choice.{cond-elim}
 use Rattle.record.specs.declared.Mode.{Mode}
 use Rattle.record.specs.declared.Mode.the-variants.{Loose, Exact}
 use Rattle.record.specs.declared.Line.{Line}
-use Rattle.record.specs.Refusals.{fileMost}
-use Rattle.record.specs.Record.{isLoose, lineOf}
+use Rattle.record.specs.Record.{lineOf}
 use Rattle.record.proofs.RecordLaws.{line-view, line-none}
 use Rattle.number.specs.declared.Whole.{Whole}
 use Rattle.number.specs.declared.Word.{Word}
@@ -24,89 +23,34 @@ use Rattle.number.proofs.WordLaws.{word-is, trimmed-le}
 use Rattle.token.specs.Lex.{unlift, ofText, lexOf}
 use Rattle.token.specs.declared.Token.{Token}
 use Rattle.token.specs.declared.Want.the-variants.{Text, Int, Real}
-use Rattle.kinds.specs.Kinds.{nextOf, fixedVertices, isListed, wantAt}
-use Rattle.machine.specs.Machine.{wantOf, isDue, verticesOf, fieldsEnd, fieldOf, islandOf, isShut, ringStep, vertexOf, keyStep, stepOf, ofStep, ofToken, ofLine, oneOf}
-use Rattle.machine.specs.declared.Ring.{Ring}
+use Rattle.kinds.specs.Kinds.{rowWidth, wantAt}
+use Rattle.machine.specs.Machine.{wantOf, isDue, stepOf, ofStep, ofToken, ofLine, oneOf}
 use Rattle.machine.specs.declared.State.{State}
 use Rattle.machine.specs.declared.State.the-variants.{Due, Field, Island, X, Y}
-use Rattle.machine.specs.declared.Step.{Step}
 use Rattle.machine.specs.declared.Step.the-variants.{Go, No, End}
 use Rattle.machine.specs.declared.One.{One}
-use Rattle.sheet.specs.Tables.{Tables, empty, newRow, setLast, put, ringAfter}
+use Rattle.sheet.specs.Tables.{Tables, startsOf, newRow, setLast, put, ringAfter}
 use Rattle.sheet.specs.Reading.{Sections, read, stop, after, walk}
 use Rattle.sheet.specs.Reading as Reading
 use Rattle.sheet.proofs.Okay.{Okay, go-okay}
 use Rattle.sheet.proofs.Pass.{Went, Ended, OneView, one-view}
-use Rattle.reader.specs.Turn.{noSize, sized, sizeLine, sizeOf, isTurning, sizeNext, islNext, noNeeds, added, closing, turned, turnOf, InFile}
-use Rattle.reader.specs.Read.{needsOf, judgedOf}
+use Rattle.sheet.proofs.Whole.{oddOf, StepOdd, oddNext, step-odd}
+use Rattle.reader.specs.Turn.{sized, sizeLine, sizeOf, isTurning, sizeNext, islNext, added, closing, turned, turnOf, InFile}
+use Rattle.reader.specs.Store.{startsBehind}
+use Rattle.reader.specs.Read.{needsOf}
 use Rattle.reader.specs.declared.Needs.{Needs}
 use Rattle.reader.specs.declared.ReadStand.{ReadStand}
 use Rattle.reader.specs.declared.Turn.{Turn}
 use Rattle.reader.specs.declared.Size.{Size}
-use Rattle.reader.specs.declared.Judged.{Judged}
-use Rattle.reader.specs.declared.Judged.the-variants as Judged
-use Rattle.reader.proofs.Rings.{counts, Pend, ring-next, go-pend, step-free}
+use Rattle.reader.proofs.Rings.{Pend, ring-next, go-pend, step-free}
 
 -- ---- the needs count the tables
 
--- an x without its y
-abbrev pub oddOf : State → ℕ
-oddOf Due = 0
-oddOf (Field k p i) = 0
-oddOf (Island l s r) = 0
-oddOf (X r) = 0
-oddOf (Y r x) = 1
-
 pub record Sized (st : State) (o : Tables) (a : Needs) : Type 0 where
-  pub rows : length (o .rows) ≡ 12 * a .rows
+  pub rows : length (o .rows) ≡ rowWidth * a .rows
   pub letters : length (o .letters) ≡ a .letters
   pub islands : length (o .islands) ≡ a .islands
   pub points : length (o .points) ≡ 2 * a .points + oddOf st
-
--- after an x a y is wanted, and nowhere else
-abbrev StepOdd : ℕ → Step → Type 0
-StepOdd n (Go st) = oddOf st ≡ n
-StepOdd n (No m) = Unit {0}
-StepOdd n End = Unit {0}
-
-abbrev oddNext : State → ℕ
-oddNext Due = 0
-oddNext (Field k p i) = 0
-oddNext (Island l s r) = 0
-oddNext (X r) = 1
-oddNext (Y r x) = 0
-
-vertices-odd : (kind i n : ℕ) → StepOdd 0 (verticesOf kind i n)
-unfolding verticesOf
-vertices-odd kind i n =
-    let Q = StepOdd 0 in
-    cond-elim Q (eqb kind 1) _ _
-    (λ _. cond-elim Q (leb (4 + 4 * i) n) _ _ (λ _. cond-elim Q (eqb i 0) _ _ (λ _. refl) (λ _. refl)) (λ _. tt))
-    (λ _. cond-elim Q (leb 2 n) _ _ (λ _. refl) (λ _. tt))
-
-end-odd : (kind : ℕ) → StepOdd 0 (fieldsEnd kind)
-unfolding fieldsEnd
-end-odd kind = cond-elim (StepOdd 0) (eqb (fixedVertices kind) 0) _ _ (λ _. refl) (λ _. vertices-odd kind 0 (fixedVertices kind))
-
-step-odd : (mode : Mode) (st : State) (t next : ℕ) → StepOdd (oddNext st) (stepOf mode st t next)
-unfolding stepOf keyStep fieldOf islandOf vertexOf ringStep
-step-odd mode Due t next =
-    let Q = StepOdd 0 in
-    cond-elim Q (eqb t 0) _ _ (λ _. tt) (λ _. cond-elim Q (eqb (nextOf (t / 2) 0) 0) _ _ (λ _. tt) (λ _. refl))
-step-odd mode (Field kind p i) t next =
-    let Q = StepOdd 0 in
-    cond-elim Q (eqb p 2 && not (isLoose mode) && not (isListed kind t)) _ _ (λ _. tt)
-    (λ _. cond-elim Q (eqb p 11) _ _ (λ _. vertices-odd kind i t)
-    (λ _. cond-elim Q (eqb (nextOf kind p) 0) _ _ (λ _. end-odd kind) (λ _. refl)))
-step-odd mode (Island l s r) t next =
-    let Q = StepOdd 0 in
-    cond-elim Q (leb 4 t && leb (t + 4) s) _ _ (λ _. cond-elim Q (leb l 1) _ _ (λ _. refl) (λ _. refl)) (λ _. tt)
-step-odd mode (X r) t next = refl
-step-odd mode (Y r x) t next =
-    let Q = StepOdd 0 in
-    cond-elim Q (leb (r .left) 1) _ _
-    (λ _. cond-elim Q (isShut (r .closed) _ _ x t) _ _ (λ _. cond-elim Q (eqb (r .rings) 0) _ _ (λ _. refl) (λ _. refl)) (λ _. tt))
-    (λ _. refl)
 
 -- letters that are read are as many as the word has
 text-says : (mode : Mode) (c : List ℕ) (t : ℕ) → lexOf mode Text c ≡ Token.Say t → length (trimmed c) ≡ t
@@ -134,7 +78,7 @@ sized-by : (mode : Mode) (st st′ : State) (t : ℕ) (c : List ℕ) (o : Tables
     → Sized st′ (put st t c o) (added a st t)
 unfolding put added setLast wantOf
 sized-by mode Due st′ t c o a h q e =
-    record { rows = omega (arith, length-append (o .rows) (newRow t), h .rows); letters = h .letters; islands = h .islands; points = omega (arith, h .points) }
+    record { rows = omega (arith, length-append (o .rows) (newRow t (startsOf o)), h .rows); letters = h .letters; islands = h .islands; points = omega (arith, h .points) }
 sized-by mode (Field k p i) st′ t c o a h q e =
     record {
       rows = simp length-set (h .rows);
@@ -156,9 +100,13 @@ sized-put mode st st′ t next c o a h q g = sized-by mode st st′ t c o a h q 
 -- where a keyword is due the needs are those of the tables
 pub needs-are : (o : Tables) (a : Needs) → Sized Due o a → needsOf o ≡ a
 needs-are o a h =
-    let r : length (o .rows) / 12 ≡ a .rows = omega (arith, h .rows) in
+    let r : length (o .rows) / rowWidth ≡ a .rows = omega (arith, h .rows) in
     let p : length (o .points) / 2 ≡ a .points = omega (arith, h .points) in
     λ i. record { rows = r i; letters = h .letters i; islands = h .islands i; points = p i }
+
+-- and so are the starts of the next row
+pub starts-are : (o : Tables) (a : Needs) → Sized Due o a → startsBehind a ≡ startsOf o
+starts-are o a h = ap (λ (n : Needs). startsBehind n) (sym (needs-are o a h))
 
 -- ---- where a walk stands
 

@@ -1,31 +1,30 @@
 -- The stores into lent tables: a list that is copied, a row that is new, a real, a word. Assumes nothing.
 use mathlib.Core.Path.{_≡_, refl, sym, _∙_, ap, subst}
 use mathlib.Core.Bool.{Bool, true, false, cond}
-use mathlib.Core.List.{List}
+use mathlib.Core.List.{List, [], _∷_}
 use Prim.Native.Nat.{ℕ, zero, suc, _+_, _-_, _/_, _%_, _^_, _≤_, _<_, zero-le}
 use native.Mathlib.Omega.{arith}
 use lib.ListN.{length, take, drop, getD, set}
 use lib.Seq.{paste, paste-zero, length-paste}
-use lib.Dec.{leb, eqb, ltb}
+use lib.Dec.{eqb, ltb}
 use lib.IntN.{ℤ, pos, negsuc, _-ℤ_}
 use lib.Signed.{mag}
 use mir.Syntax.{w64}
 use mir.Val.{SFits, toZ, ofZ}
 use mir.ValLaws.{toZ-pos, toZ-ofZ}
-use borrow.Author.Tests.{eq-eqb, ne-eqb, leb-true, leb-false}
-use Rattle.laws.specs.Lists.{below, pasted}
-use Rattle.laws.proofs.ListLaws.{below-at}
-use Rattle.laws.proofs.TableLaws.{paste-more, paste-all}
+use borrow.Author.Tests.{eq-eqb, ne-eqb}
+use Rattle.laws.specs.Lists.{pasted}
+use Rattle.laws.proofs.TableLaws.{paste-more, paste-all, pasted-behind}
 use Rattle.record.specs.declared.Mode.the-variants.{Loose}
 use Rattle.number.specs.declared.Word.{Word}
 use Rattle.number.specs.declared.Word.the-variants as Word
 use Rattle.number.specs.Words.{wordOf, trimmed}
 use Rattle.number.proofs.WordLaws.{word-is}
-use Rattle.token.specs.Lex.{kindMost, liftBy, unlift}
-use Rattle.kinds.specs.Kinds.{rowWidth, verticesPlace, fixed, fixedVertices, unsaid}
-use Rattle.kinds.proofs.KindLaws.{fixed-none}
-use Rattle.sheet.specs.Tables.{newRow}
-use Rattle.sheet.proofs.Okay.{new-at}
+use Rattle.token.specs.Lex.{liftBy, unlift}
+use Rattle.kinds.specs.Kinds.{rowWidth, ownWidth, verticesPlace, fixedVertices, unsaid}
+use Rattle.kinds.proofs.KindLaws.{fixed-few}
+use Rattle.sheet.specs.Tables.{Starts, startCells, ownCells, newRow}
+use Rattle.sheet.proofs.StartLaws.{own-at}
 use Rattle.reader.specs.Store.{tokenMost}
 
 -- ---- a copy: the first `j` of `s` stand in `d`, from `at` on
@@ -76,32 +75,16 @@ module _ (j t : ℕ) where
 
 pub ruleset cell-ways = (cell-first, cell-second, cell-vertices, cell-rest)
 
--- vertices that no record counts are few, of each kind by computation
-isFew : ℕ → Bool
-isFew kind = leb (fixedVertices kind) 9999
-
-all-few : below (kindMost + 1) isFew ≡ true
-unfolding below isFew fixedVertices fixed
-all-few = refl
-
-fixed-few : (kind : ℕ) → fixedVertices kind ≤ 9999
-unfolding isFew
-fixed-few kind = go (leb kind kindMost) refl
-  where
-    go : (b : Bool) → leb kind kindMost ≡ b → fixedVertices kind ≤ 9999
-    go true e = leb-true (fixedVertices kind) 9999 (below-at (kindMost + 1) isFew kind all-few (omega (arith, leb-true kind kindMost e)))
-    go false e = omega (arith, fixed-none kind (leb-false kind kindMost e))
-
 module _ (j t v : ℕ) (e : v ≡ cellAt j t) where
-  pub cell-is : j < rowWidth → pos v ≡ getD (newRow t) j (pos 0)
+  pub cell-is : j < ownWidth → pos v ≡ getD (ownCells t) j (pos 0)
   cell-is h = ap pos e ∙ go j h
     where
-      go : (j : ℕ) → j < rowWidth → pos (cellAt j t) ≡ getD (newRow t) j (pos 0)
+      go : (j : ℕ) → j < ownWidth → pos (cellAt j t) ≡ getD (ownCells t) j (pos 0)
       go zero h = refl
       go (suc zero) h = refl
       go (suc (suc j)) h =
           rw (ne-eqb (suc (suc j)) 0 (λ z. omega arith), ne-eqb (suc (suc j)) 1 (λ z. omega arith))
-          (sym (new-at t (suc (suc j)) (omega arith) (omega arith)))
+          (sym (own-at t (suc (suc j)) (omega arith) (omega arith)))
 
   pub cell-most : t ≤ tokenMost → v ≤ tokenMost
   unfolding unsaid
@@ -112,6 +95,22 @@ module _ (j t v : ℕ) (e : v ≡ cellAt j t) where
       go false true c = omega arith
       go false false true = omega (arith, fixed-few (t / 2))
       go false false false = omega arith
+
+-- three numbers, one behind the other
+pub starts-stored : (l d e f : List ℤ) (at : ℕ) (x y z : ℤ) → at + 3 ≤ length l → d ≡ set l at x → e ≡ set d (at + 1) y → f ≡ set e (at + 2) z
+    → f ≡ pasted l at (x ∷ y ∷ z ∷ [])
+starts-stored l d e f at x y z h p q r =
+    let s = x ∷ y ∷ z ∷ [] in
+    let zero : at ≡ at + 0 = omega arith in
+    let one = pasting-step l at s l 0 (pasting-start l at s h) (pos 0) x d (omega arith) refl (p ∙ ap (λ (i : ℕ). set l i x) zero) in
+    let two = pasting-step l at s d 1 one (pos 0) y e (omega arith) refl q in
+    let three = pasting-step l at s e 2 two (pos 0) z f (omega arith) refl r in
+    pasting-end l at s f 3 three (omega arith)
+
+-- the starts behind what the section gives
+pub row-stored : (l d e : List ℤ) (at t : ℕ) (s : Starts) → at + rowWidth ≤ length l → d ≡ pasted l at (ownCells t) → e ≡ pasted d (at + ownWidth) (startCells s)
+    → e ≡ pasted l at (newRow t s)
+row-stored l d e at t s h p q = q ∙ ap (λ (x : List ℤ). pasted x (at + ownWidth) (startCells s)) p ∙ pasted-behind l at (ownCells t) (startCells s) (omega arith)
 
 -- ---- a real, from its token
 

@@ -27,6 +27,6 @@ atExit x o t =
 abbrev pub exitOf : Mode → List ℕ → Tables → Tables
 exitOf mode bs t = atExit (answerTo mode bs t .answer) (tablesIn (reading mode bs)) t
 
--- the used part of tables that hold more: 12 numbers a row, two a point
+-- the used part of tables that hold more: 15 numbers a row, two a point
 abbrev pub usedPart : Needs → Tables → Tables
 usedPart a t = record { rows = take (rowWidth * a .rows) (t .rows); letters = take (a .letters) (t .letters); islands = take (a .islands) (t .islands); points = take (2 * a .points) (t .points) }

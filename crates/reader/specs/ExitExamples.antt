@@ -35,9 +35,9 @@ lent : ℕ → ℕ → Tables
 lent rows letters = record { rows = replicate rows (pos 7); letters = replicate letters 65; islands = 65 ∷ []; points = pos 7 ∷ [] }
 
 -- it is read, and past the used part nothing is altered
-exit-more : exitOf Loose written-file (lent 13 3)
+exit-more : exitOf Loose written-file (lent 16 3)
     ≡ record {
-      rows = pos 2 ∷ pos 0 ∷ pos 0 ∷ pos 18 ∷ pos 0 ∷ pos 3000 ∷ negsuc 4 ∷ pos 0 ∷ pos 0 ∷ pos 2 ∷ pos 0 ∷ pos 0 ∷ pos 7 ∷ [];
+      rows = pos 2 ∷ pos 0 ∷ pos 0 ∷ pos 18 ∷ pos 0 ∷ pos 3000 ∷ negsuc 4 ∷ pos 0 ∷ pos 0 ∷ pos 2 ∷ pos 0 ∷ pos 0 ∷ pos 0 ∷ pos 0 ∷ pos 0 ∷ pos 7 ∷ [];
       letters = text "abA";
       islands = 65 ∷ [];
       points = pos 7 ∷ [];
@@ -47,18 +47,18 @@ exit-more = refl
 
 -- larger tables hold the same in their used part
 exit-larger : usedPart (countsOf (answerTo Loose written-file (lent 30 9) .answer)) (exitOf Loose written-file (lent 30 9))
-    ≡ usedPart (countsOf (answerTo Loose written-file (lent 13 3) .answer)) (exitOf Loose written-file (lent 13 3))
+    ≡ usedPart (countsOf (answerTo Loose written-file (lent 16 3) .answer)) (exitOf Loose written-file (lent 16 3))
 unfolding opened written-file lent
 exit-larger = refl
 
 -- one letter short: 14, and nothing is altered
-exit-short : (numberOf (answerTo Loose written-file (lent 13 1) .answer) ≡ 14) × (exitOf Loose written-file (lent 13 1) ≡ lent 13 1)
+exit-short : (numberOf (answerTo Loose written-file (lent 16 1) .answer) ≡ 14) × (exitOf Loose written-file (lent 16 1) ≡ lent 16 1)
 unfolding opened written-file lent
 exit-short = (refl, refl)
 
 -- exact mode demands the CR: 3 at record 1, and nothing is altered
-exit-refused : (numberOf (answerTo Exact written-file (lent 13 3) .answer) ≡ 3) × (recordOf (answerTo Exact written-file (lent 13 3) .answer) ≡ 1)
-    × (offsetOf (answerTo Exact written-file (lent 13 3) .answer) ≡ 0) × (exitOf Exact written-file (lent 13 3) ≡ lent 13 3)
+exit-refused : (numberOf (answerTo Exact written-file (lent 16 3) .answer) ≡ 3) × (recordOf (answerTo Exact written-file (lent 16 3) .answer) ≡ 1)
+    × (offsetOf (answerTo Exact written-file (lent 16 3) .answer) ≡ 0) × (exitOf Exact written-file (lent 16 3) ≡ lent 16 3)
 unfolding opened written-file lent
 exit-refused = (refl, refl, refl, refl)
 

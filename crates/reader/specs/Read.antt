@@ -39,7 +39,7 @@ pub record Rooms : Type 0 where
 abbrev pub roomsOf : ℕ → ℕ → ℕ → ℕ → Rooms
 roomsOf rows letters islands points = record { rows = rows; letters = letters; islands = islands; points = points }
 
--- every table is long enough: 12 numbers a row, two a point
+-- every table is long enough: 15 numbers a row, two a point
 unfoldable pub holdsAll : Needs → Rooms → Bool
 holdsAll a r = leb (a .rows) (r .rows / rowWidth) && leb (a .letters) (r .letters) && leb (a .islands) (r .islands) && leb (a .points) (r .points / 2)
 

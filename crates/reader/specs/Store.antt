@@ -14,7 +14,7 @@ use Rattle.quick.specs.Seen.{RealAt}
 use Rattle.kinds.specs.Kinds.{rowWidth, lettersPlace, wantAt}
 use Rattle.machine.specs.declared.State.{State}
 use Rattle.machine.specs.declared.State.the-variants.{Due, Field, Island, X, Y}
-use Rattle.sheet.specs.Tables.{Tables, empty, newRow, cellOf}
+use Rattle.sheet.specs.Tables.{Tables, empty, Starts, newRow, cellOf}
 use Rattle.sheet.specs.Reading.{Sections, read, stop}
 use Rattle.reader.specs.Turn.{turnOf}
 use Rattle.reader.specs.declared.Needs.{Needs}
@@ -33,9 +33,17 @@ IslandToken (Island l s r) t = t ≤ 9999
 IslandToken (X r) t = Unit {0}
 IslandToken (Y r x) t = Unit {0}
 
+-- a number of a row holds each count
+abbrev pub Counted : Needs → Type 0
+Counted a = (a .letters ≤ tokenMost) × (a .islands ≤ tokenMost) × (a .points ≤ tokenMost)
+
+-- where the letters, island counts and points of the next row begin
+abbrev pub startsBehind : Needs → Starts
+startsBehind a = record { letters = a .letters; islands = a .islands; points = a .points }
+
 -- the tables that hold `a` already, after a record with the token t and the content c
 abbrev pub rowsPut : State → ℕ → Needs → List ℤ → List ℤ
-rowsPut Due t a l = pasted l (rowWidth * a .rows) (newRow t)
+rowsPut Due t a l = pasted l (rowWidth * a .rows) (newRow t (startsBehind a))
 rowsPut (Field k p i) t a l = set l (rowWidth * (a .rows - 1) + p) (cellOf (wantAt p) t)
 rowsPut (Island l′ s r) t a l = l
 rowsPut (X r) t a l = l

@@ -8,11 +8,12 @@ ghost use lib.IntN.{pos};
 ghost use Rattle.laws.specs.Lists.{pasted};
 ghost use Rattle.number.specs.Words.{trimmed};
 ghost use Rattle.token.specs.Lex.{unlift};
-ghost use Rattle.kinds.specs.Kinds.{unsaid, wantAt};
-ghost use Rattle.sheet.specs.Tables.{newRow, cellOf};
-ghost use Rattle.reader.specs.Store.{tokenMost, IslandToken, rowsPut, lettersPut, islandsPut, pointsPut, PutRoom};
+ghost use Rattle.kinds.specs.Kinds.{rowWidth, ownWidth, unsaid, wantAt};
+ghost use Rattle.sheet.specs.Tables.{ownCells, startCells, newRow, cellOf};
+ghost use Rattle.reader.specs.Store.{tokenMost, Counted, startsBehind, IslandToken, rowsPut, lettersPut, islandsPut, pointsPut, PutRoom};
 use crate::Needs;
-use crate::ROW_WIDTH;
+use kinds::OWN_WIDTH;
+use kinds::ROW_WIDTH;
 use kinds::fixed_vertices;
 use kinds::want_at;
 use machine::State;
@@ -87,16 +88,38 @@ fn cell(j: usize, t: usize) -> usize
     0
 }
 
-fn put_row(dst: &mut [i64], at: usize, t: usize)
-    requires { ⌜ (at + 12 ≤ length (now dst)) × (t ≤ tokenMost) ⌝ }
-    ensures { λ _. ⌜ now (dst .exit) ≡ pasted (now (dst .entry)) at (newRow t) ⌝ }
+fn put_own(dst: &mut [i64], at: usize, t: usize)
+    requires { ⌜ (at + ownWidth ≤ length (now dst)) × (t ≤ tokenMost) ⌝ }
+    ensures { λ _. ⌜ now (dst .exit) ≡ pasted (now (dst .entry)) at (ownCells t) ⌝ }
 {
     let mut j = 0;
-    while j < ROW_WIDTH {
+    while j < OWN_WIDTH {
         let v = cell(j, t);
         put_number(dst, at + j, v);
         j += 1;
     }
+}
+
+// The starts of a row.
+fn put_starts(dst: &mut [i64], at: usize, a: Needs)
+    requires { ⌜ (at + 3 ≤ length (now dst)) × Counted a ⌝ }
+    ensures { λ _. ⌜ now (dst .exit) ≡ pasted (now (dst .entry)) at (startCells (startsBehind a)) ⌝ }
+{
+    let letters = a.letters;
+    let islands = a.islands;
+    let points = a.points;
+    put_number(dst, at, letters);
+    put_number(dst, at + 1, islands);
+    put_number(dst, at + 2, points);
+}
+
+// A new row, where the tables hold `a` already.
+fn put_row(dst: &mut [i64], at: usize, t: usize, a: Needs)
+    requires { ⌜ (at + rowWidth ≤ length (now dst)) × (t ≤ tokenMost) × Counted a ⌝ }
+    ensures { λ _. ⌜ now (dst .exit) ≡ pasted (now (dst .entry)) at (newRow t (startsBehind a)) ⌝ }
+{
+    put_own(dst, at, t);
+    put_starts(dst, at + OWN_WIDTH, a);
 }
 
 // The letters of a content.
@@ -124,7 +147,7 @@ pub(crate) fn store(
     islands: &mut [u16],
     points: &mut [i64],
 )
-    requires { ⌜ (t ≤ tokenMost) × IslandToken st t ⌝ }
+    requires { ⌜ (t ≤ tokenMost) × IslandToken st t × Counted a ⌝ }
     requires { ⌜ PutRoom st (now c) a (length (now rows)) (length (now letters)) (length (now islands)) (length (now points)) ⌝ }
     ensures { λ _. ⌜ now (rows .exit) ≡ rowsPut st t a (now (rows .entry)) ⌝ }
     ensures { λ _. ⌜ now (letters .exit) ≡ lettersPut st (now (c .entry)) a (now (letters .entry)) ⌝ }
@@ -133,7 +156,7 @@ pub(crate) fn store(
 {
     let np = a.points;
     match st {
-        State::Due => put_row(rows, ROW_WIDTH * a.rows, t),
+        State::Due => put_row(rows, ROW_WIDTH * a.rows, t, a),
         State::Field {
             kind: _,
             place,

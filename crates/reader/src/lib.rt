@@ -19,6 +19,7 @@ use column::column_at;
 use header::Ahead;
 use header::header_at;
 use heading::Header;
+use kinds::ROW_WIDTH;
 use machine::State;
 use record::FILE_MOST;
 use record::Mode;
@@ -105,9 +106,7 @@ struct First {
     pub next: usize,
 }
 
-const ROW_WIDTH: usize = 12;
-
-// Every table is long enough: 12 numbers a row, two a point.
+// Every table is long enough: 15 numbers a row, two a point.
 fn has_room(a: Needs, rows: usize, letters: usize, islands: usize, points: usize) -> bool
     ensures { λ r. ⌜ r ≡ holdsAll a (roomsOf rows letters islands points) ⌝ }
 {

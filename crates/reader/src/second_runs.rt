@@ -2,10 +2,10 @@
 ghost use mathlib.Core.Path.{_≡_};
 ghost use mathlib.Core.Bool.{true};
 ghost use Prim.Native.Nat.{_+_, _*_, _<_, _≤_};
+ghost use Rattle.kinds.specs.Kinds.{rowWidth};
 ghost use Rattle.machine.specs.declared.State.the-variants.{X};
 ghost use Rattle.reader.specs.Turn.{InFile, pastVertices, Runs};
 ghost use Rattle.reader.specs.Store.{Enters, VerticesStored, Stores};
-use crate::ROW_WIDTH;
 use crate::ReadStand;
 use crate::cells::put_field;
 use crate::cells::put_real;
@@ -16,6 +16,7 @@ use crate::first_runs::is_ending;
 use crate::first_runs::onward_at;
 use crate::first_runs::past_at;
 use crate::first_runs::said_at;
+use kinds::ROW_WIDTH;
 use machine::Ring;
 use machine::State;
 use machine::Step;
@@ -27,7 +28,7 @@ use record::Mode;
 
 // There is a last row of so many, and a table of `len` numbers holds it.
 fn is_begun(len: usize, count: usize) -> bool
-    ensures { λ b. ⌜ (b ≡ true → (1 ≤ count) × (12 * count ≤ len)) ⌝ }
+    ensures { λ b. ⌜ (b ≡ true → (1 ≤ count) × (rowWidth * count ≤ len)) ⌝ }
 {
     if count < 1 {
         return false;

@@ -9,7 +9,7 @@ use Rattle.sheet.specs.Tables.{Tables}
 use Rattle.made.specs.declared.Verdict.the-variants.{BadHeader}
 use Rattle.made.specs.declared.Verdict.the-variants as Verdict
 use Rattle.made.specs.Made.{tablesOf, ringSizes}
-use Rattle.made.specs.Examples.{header, label, border}
+use Rattle.made.specs.Examples.{header, placed, label, border}
 use Rattle.row.specs.Examples.{computed as computedSought}
 use Rattle.area.specs.BorderRings.{ringOf}
 use Rattle.area.specs.Questions.{ringOfRow, ringAt}
@@ -32,7 +32,7 @@ triangle side = pos 0 ∷ pos 0 ∷ pos side ∷ pos 0 ∷ pos 0 ∷ pos 9 ∷ p
 
 -- a text; a border whose outer ring is (i), its island a triangle of that side; a border of a triangle
 abbrev sheet : ℕ → Tables
-sheet side = tablesOf (label ++ border 0 1 9 ++ border 0 0 4) (text "777") (4 ∷ []) (bowtie ++ triangle side ++ triangle 5)
+sheet side = tablesOf (label ++ placed 1 0 0 (border 0 1 9) ++ placed 2 1 9 (border 0 0 4)) (text "777") (4 ∷ []) (bowtie ++ triangle side ++ triangle 5)
 
 checked : ℕ → ℕ → ℕ → Checked
 unfolding computed

@@ -2,5 +2,6 @@
 pub mod Walk
 pub mod SeekLaws
 pub mod UsedLaws
+pub mod StartLaws
 pub mod NextWays
 mod SeekWays

@@ -22,7 +22,7 @@ module _ (rows : List ℤ) (d : Stand) where
   after-past h = rw (lt-leb (d .row) (length rows) h)
 
   pub after-is : d .row ≤ length rows → (a b c r l i m p : ℕ) → a ≡ left-in 9 → b ≡ left-in 10 → c ≡ left-in 11
-      → r ≡ wrap (d .row) 12 → l ≡ wrap (d .letters) a → i ≡ wrap (d .islands) b → m ≡ wrap c c → p ≡ wrap (d .points) m
+      → r ≡ wrap (d .row) 15 → l ≡ wrap (d .letters) a → i ≡ wrap (d .islands) b → m ≡ wrap c c → p ≡ wrap (d .points) m
       → record { row = r; letters = l; islands = i; points = p } ≡ standAfter rows d
   unfolding standAfter
   after-is h a b c r l i m p ea eb ec er el ei em ep = rw (le-leb (d .row) (length rows) h, er, el, ei, ep, em, ea, eb, ec, rest-is rows (d .row))
@@ -36,4 +36,4 @@ unfolding standAfter nextStand
 after-next rows d h s =
     let n = cellIn (drop (d .row) rows) verticesPlace in
     let t : wrap n n ≡ 2 * n = wrap-small n n (omega (arith, s .points-in)) ∙ (let e : n + n ≡ 2 * n = omega arith in e) in
-    rw (le-leb (d .row) (length rows) h, wrap-small (d .row) 12 (s .row-in), wrap-small (d .letters) _ (s .letters-in), wrap-small (d .islands) _ (s .islands-in), t, wrap-small (d .points) (2 * n) (s .points-in))
+    rw (le-leb (d .row) (length rows) h, wrap-small (d .row) 15 (s .row-in), wrap-small (d .letters) _ (s .letters-in), wrap-small (d .islands) _ (s .islands-in), t, wrap-small (d .points) (2 * n) (s .points-in))

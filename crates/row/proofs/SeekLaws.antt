@@ -12,7 +12,7 @@ use Rattle.heading.specs.Heading.{isHeader}
 use Rattle.sheet.specs.Tables.{Tables}
 use Rattle.made.specs.declared.Verdict.{Verdict}
 use Rattle.made.specs.declared.Verdict.the-variants.{Fine, BadHeader, Faulty, Unlisted}
-use Rattle.made.specs.Made.{isMade, judgeRows, judgeOf}
+use Rattle.made.specs.Made.{isMade, noneBefore, judgeRows, judgeOf}
 use Rattle.row.specs.declared.Stand.{Stand}
 use Rattle.row.specs.declared.Sought.{Sought}
 use Rattle.row.specs.declared.Sought.the-variants.{At, Missing}
@@ -21,11 +21,11 @@ use Rattle.row.specs.Seek.{soughtAfter, soughtOf}
 use Rattle.row.proofs.Walk.{walk-to, walk-left}
 
 -- a sheet that is fine has rows that are
-pub fine-rows : (h : Header) (count : ℕ) (t : Tables) → judgeOf Loose h count t ≡ Fine → judgeRows Loose count 0 t ≡ Fine
+pub fine-rows : (h : Header) (count : ℕ) (t : Tables) → judgeOf Loose h count t ≡ Fine → judgeRows Loose count noneBefore t ≡ Fine
 unfolding judgeOf
 fine-rows h count t e = go (isHeader h) e
   where
-    go : (b : Bool) → cond b (judgeRows Loose count 0 t) BadHeader ≡ Fine → judgeRows Loose count 0 t ≡ Fine
+    go : (b : Bool) → cond b (judgeRows Loose count noneBefore t) BadHeader ≡ Fine → judgeRows Loose count noneBefore t ≡ Fine
     go true e = e
     go false e = absurd (let z : _≡_ {A = ℕ} 0 1 = cc in omega arith)
 

@@ -2,21 +2,26 @@
 -- matters, and the row may be asked about alone. Assumes nothing.
 use mathlib.Core.Path.{_≡_, refl, sym, _∙_, ap}
 use mathlib.Core.Bool.{Bool, true, false, cond}
-use Prim.Native.Nat.{ℕ, zero, suc, _-_, _≤_, _<_}
+use Prim.Native.Nat.{ℕ, zero, suc, _+_, _-_, _*_, _≤_, _<_}
 use native.Mathlib.Nat.{sub-zero}
 use native.Mathlib.Omega.{arith}
-use lib.Dec.{ltb}
-use borrow.Author.Tests.{ltb-true}
+use lib.Dec.{leb, ltb}
+use lib.ListN.{length, getD, take, length-append, List·getD-append}
+use lib.Seq.{take-take, take-append-le, getD-take, getD-append-add, length-take-le}
+use lib.IntN.{pos}
+use borrow.Author.Tests.{le-leb, ltb-true}
 use Rattle.record.specs.declared.Mode.the-variants.{Loose}
 use Rattle.heading.specs.declared.Header.{Header}
 use Rattle.heading.specs.Heading.{isHeader}
-use Rattle.kinds.specs.Kinds.{lettersPlace, islandsPlace, verticesPlace}
-use Rattle.sheet.specs.Tables.{Tables}
+use Rattle.kinds.specs.Kinds.{rowWidth, ownWidth, lettersPlace, islandsPlace, verticesPlace}
+use Rattle.sheet.specs.Tables.{Tables, noStarts, startCells}
 use Rattle.made.specs.declared.Verdict.{Verdict}
 use Rattle.made.specs.declared.Verdict.the-variants.{Fine, BadHeader, Faulty, Unlisted}
-use Rattle.made.specs.Made.{firstOf, restOf, isMade, isCoded, judgeRows, judgeOf, usedOf}
-use Rattle.made.proofs.OwnLaws.{made-first, cell-alike}
-use Rattle.made.proofs.UsedLaws.{first-used, rest-used, judge-used}
+use Rattle.made.specs.Made.{cellAt, countAt, firstOf, ownOf, restOf, isMade, areStarts, aloneOf, noneBefore, isCoded, judgeRows, judgeOf, usedOf}
+use Rattle.made.proofs.RowWays.{made-held}
+use Rattle.made.proofs.OwnLaws.{made-same, own-same, cell-alike}
+use Rattle.made.proofs.UsedLaws.{first-used, rest-used, judge-used, fine-before}
+use Rattle.made.proofs.StartLaws.{are-starts}
 use Rattle.row.specs.declared.Stand.{Stand}
 use Rattle.row.specs.declared.Sought.{Sought}
 use Rattle.row.specs.declared.Sought.the-variants.{At, Missing, Refused}
@@ -25,7 +30,7 @@ use Rattle.row.specs.Seek.{soughtAfter, soughtOf}
 use Rattle.row.specs.Alone.{rowAlone}
 use Rattle.row.proofs.Walk.{left-next, walk-to, walk-left}
 use Rattle.row.proofs.SeekLaws.{fine-rows, Stood, stood}
-use Rattle.row.proofs.SeekWays.{sought-at}
+use Rattle.row.proofs.SeekWays.{sought-is}
 
 -- ---- where a row stands in the used part
 
@@ -57,12 +62,13 @@ stand-used n t (suc k) h =
     }
 
 -- each of the rows has its own part there
-pub alone-used : (n : ℕ) (t : Tables) (k : ℕ) → k < n → rowAlone k (usedOf n t) ≡ rowAlone k t
-alone-used n t k h =
+own-used : (n : ℕ) (t : Tables) (k : ℕ) → k < n → ownOf (leftAt (usedOf n t) (standOf k (usedOf n t .rows))) ≡ ownOf (leftAt t (standOf k (t .rows)))
+own-used n t k h =
     let i = stand-used n t k (omega arith) in
     let d = standOf k (t .rows) in
     let e : n - k ≡ suc (n - suc k) = omega arith in
-    ap (λ (x : Stand). firstOf (leftAt (usedOf n t) x)) (i .same) ∙ ap firstOf (i .left ∙ ap (λ (m : ℕ). usedOf m (leftAt t d)) e) ∙ first-used (n - suc k) (leftAt t d)
+    own-same (leftAt (usedOf n t) (standOf k (usedOf n t .rows))) (leftAt t d)
+    (ap (λ (x : Stand). firstOf (leftAt (usedOf n t) x)) (i .same) ∙ ap firstOf (i .left ∙ ap (λ (m : ℕ). usedOf m (leftAt t d)) e) ∙ first-used (n - suc k) (leftAt t d))
 
 -- so a row is found there, or refused, alike
 pub sought-used : (h : Header) (n : ℕ) (t : Tables) (k : ℕ) → soughtOf h n (usedOf n t) k ≡ soughtOf h n t k
@@ -81,9 +87,9 @@ sought-used h n t k = ap (λ (v : Verdict). soughtAfter v n (usedOf n t) k) (jud
 
 -- ---- questions
 
--- the row of a question is found: its own part answers, as a sheet of its own. Elsewhere the tables play no part
+-- the row of a question is found: its own part answers, without its starts, as a sheet of its own. Elsewhere the tables play no part
 pub record Question {A : Type 0} (f : Tables → Sought → A) : Type 0 where
-  pub own : (t : Tables) (k : ℕ) → isMade (leftAt t (standOf k (t .rows))) ≡ true → f t (At (standOf k (t .rows))) ≡ f (rowAlone k t) (At firstStand)
+  pub own : (t : Tables) (k : ℕ) → isMade (leftAt t (standOf k (t .rows))) ≡ true → f t (At (standOf k (t .rows))) ≡ f (ownOf (leftAt t (standOf k (t .rows)))) (At firstStand)
   pub missing : (t u : Tables) → f t Missing ≡ f u Missing
   pub refused : (t u : Tables) (v : Verdict) → f t (Refused v) ≡ f u (Refused v)
 
@@ -95,20 +101,66 @@ module _ {A : Type 0} (f : Tables → Sought → A) (q : Question f) (h : Header
       same : soughtOf h n (usedOf n t) k ≡ soughtOf h n t k
       same = sought-used h n t k
 
-      row : (x : Tables) (d : Stand) → Stood h n x k d → f x (At d) ≡ f (rowAlone k x) (At firstStand)
+      row : (x : Tables) (d : Stand) → Stood h n x k d → f x (At d) ≡ f (ownOf (leftAt x (standOf k (x .rows)))) (At firstStand)
       row x d w = ap (λ (e : Stand). f x (At e)) (w .is) ∙ q .own x k (rw (← w .is) (w .made))
 
       by : (s : Sought) → s ≡ soughtOf h n t k → f (usedOf n t) s ≡ f t s
       by (At d) e =
           let w = stood h n t k d (At d) e refl in
-          row (usedOf n t) d (stood h n (usedOf n t) k d (At d) (e ∙ sym same) refl) ∙ ap (λ (x : Tables). f x (At firstStand)) (alone-used n t k (w .row)) ∙ sym (row t d w)
+          row (usedOf n t) d (stood h n (usedOf n t) k d (At d) (e ∙ sym same) refl) ∙ ap (λ (x : Tables). f x (At firstStand)) (own-used n t k (w .row)) ∙ sym (row t d w)
       by Missing e = q .missing (usedOf n t) t
       by (Refused v) e = q .refused (usedOf n t) t v
+
+-- ---- a row alone
+
+module _ (x : Tables) (m : isMade x ≡ true) where
+  abbrev alone : Tables
+  alone = aloneOf x
+
+  held : rowWidth ≤ length (x .rows)
+  held = made-held x m .row
+
+  wide : length (take ownWidth (x .rows)) ≡ ownWidth
+  wide = length-take-le ownWidth (x .rows) (omega (arith, held))
+
+  cell-alone : (p : ℕ) → p < ownWidth → cellAt alone p ≡ cellAt x p
+  cell-alone p h = List·getD-append (take ownWidth (x .rows)) (startCells noStarts) (pos 0) p (omega (arith, wide)) ∙ getD-take ownWidth (x .rows) p (pos 0) h
+
+  start-alone : (p : ℕ) → getD (alone .rows) (ownWidth + p) (pos 0) ≡ getD (startCells noStarts) p (pos 0)
+  start-alone p = ap (λ (n : ℕ). getD (alone .rows) (n + p) (pos 0)) (sym wide) ∙ getD-append-add (take ownWidth (x .rows)) (startCells noStarts) p (pos 0)
+
+  -- it has the row's own part
+  own-alone : ownOf alone ≡ ownOf x
+  own-alone =
+      let l = countAt x lettersPlace in
+      let i = countAt x islandsPlace in
+      let v = countAt x verticesPlace in
+      rw (
+        cell-alone lettersPlace (omega arith),
+        cell-alone islandsPlace (omega arith),
+        cell-alone verticesPlace (omega arith),
+        take-append-le ownWidth (take ownWidth (x .rows)) (startCells noStarts) (omega (arith, wide)),
+        take-take ownWidth ownWidth (x .rows) (omega arith),
+        take-take l l (x .letters) (omega arith),
+        take-take i i (x .islands) (omega arith),
+        take-take (2 * v) (2 * v) (x .points) (omega arith),
+      )
+
+  made-alone : isMade alone ≡ true
+  made-alone =
+      let a : leb rowWidth (length (alone .rows)) ≡ true = le-leb rowWidth (length (alone .rows)) (omega (arith, wide, length-append (take ownWidth (x .rows)) (startCells noStarts))) in
+      made-same alone x (a ∙ sym (le-leb rowWidth (length (x .rows)) held)) own-alone ∙ m
+
+  starts-alone : areStarts noStarts (alone .rows) ≡ true
+  starts-alone = are-starts noStarts (alone .rows) (record { letters = start-alone 0; islands = start-alone 1; points = start-alone 2 })
 
 -- ---- a row of a well made sheet, alone
 
 module _ (h : Header) (n : ℕ) (t : Tables) (k : ℕ) (e : judgeOf Loose h n t ≡ Fine) (l : k < n) where
-  row-made : isMade (leftAt t (standOf k (t .rows))) ≡ true
+  abbrev here : Tables
+  here = leftAt t (standOf k (t .rows))
+
+  row-made : isMade here ≡ true
   row-made = walk-left (walk-to Loose t n (fine-rows h n t e) k (omega arith)) l
 
   -- it is a well made sheet of one row
@@ -116,13 +168,16 @@ module _ (h : Header) (n : ℕ) (t : Tables) (k : ℕ) (e : judgeOf Loose h n t 
   unfolding judgeOf judgeRows isCoded
   alone-fine = go (isHeader h) e
     where
-      go : (b : Bool) → cond b (judgeRows Loose n 0 t) BadHeader ≡ Fine → cond b (judgeRows Loose 1 0 (rowAlone k t)) BadHeader ≡ Fine
-      go true d = rw (made-first (leftAt t (standOf k (t .rows))) ∙ row-made)
+      go : (b : Bool) → cond b (judgeRows Loose n noneBefore t) BadHeader ≡ Fine → cond b (judgeRows Loose 1 noneBefore (rowAlone k t)) BadHeader ≡ Fine
+      go true d = fine-before Loose 0 noneBefore (rowAlone k t) (made-alone here row-made) (starts-alone here row-made) refl refl
       go false d = absurd (let z : _≡_ {A = ℕ} 0 1 = cc in omega arith)
 
   -- **a question on a row is answered by that row alone**
   pub asked-alone : {A : Type 0} (f : Tables → Sought → A) → Question f → f (rowAlone k t) (soughtOf h 1 (rowAlone k t) 0) ≡ f t (soughtOf h n t k)
   unfolding standOf
   asked-alone f q =
-      ap (f (rowAlone k t)) (sym (sought-at h 1 (rowAlone k t) 0 Fine (sym alone-fine) refl (omega arith) firstStand refl)) ∙ sym (q .own t k row-made)
-      ∙ ap (f t) (sought-at h n t k Fine (sym e) refl l (standOf k (t .rows)) refl)
+      ap (f (rowAlone k t)) (sym (sought-is h 1 (rowAlone k t) 0 alone-fine (omega arith)))
+      ∙ q .own (rowAlone k t) 0 (made-alone here row-made)
+      ∙ ap (λ (x : Tables). f x (At firstStand)) (own-alone here row-made)
+      ∙ sym (q .own t k row-made)
+      ∙ ap (f t) (sought-is h n t k e l)

@@ -1,21 +1,11 @@
 -- One row of a sheet as a sheet of its own (document 01, "Sheet tables": letters, island counts and points "stand in three further tables
--- in element order, with no gaps"). Assumes nothing: these are definitions.
-use Prim.Native.Nat.{ℕ, _*_}
-use lib.ListN.{take, drop}
-use Rattle.kinds.specs.Kinds.{rowWidth, lettersPlace, islandsPlace, verticesPlace}
+-- in element order, with no gaps"; document 02, T-07: each row says where its own begin). Assumes nothing: these are definitions.
+use Prim.Native.Nat.{ℕ}
 use Rattle.sheet.specs.Tables.{Tables}
-use Rattle.made.specs.Made.{tablesOf}
-use Rattle.row.specs.declared.Stand.{Stand}
-use Rattle.row.specs.Walk.{cellIn, standOf}
+use Rattle.made.specs.Made.{aloneOf}
+use Rattle.row.specs.Walk.{standOf, leftAt}
 
--- the row at a stand: its twelve numbers, and of each other table as many as its own count says, from where the stand is
-abbrev pub sliceAt : Tables → Stand → Tables
-sliceAt t d =
-    tablesOf (take rowWidth (drop (d .row) (t .rows))) (take (cellIn (drop (d .row) (t .rows)) lettersPlace) (drop (d .letters) (t .letters)))
-    (take (cellIn (drop (d .row) (t .rows)) islandsPlace) (drop (d .islands) (t .islands)))
-    (take (2 * cellIn (drop (d .row) (t .rows)) verticesPlace) (drop (d .points) (t .points)))
-
--- row k alone, a sheet of one row. A caller hands in, as four slices: the row's numbers from 12 k on; its letters, from the sum of the
--- counts at place 9 of the rows before it on; its island counts, by place 10; its points, by twice place 11
+-- row k alone, a sheet of one row. A caller hands in: the row's twelve numbers from 15 k on and three zeros; and of each other table, as a slice, as many as
+-- its own count says (place 9, 10, twice 11), from its own start on (place 12, 13, twice 14): `alone-own` of proofs/StartLaws
 abbrev pub rowAlone : ℕ → Tables → Tables
-rowAlone k t = sliceAt t (standOf k (t .rows))
+rowAlone k t = aloneOf (leftAt t (standOf k (t .rows)))

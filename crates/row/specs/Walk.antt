@@ -1,14 +1,15 @@
 -- Where a walk over the rows of a sheet stands in its four tables: letters, island counts and points "stand in three further tables in
--- element order, with no gaps" (document 01, "Sheet tables"). Assumes nothing: these are definitions.
+-- element order, with no gaps" (document 01, "Sheet tables"); where a row says itself that they begin (document 02, T-07). Assumes nothing: these
+-- are definitions.
 use Prim.Native.Nat.{ℕ, zero, suc, _+_, _*_, _%_, _^_, _≤_}
 use mathlib.Core.List.{List}
 use mathlib.Core.Bool.{cond}
 use lib.ListN.{length, getD, drop}
 use lib.Dec.{leb}
 use lib.IntN.{ℤ, pos}
-use Rattle.kinds.specs.Kinds.{rowWidth, lettersPlace, islandsPlace, verticesPlace}
+use Rattle.kinds.specs.Kinds.{rowWidth, lettersPlace, islandsPlace, verticesPlace, firstLetterPlace, firstIslandPlace, firstPointPlace}
 use Rattle.sheet.specs.Tables.{Tables}
-use Rattle.made.specs.Made.{tablesOf, natOf}
+use Rattle.made.specs.Made.{tablesOf, natOf, Before}
 use Rattle.row.specs.declared.Stand.{Stand}
 
 -- the greatest number of the code
@@ -52,6 +53,20 @@ standAfter rows d =
 unfoldable pub standOf : ℕ → List ℤ → Stand
 standOf zero rows = firstStand
 standOf (suc k) rows = nextStand rows (standOf k rows)
+
+-- the same by what stands before the row
+abbrev pub standAt : Before → Stand
+standAt b = record { row = rowWidth * b .row; letters = b .starts .letters; islands = b .starts .islands; points = 2 * b .starts .points }
+
+-- and by the row's own starts: no row before it is looked at
+abbrev pub ownStand : ℕ → List ℤ → Stand
+ownStand k rows =
+    record {
+      row = rowWidth * k;
+      letters = cellIn (drop (rowWidth * k) rows) firstLetterPlace;
+      islands = cellIn (drop (rowWidth * k) rows) firstIslandPlace;
+      points = 2 * cellIn (drop (rowWidth * k) rows) firstPointPlace;
+    }
 
 -- what is left of the tables there
 abbrev pub leftAt : Tables → Stand → Tables

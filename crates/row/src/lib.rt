@@ -1,12 +1,18 @@
 // A row of a sheet that is handed in (document 01, "Refusal numbers"): every question about a row first has the header judged
-// (6), then the sheet (15), then finds the row (19). All of it is proved, and no public function has a `requires`.
+// (6), then the sheet (15), then finds the row (19), by its own starts (document 02, T-07). All of it is proved, and no public function has a
+// `requires`.
 ghost use mathlib.Core.Path.{_≡_};
-ghost use Prim.Native.Nat.{_≤_};
-ghost use lib.ListN.{length};
+ghost use Prim.Native.Nat.{_*_, _≤_};
+ghost use lib.ListN.{length, drop};
+ghost use Rattle.kinds.specs.Kinds.{rowWidth, firstPointPlace};
 ghost use Rattle.made.specs.Made.{tablesOf};
-ghost use Rattle.row.specs.Walk.{wordMost, standAfter, standOf, Stands};
+ghost use Rattle.row.specs.Walk.{wordMost, cellIn, standAfter, ownStand};
 ghost use Rattle.row.specs.Seek.{soughtOf};
 use heading::Header;
+use kinds::FIRST_ISLAND_PLACE;
+use kinds::FIRST_LETTER_PLACE;
+use kinds::FIRST_POINT_PLACE;
+use kinds::ROW_WIDTH;
 use made::Verdict;
 use made::count_at;
 use made::judge;
@@ -27,8 +33,6 @@ pub enum Sought {
     Missing,
     Refused(Verdict),
 }
-
-const ROW_WIDTH: usize = 12;
 
 const LETTERS_PLACE: usize = 9;
 
@@ -57,23 +61,19 @@ pub fn stand_next(rows: &[i64], d: Stand) -> Stand
     }
 }
 
-// Past the first k rows.
+// Where row k stands, by its own starts.
 fn stand_at(k: usize, rows: &[i64]) -> Stand
-    requires { ⌜ Stands (length (now rows)) wordMost wordMost wordMost (standOf k (now rows)) ⌝ }
-    ensures { λ r. ⌜ r ≡ standOf k (now (rows .entry)) ⌝ }
+    requires { ⌜ (rowWidth * k ≤ length (now rows)) × (2 * cellIn (drop (rowWidth * k) (now rows)) firstPointPlace ≤ wordMost) ⌝ }
+    ensures { λ r. ⌜ r ≡ ownStand k (now (rows .entry)) ⌝ }
 {
-    let mut d = Stand {
-        row: 0,
-        letters: 0,
-        islands: 0,
-        points: 0,
-    };
-    let mut n = 0;
-    while n < k {
-        d = stand_next(rows, d);
-        n += 1;
+    let row = ROW_WIDTH * k;
+    let own = &rows[row..];
+    Stand {
+        row: row,
+        letters: count_at(own, FIRST_LETTER_PLACE),
+        islands: count_at(own, FIRST_ISLAND_PLACE),
+        points: 2 * count_at(own, FIRST_POINT_PLACE),
     }
-    d
 }
 
 // Where row `row` of the sheet stands. Any code is well made.

@@ -1,29 +1,32 @@
 -- Two maps in one file: a second map's elements put just before the EOF record of a first are read as the first's
 -- elements followed by the second's. Assumes nothing.
-use mathlib.Core.Path.{_≡_, refl, sym, _∙_, ap, ap₂, subst}
-use mathlib.Core.List.{List, [], _∷_, _++_, append-assoc, append-nil}
-use Prim.Native.Nat.{ℕ, _+_, _-_, _≤_, _<_}
+use mathlib.Core.Path.{_≡_, sym, _∙_, ap, ap₂, subst}
+use mathlib.Core.List.{List, [], _∷_, _++_, append-assoc}
+use Prim.Native.Nat.{ℕ, _+_, _-_, _%_, _≤_}
 use native.Mathlib.Omega.{arith}
 use lib.ListN.{length, take, drop, length-append}
-use lib.Seq.{take-at, drop-at, take-append-seam, drop-append-seam}
+use lib.Seq.{take-at, drop-at, take-append-seam}
 use Rattle.record.specs.declared.Mode.{Mode}
 use Rattle.record.specs.Refusals.{fileMost}
 use Rattle.heading.specs.declared.Header.{Header}
-use Rattle.sheet.specs.Tables.{Tables, empty, put, ringAfter, _then_}
-use Rattle.sheet.specs.Reading.{Reading, sheet, meaning, reading, sectionsAt, eofAt, sectionBytes, joined}
+use Rattle.sheet.specs.Tables.{Tables, empty, put, ringAfter, _followed_}
+use Rattle.sheet.specs.Reading.{sheet, meaning, reading, sectionsAt, eofAt, sectionBytes, joined}
 use Rattle.machine.specs.declared.State.{State}
 use Rattle.machine.specs.declared.State.the-variants.{Due}
 use Rattle.sheet.proofs.Okay.{Okay, go-okay, ring-join, put-join}
+use Rattle.sheet.proofs.StartLaws.{followed-empty}
+use Rattle.sheet.proofs.Whole.{Whole, go-whole, pass-whole, empty-whole}
 use Rattle.sheet.proofs.Pass.{Goes, Pass, done, more}
-use Rattle.sheet.proofs.Meaning.{File, Parts, meaning-file, file-meaning, file-at, file-eof, file-parts, parts-file, reading-meaning, meaning-reading}
+use Rattle.sheet.proofs.Meaning.{File, meaning-file, file-meaning, file-at, file-eof, file-parts, parts-file, reading-meaning, meaning-reading}
 
 -- what was read before does not matter
-pub pass-join : {mode : Mode} {st st′ : State} {o o′ : Tables} {bs : List ℕ} (a : Tables) → Okay st o → Pass mode st o bs st′ o′ → Pass mode st (a then o) bs st′ (a then o′)
-pass-join a h done = done
-pass-join {mode} {st} {st′} {o} {o′} a h (more {st₁ = st₁} {t = t} {c = c} {e = e} {bs = bs} g p) =
+pub pass-join : {mode : Mode} {st st′ : State} {o o′ : Tables} {bs : List ℕ} (a : Tables) → length (a .points) % 2 ≡ 0 → Okay st o → Whole st o
+    → Pass mode st o bs st′ o′ → Pass mode st (a followed o) bs st′ (a followed o′)
+pass-join a q h w done = done
+pass-join {mode} {st} {st′} {o} {o′} a q h w (more {st₁ = st₁} {t = t} {c = c} {e = e} {bs = bs} g p) =
     more {t = t} {c = c} {e = e} (subst (λ (n : ℕ). Goes mode st n c e t st₁) (sym (ring-join st a o h)) g)
-    (subst (λ (x : Tables). Pass mode st₁ x bs st′ (a then o′)) (sym (put-join st t c a o h))
-    (pass-join a (go-okay mode st st₁ t (ringAfter st o) c o h (g .steps)) p))
+    (subst (λ (x : Tables). Pass mode st₁ x bs st′ (a followed o′)) (sym (put-join st t c a o q h (w .rows)))
+    (pass-join a q (go-okay mode st st₁ t (ringAfter st o) c o h (g .steps)) (go-whole mode st st₁ t (ringAfter st o) c o w (g .steps)) p))
 
 -- one after the other
 pub pass-append : {mode : Mode} {st st₁ st₂ : State} {o o₁ o₂ : Tables} {xs bs : List ℕ} → Pass mode st o xs st₁ o₁ → Pass mode st₁ o₁ bs st₂ o₂ → Pass mode st o (xs ++ bs) st₂ o₂
@@ -31,9 +34,6 @@ pass-append done q = q
 pass-append {mode} {st} {st₂ = st₂} {o} {o₂ = o₂} {bs = z} (more {c = c} {e = e} {bs = bs} g p) q =
     let assoc : c ++ (e ++ (bs ++ z)) ≡ (c ++ (e ++ bs)) ++ z = simp append-assoc in
     subst (λ (x : List ℕ). Pass mode st o x st₂ o₂) assoc (more g (pass-append p q))
-
-pub then-empty : (a : Tables) → a then empty ≡ a
-then-empty a = simp append-nil
 
 -- the joined file, by the parts of the two
 joined-parts : (mode : Mode) (a b : List ℕ) (h h′ : Header) (o o′ : Tables) (f : File mode a h o) (g : File mode b h′ o′)
@@ -55,27 +55,28 @@ joined-parts mode a b h h′ o o′ f g =
 
 -- **joining**, the length limit apart. (That the two header values are equal is not even needed: the joined file has the first's.)
 pub meaning-joined : (mode : Mode) (a b : List ℕ) (h h′ : Header) (o o′ : Tables) → meaning mode a ≡ sheet h o → meaning mode b ≡ sheet h′ o′
-    → meaning mode (joined mode a b) ≡ sheet h (o then o′)
+    → meaning mode (joined mode a b) ≡ sheet h (o followed o′)
 meaning-joined mode a b h h′ o o′ e e′ =
     let f = meaning-file mode a h o e in
     let g = meaning-file mode b h′ o′ e′ in
     let p = file-parts mode a h o f .0 in
     let q = file-parts mode b h′ o′ g .0 in
-    file-meaning mode (joined mode a b) h (o then o′)
-    (parts-file mode (joined mode a b) h (o then o′) (record {
+    file-meaning mode (joined mode a b) h (o followed o′)
+    (parts-file mode (joined mode a b) h (o followed o′) (record {
       head = p .head;
       body = p .body ++ q .body;
       rest = p .rest;
       split = joined-parts mode a b h h′ o o′ f g;
       begins = p .begins;
-      pass = pass-append (p .pass) (subst (λ (x : Tables). Pass mode Due x (q .body) Due (o then o′)) (then-empty o) (pass-join o tt (q .pass)));
+      pass = pass-append (p .pass) (subst (λ (x : Tables). Pass mode Due x (q .body) Due (o followed o′)) (followed-empty o)
+          (pass-join o (pass-whole empty-whole (p .pass) .points) tt empty-whole (q .pass)));
       end = p .end;
     }) .0)
 
 -- **joining**: for two files accepted in one mode, the file that has the second's sections just before the first's EOF record,
 -- if it keeps the length limit, is read as the first's elements followed by the second's
 pub joining : (mode : Mode) (a b : List ℕ) (h h′ : Header) (o o′ : Tables) → reading mode a ≡ sheet h o → reading mode b ≡ sheet h′ o′
-    → length (joined mode a b) ≤ fileMost → reading mode (joined mode a b) ≡ sheet h (o then o′)
+    → length (joined mode a b) ≤ fileMost → reading mode (joined mode a b) ≡ sheet h (o followed o′)
 joining mode a b h h′ o o′ e e′ l =
-    meaning-reading mode (joined mode a b) h (o then o′) l
+    meaning-reading mode (joined mode a b) h (o followed o′) l
     (meaning-joined mode a b h h′ o o′ (reading-meaning mode a h o e .1) (reading-meaning mode b h′ o′ e′ .1))

@@ -1,6 +1,8 @@
 -- The laws of `sheet`; `pub mod` lets other crates cite a file.
+pub mod StartLaws
 pub mod Okay
 pub mod Pass
+pub mod Whole
 pub mod Meaning
 pub mod Exact
 pub mod Join

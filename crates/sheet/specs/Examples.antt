@@ -1,8 +1,8 @@
 -- Small sheets, computed: the specification's own examples in both modes, the listing example of document 01, an island, and refusals.
-use Prim.Native.Nat.{ℕ}
+use Prim.Native.Nat.{ℕ, _+_}
 use mathlib.Core.Path.{_≡_, refl}
 use mathlib.Core.List.{List, [], _∷_, _++_}
-use lib.ListN.{replicate}
+use lib.ListN.{take, drop, replicate}
 use lib.IntN.{pos, negsuc}
 use Rattle.laws.specs.Lists.{run, kept, all, same, allAt, holds, place}
 use Rattle.laws.specs.Text.{text}
@@ -15,9 +15,9 @@ use Rattle.heading.specs.declared.Header.{Header}
 use Rattle.header.specs.Header.{firstWords, kindSaid, isNamed, headScale, headName, headed}
 use Rattle.heading.specs.Heading.{nameByte, isName}
 use Rattle.token.specs.Lex.{keywords, mayLieOutside, lift, unlift, unmarked, isMarked, keyOf, lexOf}
-use Rattle.kinds.specs.Kinds.{schedule, nextIn, nextOf, fixed, fixedVertices, codes, isListed, wantAt}
+use Rattle.kinds.specs.Kinds.{rowWidth, ownWidth, schedule, nextIn, nextOf, fixed, fixedVertices, codes, isListed, wantAt}
 use Rattle.machine.specs.Machine.{wantOf, verticesOf, fieldsEnd, fieldOf, islandOf, isShut, ringStep, vertexOf, keyStep, stepOf, oneOf}
-use Rattle.sheet.specs.Tables.{Tables, empty, setLast, put, ringAfter}
+use Rattle.sheet.specs.Tables.{Tables, moveAt, moveFrom, _followed_, setLast, put, ringAfter}
 use Rattle.sheet.specs.Reading.{Reading, sheet, refused, walk, walkFrom, sectionsOf, meaning, reading, sectionsAt, eofAt, sectionBytes, joined}
 
 -- `reading` with every definition opened, so that it computes
@@ -65,12 +65,12 @@ unfoldable pub specimenTables : Tables
 specimenTables =
     record {
       rows =
-          pos 1 ∷ pos 0 ∷ pos 0 ∷ pos 18 ∷ pos 0 ∷ pos 14935000 ∷ negsuc 29984999 ∷ pos 14936000 ∷ negsuc 29985999 ∷ pos 3 ∷ pos 0 ∷ pos 6 ∷
-          pos 2 ∷ pos 0 ∷ pos 0 ∷ pos 40 ∷ pos 0 ∷ negsuc 13763924 ∷ pos 49312319 ∷ pos 0 ∷ pos 0 ∷ pos 10 ∷ pos 0 ∷ pos 0 ∷
-          pos 2 ∷ pos 0 ∷ pos 0 ∷ pos 18 ∷ pos 0 ∷ pos 9592299 ∷ negsuc 27610763 ∷ pos 0 ∷ pos 0 ∷ pos 5 ∷ pos 0 ∷ pos 0 ∷
-          pos 3 ∷ pos 0 ∷ pos 14 ∷ pos 0 ∷ pos 4673 ∷ negsuc 14497566 ∷ pos 49620796 ∷ pos 0 ∷ pos 0 ∷ pos 0 ∷ pos 0 ∷ pos 0 ∷
-          pos 4 ∷ pos 0 ∷ pos 20 ∷ pos 0 ∷ pos 0 ∷ pos 15951230 ∷ negsuc 30505860 ∷ pos 15959230 ∷ negsuc 30497860 ∷ pos 1 ∷ pos 0 ∷ pos 0 ∷
-          pos 5 ∷ pos 0 ∷ pos 6 ∷ pos 0 ∷ pos 0 ∷ pos 0 ∷ pos 0 ∷ pos 0 ∷ pos 0 ∷ pos 0 ∷ pos 0 ∷ pos 4 ∷ [];
+          pos 1 ∷ pos 0 ∷ pos 0 ∷ pos 18 ∷ pos 0 ∷ pos 14935000 ∷ negsuc 29984999 ∷ pos 14936000 ∷ negsuc 29985999 ∷ pos 3 ∷ pos 0 ∷ pos 6 ∷ pos 0 ∷ pos 0 ∷ pos 0 ∷
+          pos 2 ∷ pos 0 ∷ pos 0 ∷ pos 40 ∷ pos 0 ∷ negsuc 13763924 ∷ pos 49312319 ∷ pos 0 ∷ pos 0 ∷ pos 10 ∷ pos 0 ∷ pos 0 ∷ pos 3 ∷ pos 0 ∷ pos 6 ∷
+          pos 2 ∷ pos 0 ∷ pos 0 ∷ pos 18 ∷ pos 0 ∷ pos 9592299 ∷ negsuc 27610763 ∷ pos 0 ∷ pos 0 ∷ pos 5 ∷ pos 0 ∷ pos 0 ∷ pos 13 ∷ pos 0 ∷ pos 6 ∷
+          pos 3 ∷ pos 0 ∷ pos 14 ∷ pos 0 ∷ pos 4673 ∷ negsuc 14497566 ∷ pos 49620796 ∷ pos 0 ∷ pos 0 ∷ pos 0 ∷ pos 0 ∷ pos 0 ∷ pos 18 ∷ pos 0 ∷ pos 6 ∷
+          pos 4 ∷ pos 0 ∷ pos 20 ∷ pos 0 ∷ pos 0 ∷ pos 15951230 ∷ negsuc 30505860 ∷ pos 15959230 ∷ negsuc 30497860 ∷ pos 1 ∷ pos 0 ∷ pos 0 ∷ pos 18 ∷ pos 0 ∷ pos 6 ∷
+          pos 5 ∷ pos 0 ∷ pos 6 ∷ pos 0 ∷ pos 0 ∷ pos 0 ∷ pos 0 ∷ pos 0 ∷ pos 0 ∷ pos 0 ∷ pos 0 ∷ pos 4 ∷ pos 19 ∷ pos 0 ∷ pos 6 ∷ [];
       letters = text "120Corricioni(731)5";
       islands = [];
       points = pos 14941747 ∷ negsuc 29983614 ∷ pos 14939626 ∷ negsuc 29987400 ∷ pos 14936901 ∷ negsuc 29990672 ∷ pos 14933682 ∷ negsuc 29988246 ∷ pos 14937623 ∷ negsuc 29980517 ∷ pos 14941747 ∷ negsuc 29983614 ∷ pos 15181145 ∷ negsuc 29700212 ∷ pos 15179456 ∷ negsuc 29699077 ∷ pos 15181315 ∷ negsuc 29698257 ∷ pos 15181145 ∷ negsuc 29700212 ∷ [];
@@ -106,8 +106,8 @@ pub listed-is : reading Loose listed
     ≡ sheet (record { kind = 1; name = text "Z999_000100"; scale = pos 1000000 })
     (record {
       rows =
-          pos 1 ∷ pos 0 ∷ pos 0 ∷ pos 18 ∷ pos 0 ∷ pos 1000 ∷ pos 1000 ∷ pos 1000 ∷ pos 1000 ∷ pos 1 ∷ pos 0 ∷ pos 5 ∷
-          pos 2 ∷ pos 1 ∷ pos 0 ∷ pos 18 ∷ pos 0 ∷ pos 3000 ∷ negsuc 4 ∷ pos 0 ∷ pos 0 ∷ pos 3 ∷ pos 0 ∷ pos 0 ∷ [];
+          pos 1 ∷ pos 0 ∷ pos 0 ∷ pos 18 ∷ pos 0 ∷ pos 1000 ∷ pos 1000 ∷ pos 1000 ∷ pos 1000 ∷ pos 1 ∷ pos 0 ∷ pos 5 ∷ pos 0 ∷ pos 0 ∷ pos 0 ∷
+          pos 2 ∷ pos 1 ∷ pos 0 ∷ pos 18 ∷ pos 0 ∷ pos 3000 ∷ negsuc 4 ∷ pos 0 ∷ pos 0 ∷ pos 3 ∷ pos 0 ∷ pos 0 ∷ pos 1 ∷ pos 0 ∷ pos 5 ∷ [];
       letters = text "7EOF";
       islands = [];
       points = pos 0 ∷ pos 0 ∷ pos 10000 ∷ pos 0 ∷ pos 10000 ∷ pos 20000 ∷ pos 0 ∷ pos 20000 ∷ pos 0 ∷ pos 0 ∷ [];
@@ -120,16 +120,18 @@ listed-is = refl
 bordered : List ℕ
 bordered = text "MAPPA\nZ999_000100\n1000.000\n" ++ text "BORDO\n7\n18\n0.000\n1.000\n1.000\n1.000\n1.000\n1\n9\n4\n0.000\n0.000\n9.000\n0.000\n9.000\n9.000\n0.000\n9.000\n0.000\n0.000\n2.000\n2.000\n3.000\n2.000\n3.000\n3.000\n2.000\n2.000\n" ++ text "EOF"
 
-bordered-is : reading Loose bordered
-    ≡ sheet (record { kind = 1; name = text "Z999_000100"; scale = pos 1000000 })
-    (record {
+borderedTables : Tables
+borderedTables =
+    record {
       rows =
-          pos 1 ∷ pos 0 ∷ pos 0 ∷ pos 18 ∷ pos 0 ∷ pos 1000 ∷ pos 1000 ∷ pos 1000 ∷ pos 1000 ∷ pos 1 ∷ pos 1 ∷ pos 9 ∷ [];
+          pos 1 ∷ pos 0 ∷ pos 0 ∷ pos 18 ∷ pos 0 ∷ pos 1000 ∷ pos 1000 ∷ pos 1000 ∷ pos 1000 ∷ pos 1 ∷ pos 1 ∷ pos 9 ∷ pos 0 ∷ pos 0 ∷ pos 0 ∷ [];
       letters = text "7";
       islands = 4 ∷ [];
       points = pos 0 ∷ pos 0 ∷ pos 9000 ∷ pos 0 ∷ pos 9000 ∷ pos 9000 ∷ pos 0 ∷ pos 9000 ∷ pos 0 ∷ pos 0 ∷ pos 2000 ∷ pos 2000 ∷ pos 3000 ∷ pos 2000 ∷ pos 3000 ∷ pos 3000 ∷ pos 2000 ∷ pos 2000 ∷ [];
-    })
-unfolding computed bordered
+    }
+
+bordered-is : reading Loose bordered ≡ sheet (record { kind = 1; name = text "Z999_000100"; scale = pos 1000000 }) borderedTables
+unfolding computed bordered borderedTables
 bordered-is = refl
 
 -- ---- a scanned sheet (1.1.13, 1.1.14): a raster's name and its four points as they stand, which are no ring; a survey book's line
@@ -144,8 +146,8 @@ unfoldable pub scannedTables : Tables
 scannedTables =
     record {
       rows =
-          pos 6 ∷ pos 0 ∷ pos 0 ∷ pos 0 ∷ pos 0 ∷ pos 0 ∷ pos 0 ∷ pos 0 ∷ pos 0 ∷ pos 15 ∷ pos 0 ∷ pos 4 ∷
-          pos 7 ∷ pos 0 ∷ pos 1 ∷ pos 0 ∷ pos 0 ∷ pos 0 ∷ pos 0 ∷ pos 0 ∷ pos 0 ∷ pos 7 ∷ pos 0 ∷ pos 2 ∷ [];
+          pos 6 ∷ pos 0 ∷ pos 0 ∷ pos 0 ∷ pos 0 ∷ pos 0 ∷ pos 0 ∷ pos 0 ∷ pos 0 ∷ pos 15 ∷ pos 0 ∷ pos 4 ∷ pos 0 ∷ pos 0 ∷ pos 0 ∷
+          pos 7 ∷ pos 0 ∷ pos 1 ∷ pos 0 ∷ pos 0 ∷ pos 0 ∷ pos 0 ∷ pos 0 ∷ pos 0 ∷ pos 7 ∷ pos 0 ∷ pos 2 ∷ pos 15 ∷ pos 0 ∷ pos 4 ∷ [];
       letters = text "D458_013100.tif1234567";
       islands = [];
       points = pos 9177503 ∷ negsuc 25867906 ∷ pos 9160700 ∷ negsuc 25874731 ∷ pos 8810099 ∷ negsuc 26512372 ∷ pos 8811408 ∷ negsuc 26529664 ∷ pos 1000 ∷ pos 2000 ∷ pos 3000 ∷ pos 4000 ∷ [];
@@ -154,7 +156,7 @@ scannedTables =
 abbrev pub scannedHeader : Header
 scannedHeader = record { kind = 1; name = text "Z999_000100"; scale = pos 1000000 }
 
-scanned-exact : reading Exact scanned ≡ sheet scannedHeader scannedTables
+pub scanned-exact : reading Exact scanned ≡ sheet scannedHeader scannedTables
 unfolding computed scanned scannedTables
 scanned-exact = refl
 
@@ -278,6 +280,12 @@ joined-is : reading Loose (joined Loose bordered listed)
 unfolding computed bordered listed
 joined-is = refl
 
+-- a scanned sheet before another and behind it: the raster's points stay its own, and the second's starts are moved on
+joined-scanned : (reading Exact (joined Exact scanned padded) ≡ sheet scannedHeader (scannedTables followed specimenTables))
+    × (reading Loose (joined Loose padded scanned) ≡ sheet specimenHeader (specimenTables followed scannedTables))
+unfolding computed scanned padded scannedTables specimenTables moveFrom moveAt
+joined-scanned = (refl, refl)
+
 -- ---- sheets of one element each, and refusals beside them
 
 abbrev header : Header
@@ -304,14 +312,17 @@ two-x = refl
 inner-blanks : Tables
 inner-blanks =
     record {
-      rows = pos 2 ∷ pos 1 ∷ pos 0 ∷ pos 18 ∷ pos 0 ∷ pos 1000 ∷ pos 2000 ∷ pos 0 ∷ pos 0 ∷ pos 6 ∷ pos 0 ∷ pos 0 ∷ [];
+      rows = pos 2 ∷ pos 1 ∷ pos 0 ∷ pos 18 ∷ pos 0 ∷ pos 1000 ∷ pos 2000 ∷ pos 0 ∷ pos 0 ∷ pos 6 ∷ pos 0 ∷ pos 0 ∷ pos 0 ∷ pos 0 ∷ pos 0 ∷ [];
       letters = text "Via  3";
       islands = [];
       points = [];
     }
 
-inner-loose : reading Loose (text "MAPPA\nZ999_000100\n1000.000\nTESTO\\ \n  Via  3 \n18\n0.000\n1.000\n2.000\nEOF") ≡ sheet header inner-blanks
-unfolding computed inner-blanks
+innerFile : List ℕ
+innerFile = text "MAPPA\nZ999_000100\n1000.000\nTESTO\\ \n  Via  3 \n18\n0.000\n1.000\n2.000\nEOF"
+
+inner-loose : reading Loose innerFile ≡ sheet header inner-blanks
+unfolding computed innerFile inner-blanks
 inner-loose = refl
 
 inner-exact : reading Exact (text "MAPPA\r\nZ999_000100\r\n    1000.000\r\nTESTO\\\r\nVia  3\r\n  18\r\n       0.000\r\n       1.000\r\n       2.000\r\nEOF\r\n") ≡ sheet header inner-blanks
@@ -323,7 +334,7 @@ symbol : ℕ → Reading
 symbol code =
     sheet header
     (record {
-      rows = pos 3 ∷ pos 0 ∷ pos code ∷ pos 0 ∷ pos 0 ∷ pos 1000 ∷ pos 2000 ∷ pos 0 ∷ pos 0 ∷ pos 0 ∷ pos 0 ∷ pos 0 ∷ [];
+      rows = pos 3 ∷ pos 0 ∷ pos code ∷ pos 0 ∷ pos 0 ∷ pos 1000 ∷ pos 2000 ∷ pos 0 ∷ pos 0 ∷ pos 0 ∷ pos 0 ∷ pos 0 ∷ pos 0 ∷ pos 0 ∷ pos 0 ∷ [];
       letters = [];
       islands = [];
       points = [];
@@ -358,10 +369,36 @@ twelve-outer = refl
 two-islands : reading Loose (text "MAPPA\nZ999_000100\n1000.000\nBORDO\n7\n18\n0.000\n1.000\n1.000\n1.000\n1.000\n2\n13\n4\n5\n" ++ text "0.000\n0.000\n9.000\n0.000\n9.000\n9.000\n0.000\n0.000\n1.000\n1.000\n2.000\n1.000\n2.000\n2.000\n1.000\n1.000\n3.000\n3.000\n4.000\n3.000\n4.000\n4.000\n3.000\n4.000\n3.000\n3.000\nEOF")
     ≡ sheet header
     (record {
-      rows = pos 1 ∷ pos 0 ∷ pos 0 ∷ pos 18 ∷ pos 0 ∷ pos 1000 ∷ pos 1000 ∷ pos 1000 ∷ pos 1000 ∷ pos 1 ∷ pos 2 ∷ pos 13 ∷ [];
+      rows = pos 1 ∷ pos 0 ∷ pos 0 ∷ pos 18 ∷ pos 0 ∷ pos 1000 ∷ pos 1000 ∷ pos 1000 ∷ pos 1000 ∷ pos 1 ∷ pos 2 ∷ pos 13 ∷ pos 0 ∷ pos 0 ∷ pos 0 ∷ [];
       letters = text "7";
       islands = 4 ∷ 5 ∷ [];
       points = pos 0 ∷ pos 0 ∷ pos 9000 ∷ pos 0 ∷ pos 9000 ∷ pos 9000 ∷ pos 0 ∷ pos 0 ∷ pos 1000 ∷ pos 1000 ∷ pos 2000 ∷ pos 1000 ∷ pos 2000 ∷ pos 2000 ∷ pos 1000 ∷ pos 1000 ∷ pos 3000 ∷ pos 3000 ∷ pos 4000 ∷ pos 3000 ∷ pos 4000 ∷ pos 4000 ∷ pos 3000 ∷ pos 4000 ∷ pos 3000 ∷ pos 3000 ∷ [];
     })
 unfolding computed
 two-islands = refl
+
+-- ---- starts (document 02, T-07)
+
+-- a row that has no letters, islands or points says where they would begin: the symbol behind the specimen's first three rows
+specimen-starts : take 3 (drop (rowWidth + rowWidth + rowWidth + ownWidth) (specimenTables .rows)) ≡ pos 18 ∷ pos 0 ∷ pos 6 ∷ []
+unfolding specimenTables
+specimen-starts = refl
+
+-- a border of one letter, one island and nine points, followed by a text: the text's starts are moved on by those, and nothing else of it
+bordered-followed : (borderedTables followed inner-blanks) .rows
+    ≡ pos 1 ∷ pos 0 ∷ pos 0 ∷ pos 18 ∷ pos 0 ∷ pos 1000 ∷ pos 1000 ∷ pos 1000 ∷ pos 1000 ∷ pos 1 ∷ pos 1 ∷ pos 9 ∷ pos 0 ∷ pos 0 ∷ pos 0 ∷
+    pos 2 ∷ pos 1 ∷ pos 0 ∷ pos 18 ∷ pos 0 ∷ pos 1000 ∷ pos 2000 ∷ pos 0 ∷ pos 0 ∷ pos 6 ∷ pos 0 ∷ pos 0 ∷ pos 1 ∷ pos 1 ∷ pos 9 ∷ []
+unfolding borderedTables inner-blanks moveFrom moveAt
+bordered-followed = refl
+
+-- the other way round the border's starts are moved on by six letters
+inner-followed : (inner-blanks followed borderedTables) .rows
+    ≡ pos 2 ∷ pos 1 ∷ pos 0 ∷ pos 18 ∷ pos 0 ∷ pos 1000 ∷ pos 2000 ∷ pos 0 ∷ pos 0 ∷ pos 6 ∷ pos 0 ∷ pos 0 ∷ pos 0 ∷ pos 0 ∷ pos 0 ∷
+    pos 1 ∷ pos 0 ∷ pos 0 ∷ pos 18 ∷ pos 0 ∷ pos 1000 ∷ pos 1000 ∷ pos 1000 ∷ pos 1000 ∷ pos 1 ∷ pos 1 ∷ pos 9 ∷ pos 6 ∷ pos 0 ∷ pos 0 ∷ []
+unfolding borderedTables inner-blanks moveFrom moveAt
+inner-followed = refl
+
+-- and the joined file is read so
+joined-followed : reading Loose (joined Loose bordered innerFile) ≡ sheet header (borderedTables followed inner-blanks)
+unfolding computed bordered innerFile borderedTables inner-blanks moveFrom moveAt
+joined-followed = refl

@@ -6,7 +6,7 @@ use mathlib.Core.List.{List, [], _∷_, _++_}
 use mathlib.Core.Bool.{Bool, true, false, not, _&&_, _||_, cond}
 use native.Mathlib.Nat.{sub-zero}
 use native.Mathlib.Omega.{arith}
-use lib.ListN.{length, getD, drop, length-append, length-drop}
+use lib.ListN.{length, getD, drop, length-append}
 use lib.IntN.{ℤ}
 use lib.Signed.{mag}
 use mir.Syntax.{w64}
@@ -15,13 +15,13 @@ use borrow.Author.Tests.{not-true, not-false}
 use Rattle.laws.proofs.Bits.{back}
 use Rattle.laws.proofs.Choice.{and-left, and-right, false≢true}
 use Rattle.laws.proofs.ListLaws.{left as from-at, left-none}
+use Rattle.kinds.specs.Kinds.{rowWidth}
 use Rattle.heading.specs.declared.Header.{Header}
 use Rattle.record.specs.declared.Mode.the-variants.{Loose}
 use Rattle.sheet.specs.Tables.{Tables}
 use Rattle.made.specs.declared.Verdict.the-variants.{Fine}
-use Rattle.made.specs.Made.{tablesOf, lettersOf, restOf, judgeRows}
-use Rattle.made.proofs.RowWays.{made-held}
-use Rattle.made.proofs.UsedLaws.{fine-on}
+use Rattle.made.specs.Made.{tablesOf, lettersOf, noneBefore, judgeRows}
+use Rattle.made.proofs.UsedLaws.{fine-long}
 use Rattle.row.specs.declared.Stand.{Stand}
 use Rattle.row.specs.Walk.{firstStand, standAfter, leftAt}
 use Rattle.area.specs.Questions.{netAreaOf}
@@ -183,14 +183,8 @@ listed-few h t (suc n) d = go (isInSup h (leftAt t d)) (listed-few h t n (standA
     go true k = omega arith
     go false k = omega arith
 
-rows-held : (n k : ℕ) (t : Tables) → judgeRows Loose n k t ≡ Fine → 12 * n ≤ length (t .rows)
-rows-held zero k t f = omega arith
-rows-held (suc n) k t f =
-    let on = fine-on Loose n k t f in
-    omega (arith, made-held t (on .0) .row, rows-held n (k + 1) (restOf t) (on .1), length-drop 12 (t .rows))
-
-pub listed-held : (h : Header) (count : ℕ) (t : Tables) → judgeRows Loose count 0 t ≡ Fine → 12 * length (supBorders h count t) ≤ length (t .rows)
-listed-held h count t f = omega (arith, listed-few h t count firstStand, rows-held count 0 t f)
+pub listed-held : (h : Header) (count : ℕ) (t : Tables) → judgeRows Loose count noneBefore t ≡ Fine → rowWidth * length (supBorders h count t) ≤ length (t .rows)
+listed-held h count t f = omega (arith, listed-few h t count firstStand, fine-long Loose count noneBefore t f .rows-in)
 
 -- ---- the loop over windows that stores lines
 
@@ -209,7 +203,7 @@ each-narrow t (d ∷ s) e =
     each-on (and-left (isNarrow (metresOf (netLeft (leftAt t d)))) rest e) (each-narrow t s (and-right (isNarrow (metresOf (netLeft (leftAt t d)))) rest e))
 
 module _ (h : Header) (count : ℕ) (t : Tables) (l : List ℕ) (at : ℕ) where
-  pub storing-start : Small t → judgeRows Loose count 0 t ≡ Fine → firstLong h count t ≡ Nowhere
+  pub storing-start : Small t → judgeRows Loose count noneBefore t ≡ Fine → firstLong h count t ≡ Nowhere
       → areNarrow (figuresIn (listedLines (codesInOrder h count t))) ≡ true → at + length (linesText (listedLines (codesInOrder h count t))) ≤ length l
       → (w : Window) → Shows w (windowOf h count t First) → Storing h count t l at l w at 0
   unfolding codesInOrder
@@ -271,7 +265,7 @@ pub record Widening (h : Header) (count : ℕ) (t : Tables) (w : Window) (i j : 
   pub turns : Turning h count t w i j
   pub rest : wideFrom 8 (figuresFrom h count t 0) ≡ wideFrom (8 + i) (figuresFrom h count t i)
 
-pub widening-start : (h : Header) (count : ℕ) (t : Tables) → Small t → judgeRows Loose count 0 t ≡ Fine → (w : Window) → Shows w (windowOf h count t First) → Widening h count t w 0 0
+pub widening-start : (h : Header) (count : ℕ) (t : Tables) → Small t → judgeRows Loose count noneBefore t ≡ Fine → (w : Window) → Shows w (windowOf h count t First) → Widening h count t w 0 0
 widening-start h count t m f w s = record { turns = turning-start h count t m f w s; rest = refl }
 
 module _ {h : Header} {count : ℕ} {t : Tables} {w : Window} {i j : ℕ} (g : Widening h count t w i j) where
@@ -279,7 +273,7 @@ module _ {h : Header} {count : ℕ} {t : Tables} {w : Window} {i j : ℕ} (g : W
   unfolding wideFrom codesInOrder
   widening-end e = sym (g .rest ∙ rw (figures-end h count t i (omega (arith, turning-end (g .turns) e))))
 
-  pub widening-small : j < w .count → 12 * i < length (t .rows)
+  pub widening-small : j < w .count → rowWidth * i < length (t .rows)
   widening-small e =
       omega (arith, turning-more (g .turns) e, in-order-length h count t, listed-held h count t (g .turns .fine))
 

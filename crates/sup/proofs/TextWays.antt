@@ -21,7 +21,7 @@ use Rattle.heading.specs.declared.Header.{Header}
 use Rattle.sheet.specs.Tables.{Tables}
 use Rattle.record.specs.declared.Mode.the-variants.{Loose}
 use Rattle.made.specs.declared.Verdict.the-variants.{Fine}
-use Rattle.made.specs.Made.{tablesOf, judgeRows}
+use Rattle.made.specs.Made.{tablesOf, noneBefore, judgeRows}
 use Rattle.row.proofs.SeekLaws.{fine-rows}
 use Rattle.row.specs.declared.Stand.{Stand}
 use Rattle.row.specs.Walk.{firstStand, leftAt}
@@ -373,7 +373,7 @@ module _ (h : Header) (count : ℕ) (t : Tables) (date : List ℕ) (room : ℕ) 
       by (Wide k) n = refl
 
   module _ (q : x .refusal ≡ None) where
-    pub tally-asks : (judgeRows Loose count 0 t ≡ Fine) × Good (x .tally .figures)
+    pub tally-asks : (judgeRows Loose count noneBefore t ≡ Fine) × Good (x .tally .figures)
     tally-asks =
         (fine-rows h count t (tally-fine h count t (sym (ap (λ (y : Taken). y .refusal) e) ∙ q)), rw e (tally-good h count t))
 

@@ -15,7 +15,7 @@ use Rattle.heading.specs.Heading.{isHeader}
 use Rattle.heading.proofs.HeadingLaws.{header-is}
 use Rattle.sheet.specs.Tables.{Tables}
 use Rattle.made.specs.declared.Verdict.the-variants.{Fine, BadHeader}
-use Rattle.made.specs.Made.{judgeRows, judgeOf}
+use Rattle.made.specs.Made.{noneBefore, judgeRows, judgeOf}
 use Rattle.tally.specs.declared.Refusal.{Refusal}
 use Rattle.tally.specs.declared.Refusal.the-variants.{None, Sheet, Missing, Full, Wide}
 use Rattle.tally.specs.Take.{tallyOf}
@@ -46,7 +46,7 @@ pub record SupWritten (h : Header) (count : ℕ) (t : Tables) (date : List ℕ) 
 header-named : (h : Header) (count : ℕ) (t : Tables) → judgeOf Loose h count t ≡ Fine → length (h .name) ≤ 11
 unfolding judgeOf
 header-named h count t e =
-    let q = cond-first (isHeader h) (judgeRows Loose count 0 t) BadHeader Fine (λ f. let z : _≡_ {A = ℕ} 0 1 = cc in omega arith) e in
+    let q = cond-first (isHeader h) (judgeRows Loose count noneBefore t) BadHeader Fine (λ f. let z : _≡_ {A = ℕ} 0 1 = cc in omega arith) e in
     omega (arith, header-is h (q .0) .long)
 
 module _ (h : Header) (count : ℕ) (t : Tables) (date : List ℕ) where

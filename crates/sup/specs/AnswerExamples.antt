@@ -9,7 +9,7 @@ use Rattle.heading.specs.declared.Header.{Header}
 use Rattle.sheet.specs.Tables.{Tables}
 use Rattle.made.specs.declared.Verdict.the-variants as Verdict
 use Rattle.made.specs.Made.{tablesOf}
-use Rattle.made.specs.Examples.{header}
+use Rattle.made.specs.Examples.{header, atFirst}
 use Rattle.tally.specs.declared.Refusal.the-variants.{Sheet, Wide}
 use Rattle.tally.specs.Tally.{limit}
 use Rattle.tally.specs.Examples.{computed as computedTally}
@@ -45,7 +45,7 @@ first-refused = (refl, refl)
 abbrev one : ℕ → ℕ → List ℕ → Tables
 one letters side code =
     tablesOf
-    (pos 1 ∷ pos 0 ∷ pos 0 ∷ pos 18 ∷ pos 0 ∷ pos 1 ∷ pos 1 ∷ pos 1 ∷ pos 1 ∷ pos letters ∷ pos 0 ∷ pos 4 ∷ [])
+    (pos 1 ∷ pos 0 ∷ pos 0 ∷ pos 18 ∷ pos 0 ∷ pos 1 ∷ pos 1 ∷ pos 1 ∷ pos 1 ∷ pos letters ∷ pos 0 ∷ pos 4 ∷ atFirst)
     code [] (pos 0 ∷ pos 0 ∷ pos side ∷ pos 0 ∷ pos 0 ∷ pos side ∷ pos 0 ∷ pos 0 ∷ [])
 
 -- the tally's 17 before 21; 21 before 22; 22 before 14; a triangle of 2 m2 finds room

@@ -1,4 +1,4 @@
--- SUP files of small sheets, computed from their tables: document 02, T-01. Assumes nothing.
+-- SUP files of small sheets, computed from their tables: document 02, T-01, and T-07 (one border followed by another). Assumes nothing.
 use Prim.Native.Nat.{ℕ, _+_, _*_, _/_}
 use mathlib.Core.Path.{_≡_, refl}
 use mathlib.Core.List.{List, [], _∷_, _++_}
@@ -6,9 +6,9 @@ use lib.ListN.{length, take, replicate}
 use lib.IntN.{ℤ, pos, negℤ}
 use Rattle.laws.specs.Text.{text}
 use Rattle.heading.specs.declared.Header.{Header}
-use Rattle.sheet.specs.Tables.{Tables, _then_}
+use Rattle.sheet.specs.Tables.{Tables, moveAt, moveFrom, _followed_}
 use Rattle.made.specs.Made.{tablesOf}
-use Rattle.made.specs.Examples.{header, labelled}
+use Rattle.made.specs.Examples.{header, atFirst, labelled}
 use Rattle.tally.specs.Tally.{noFigures}
 use Rattle.sup.specs.declared.SupAnswer.the-variants.{Wrote, PastTotal, WideFigure}
 use Rattle.sup.specs.Sup.{supText}
@@ -17,7 +17,7 @@ use Rattle.sup.specs.AnswerExamples.{computed as computedAnswer}
 
 -- the definitions opened, so that they compute
 unfoldable pub computed : Header → ℕ → Tables → List ℕ → List ℕ
-unfolding sheetSup computedAnswer
+unfolding sheetSup computedAnswer moveAt moveFrom
 computed h count t date = sheetSup h count t date
 
 abbrev today : List ℕ
@@ -29,14 +29,14 @@ today = text "20261115"
 abbrev bare : List ℕ → List ℤ → Tables
 bare code outer =
     tablesOf
-    (pos 1 ∷ pos 0 ∷ pos 0 ∷ pos 18 ∷ pos 0 ∷ pos 1 ∷ pos 1 ∷ pos 1 ∷ pos 1 ∷ pos (length code) ∷ pos 0 ∷ pos (length outer / 2) ∷ [])
+    (pos 1 ∷ pos 0 ∷ pos 0 ∷ pos 18 ∷ pos 0 ∷ pos 1 ∷ pos 1 ∷ pos 1 ∷ pos 1 ∷ pos (length code) ∷ pos 0 ∷ pos (length outer / 2) ∷ atFirst)
     code [] outer
 
 -- with one island
 abbrev holed : List ℕ → List ℤ → List ℤ → Tables
 holed code outer inner =
     tablesOf
-    (pos 1 ∷ pos 0 ∷ pos 0 ∷ pos 18 ∷ pos 0 ∷ pos 1 ∷ pos 1 ∷ pos 1 ∷ pos 1 ∷ pos (length code) ∷ pos 1 ∷ pos (length outer / 2 + length inner / 2) ∷ [])
+    (pos 1 ∷ pos 0 ∷ pos 0 ∷ pos 18 ∷ pos 0 ∷ pos 1 ∷ pos 1 ∷ pos 1 ∷ pos 1 ∷ pos (length code) ∷ pos 1 ∷ pos (length outer / 2 + length inner / 2) ∷ atFirst)
     code (length inner / 2 ∷ []) (outer ++ inner)
 
 abbrev origin : List ℤ
@@ -86,9 +86,9 @@ no-confine-text = refl
 -- -5,000,002, which prints -3, though the lines make -2
 abbrev halves : Tables
 halves =
-    bare (text "a") (triangle 999999 1) then bare (text "b") (triangle 1000000 1) then bare (text "c") (triangle 1000001 1)
-    then holed (text "d") (triangle 0 0) (triangle 1000000 1) then holed (text "e") (triangle 0 0) (triangle 1000001 1)
-    then holed (text "f") (triangle 0 0) (triangle 3000000 1) then holed (text "g") (triangle 0 0) (triangle 3000001 1)
+    bare (text "a") (triangle 999999 1) followed bare (text "b") (triangle 1000000 1) followed bare (text "c") (triangle 1000001 1)
+    followed holed (text "d") (triangle 0 0) (triangle 1000000 1) followed holed (text "e") (triangle 0 0) (triangle 1000001 1)
+    followed holed (text "f") (triangle 0 0) (triangle 3000000 1) followed holed (text "g") (triangle 0 0) (triangle 3000001 1)
 
 halves-text : sheetSup (header 1) 7 halves today
     ≡ text "Z999_000100  20261115\r\nN.FABBRIC           0\r\nN.PARTIC            7\r\nN.STRADE            0\r\nN.ACQUE             0\r\nN.SVIL-ALL          0\r\nFABBRIC             0\r\na                   0\r\nb                   1\r\nc                   1\r\nd                   0\r\ne                  -1\r\nf                  -1\r\ng                  -2\r\nPARTIC             -3\r\nSTRADE              0\r\nACQUE               0\r\nSVIL-ALL            0\r\nTOTALE             -3\r\nCONFINE             0\r\nSBILANCIO          -3\r\n"
@@ -99,8 +99,8 @@ halves-text = refl
 -- building of 6 less 20 is no part of it
 abbrev balancing : Tables
 balancing =
-    holed (text "12+") (box 2000 3000) (box 4000 5000) then bare (text "ACQUA") (box 70000 10000) then holed (text "12") (box 100000 90000) (box 20000 10000)
-    then bare (text "STRADA") (box 40000 10000) then holed (text "Z999_000100") (box 100000 100000) (box 10000 10000)
+    holed (text "12+") (box 2000 3000) (box 4000 5000) followed bare (text "ACQUA") (box 70000 10000) followed holed (text "12") (box 100000 90000) (box 20000 10000)
+    followed bare (text "STRADA") (box 40000 10000) followed holed (text "Z999_000100") (box 100000 100000) (box 10000 10000)
 
 balancing-text : sheetSup (header 1) 5 balancing today
     ≡ text "Z999_000100  20261115\r\nN.FABBRIC           1\r\nN.PARTIC            1\r\nN.STRADE            1\r\nN.ACQUE             1\r\nN.SVIL-ALL          1\r\nFABBRIC           -14\r\n12               8800\r\nPARTIC           8800\r\nSTRADE            400\r\nACQUE             700\r\nSVIL-ALL          100\r\nTOTALE          10000\r\nCONFINE         10000\r\nSBILANCIO           0\r\n"
@@ -110,9 +110,9 @@ balancing-text = refl
 -- a text is in no line; blank, `/`, digits, capitals, small letters; `1` is a beginning of six others, and of the three named so the nets rise
 abbrev manyCodes : Tables
 manyCodes =
-    ofMetres (text "10") 10 then ofMetres (text "1A") 11 then ofMetres (text "1") 5 then ofMetres (text "2") 12 then ofMetres (text "1/a") 13 then ofMetres (text "1 0") 14
-    then tablesOf (labelled 1 18) (text "0") [] [] then ofMetres (text "100") 15 then belowMetres (text "1") 7 then ofMetres (text "1a") 16 then ofMetres (text "B") 17
-    then ofMetres (text "1") 3
+    ofMetres (text "10") 10 followed ofMetres (text "1A") 11 followed ofMetres (text "1") 5 followed ofMetres (text "2") 12 followed ofMetres (text "1/a") 13 followed ofMetres (text "1 0") 14
+    followed tablesOf (labelled 1 18) (text "0") [] [] followed ofMetres (text "100") 15 followed belowMetres (text "1") 7 followed ofMetres (text "1a") 16 followed ofMetres (text "B") 17
+    followed ofMetres (text "1") 3
 
 codes-text : sheetSup (header 1) 12 manyCodes today
     ≡ text "Z999_000100  20261115\r\nN.FABBRIC           0\r\nN.PARTIC           11\r\nN.STRADE            0\r\nN.ACQUE             0\r\nN.SVIL-ALL          0\r\nFABBRIC             0\r\n1                  -7\r\n1                   3\r\n1                   5\r\n1 0                14\r\n1/a                13\r\n10                 10\r\n100                15\r\n1A                 11\r\n1a                 16\r\n2                  12\r\nB                  17\r\nPARTIC            109\r\nSTRADE              0\r\nACQUE               0\r\nSVIL-ALL            0\r\nTOTALE            109\r\nCONFINE             0\r\nSBILANCIO         109\r\n"
@@ -121,7 +121,7 @@ codes-text = refl
 
 -- T-02: on a map a parcel of eleven letters is listed and counted; with a final `+` it is a building, with `S` in front in kind 2 a road
 abbrev elevens : Tables
-elevens = ofMetres (text "12345678901") 5 then ofMetres (text "1234567890+") 2 then ofMetres (text "S1234567890") 3
+elevens = ofMetres (text "12345678901") 5 followed ofMetres (text "1234567890+") 2 followed ofMetres (text "S1234567890") 3
 
 eleven-text : (sheetSup (header 1) 3 elevens today
     ≡ text "Z999_000100  20261115\r\nN.FABBRIC           1\r\nN.PARTIC            2\r\nN.STRADE            0\r\nN.ACQUE             0\r\nN.SVIL-ALL          0\r\nFABBRIC             2\r\n12345678901         5\r\nS1234567890         3\r\nPARTIC              8\r\nSTRADE              0\r\nACQUE               0\r\nSVIL-ALL            0\r\nTOTALE              8\r\nCONFINE             0\r\nSBILANCIO           8\r\n")
@@ -135,9 +135,9 @@ unionHeader = record { kind = 3; name = text "Z999_0001QU"; scale = pos 1000000 
 
 abbrev unionSheet : Tables
 unionSheet =
-    holed (text "Z999_0001QU") (box 10000 5000) (box 1000 1000) then holed (text "Z999_000200") (box 10000 3000) (box 2000 2000)
-    then bare (text "Z999_000100") (triangle 1000000 1) then ofMetres (text "7") 8 then ofMetres (text "7+") 2 then ofMetres (text "STRADA") 3
-    then ofMetres (text "ACQUA") 4 then ofMetres (text "1234567890123") 1 then bare (text "Z999_000100") (triangle 999999 1)
+    holed (text "Z999_0001QU") (box 10000 5000) (box 1000 1000) followed holed (text "Z999_000200") (box 10000 3000) (box 2000 2000)
+    followed bare (text "Z999_000100") (triangle 1000000 1) followed ofMetres (text "7") 8 followed ofMetres (text "7+") 2 followed ofMetres (text "STRADA") 3
+    followed ofMetres (text "ACQUA") 4 followed ofMetres (text "1234567890123") 1 followed bare (text "Z999_000100") (triangle 999999 1)
 
 union-text : sheetSup unionHeader 9 unionSheet today
     ≡ text "Z999_0001QU  20261115\r\nN.FABBRIC           1\r\nN.PARTIC            2\r\nN.STRADE            1\r\nN.ACQUE             1\r\nN.SVIL-ALL          1\r\nFABBRIC             2\r\nZ999_000100         0\r\nZ999_000100         1\r\nZ999_000200        26\r\nPARTIC              9\r\nSTRADE              3\r\nACQUE               4\r\nSVIL-ALL            1\r\nTOTALE             27\r\nCONFINE            27\r\nSBILANCIO           0\r\n"
@@ -151,7 +151,7 @@ written = (refl, refl, refl)
 -- ---- 23: a figure over 10 characters, with the first such line; before 14
 
 -- 25 sides are 10,000,000,000 m2, with an island of 1 m2 one less; `1` stands at line 8, `2` at line 9
-wide-plus : (supOf (header 1) 2 (bare (text "2") (around 25 20000000) then ofMetres (text "1") 1) today 0 ≡ WideFigure 9)
+wide-plus : (supOf (header 1) 2 (bare (text "2") (around 25 20000000) followed ofMetres (text "1") 1) today 0 ≡ WideFigure 9)
     × (supOf (header 1) 1 (holed (text "2") (around 25 20000000) (box 1000 1000)) today 345 ≡ Wrote 345)
 unfolding computed
 wide-plus = (refl, refl)
@@ -163,9 +163,9 @@ unfolding computed
 wide-minus = (refl, refl)
 
 -- the first line: FABBRIC before a parcel; PARTIC of two parcels that fit, TOTALE of a parcel and a road that fit; SBILANCIO alone
-wide-lines : (supOf (header 1) 2 (bare (text "1") (around 25 20000000) then bare (text "7+") (around 25 20000000)) today 0 ≡ WideFigure 7)
-    × (supOf (header 1) 2 (bare (text "1") (around 15 20000000) then bare (text "2") (around 15 20000000)) today 0 ≡ WideFigure 10)
-    × (supOf (header 1) 2 (bare (text "1") (around 15 20000000) then bare (text "STRADA") (around 15 20000000)) today 0 ≡ WideFigure 13)
+wide-lines : (supOf (header 1) 2 (bare (text "1") (around 25 20000000) followed bare (text "7+") (around 25 20000000)) today 0 ≡ WideFigure 7)
+    × (supOf (header 1) 2 (bare (text "1") (around 15 20000000) followed bare (text "2") (around 15 20000000)) today 0 ≡ WideFigure 10)
+    × (supOf (header 1) 2 (bare (text "1") (around 15 20000000) followed bare (text "STRADA") (around 15 20000000)) today 0 ≡ WideFigure 13)
     × (supOf (header 1) 1 (bare (text "Z999_000100") (around 10 10000000)) today 0 ≡ WideFigure 14)
 unfolding computed
 wide-lines = (refl, refl, refl, refl)

@@ -13,7 +13,7 @@ ghost use lib.ListN.{length};
 ghost use Rattle.laws.specs.Lists.{over};
 ghost use Rattle.record.specs.declared.Mode.the-variants.{Loose};
 ghost use Rattle.made.specs.declared.Verdict.the-variants.{Fine};
-ghost use Rattle.made.specs.Made.{tablesOf, judgeRows};
+ghost use Rattle.made.specs.Made.{tablesOf, noneBefore, judgeRows};
 ghost use Rattle.tally.specs.Tally.{Good};
 ghost use Rattle.order.specs.declared.LongCode.the-variants.{Nowhere};
 ghost use Rattle.order.specs.SupBorders.{supBorders, firstLong};
@@ -75,7 +75,7 @@ fn first_wide_line(
     total: i64,
     listed: usize,
 ) -> usize
-    requires { ⌜ (judgeRows Loose count 0 (tablesOf (now rows) (now letters) (now islands) (now points)) ≡ Fine) × Good (now figures) × (total ≡ exactTotal (header .kind) (now figures)) ⌝ }
+    requires { ⌜ (judgeRows Loose count noneBefore (tablesOf (now rows) (now letters) (now islands) (now points)) ≡ Fine) × Good (now figures) × (total ≡ exactTotal (header .kind) (now figures)) ⌝ }
     requires { ⌜ listed ≡ length (supBorders header count (tablesOf (now rows) (now letters) (now islands) (now points))) ⌝ }
     ensures { λ r. ⌜ r ≡ firstWide (header .kind) (now (figures .entry)) (codesInOrder header count (tablesOf (now (rows .entry)) (now (letters .entry)) (now (islands .entry)) (now (points .entry)))) ⌝ }
 {
@@ -105,7 +105,7 @@ fn store(
     total: i64,
     out: &mut [u8],
 )
-    requires { ⌜ (judgeRows Loose count 0 (tablesOf (now rows) (now letters) (now islands) (now points)) ≡ Fine) × Good (now figures) × (total ≡ exactTotal (header .kind) (now figures)) × (isDate (now date) ≡ true) ⌝ }
+    requires { ⌜ (judgeRows Loose count noneBefore (tablesOf (now rows) (now letters) (now islands) (now points)) ≡ Fine) × Good (now figures) × (total ≡ exactTotal (header .kind) (now figures)) × (isDate (now date) ≡ true) ⌝ }
     requires { ⌜ (firstLong header count (tablesOf (now rows) (now letters) (now islands) (now points)) ≡ Nowhere) × (firstWide (header .kind) (now figures) (codesInOrder header count (tablesOf (now rows) (now letters) (now islands) (now points))) ≡ 0) ⌝ }
     requires { ⌜ length (supText header (now date) (now figures) (codesInOrder header count (tablesOf (now rows) (now letters) (now islands) (now points)))) ≤ length (now out) ⌝ }
     ensures { λ _. ⌜ now (out .exit) ≡ over (supText header (now (date .entry)) (now (figures .entry)) (codesInOrder header count (tablesOf (now (rows .entry)) (now (letters .entry)) (now (islands .entry)) (now (points .entry))))) (now (out .entry)) ⌝ }
@@ -151,7 +151,7 @@ fn lined_sup(
     total: i64,
     out: &mut [u8],
 ) -> SupAnswer
-    requires { ⌜ (judgeRows Loose count 0 (tablesOf (now rows) (now letters) (now islands) (now points)) ≡ Fine) × Good (now figures) × (total ≡ exactTotal (header .kind) (now figures)) × (isDate (now date) ≡ true) ⌝ }
+    requires { ⌜ (judgeRows Loose count noneBefore (tablesOf (now rows) (now letters) (now islands) (now points)) ≡ Fine) × Good (now figures) × (total ≡ exactTotal (header .kind) (now figures)) × (isDate (now date) ≡ true) ⌝ }
     requires { ⌜ firstLong header count (tablesOf (now rows) (now letters) (now islands) (now points)) ≡ Nowhere ⌝ }
     ensures { λ r. ⌜ r ≡ linedSup header (now (date .entry)) (now (figures .entry)) (codesInOrder header count (tablesOf (now (rows .entry)) (now (letters .entry)) (now (islands .entry)) (now (points .entry)))) (length (now (out .entry))) ⌝ }
     ensures { λ r. ⌜ now (out .exit) ≡ supOutput r (supText header (now (date .entry)) (now (figures .entry)) (codesInOrder header count (tablesOf (now (rows .entry)) (now (letters .entry)) (now (islands .entry)) (now (points .entry))))) (now (out .entry)) ⌝ }
@@ -202,7 +202,7 @@ fn printed_sup(
     figures: &[i64],
     out: &mut [u8],
 ) -> SupAnswer
-    requires { ⌜ (judgeRows Loose count 0 (tablesOf (now rows) (now letters) (now islands) (now points)) ≡ Fine) × Good (now figures) × (isDate (now date) ≡ true) ⌝ }
+    requires { ⌜ (judgeRows Loose count noneBefore (tablesOf (now rows) (now letters) (now islands) (now points)) ≡ Fine) × Good (now figures) × (isDate (now date) ≡ true) ⌝ }
     requires { ⌜ firstLong header count (tablesOf (now rows) (now letters) (now islands) (now points)) ≡ Nowhere ⌝ }
     ensures { λ r. ⌜ r ≡ printedSup header (now (date .entry)) (now (figures .entry)) (codesInOrder header count (tablesOf (now (rows .entry)) (now (letters .entry)) (now (islands .entry)) (now (points .entry)))) (length (now (out .entry))) ⌝ }
     ensures { λ r. ⌜ now (out .exit) ≡ supOutput r (supText header (now (date .entry)) (now (figures .entry)) (codesInOrder header count (tablesOf (now (rows .entry)) (now (letters .entry)) (now (islands .entry)) (now (points .entry))))) (now (out .entry)) ⌝ }
@@ -236,7 +236,7 @@ fn dated_sup(
     figures: &[i64],
     out: &mut [u8],
 ) -> SupAnswer
-    requires { ⌜ (judgeRows Loose count 0 (tablesOf (now rows) (now letters) (now islands) (now points)) ≡ Fine) × Good (now figures) ⌝ }
+    requires { ⌜ (judgeRows Loose count noneBefore (tablesOf (now rows) (now letters) (now islands) (now points)) ≡ Fine) × Good (now figures) ⌝ }
     ensures { λ r. ⌜ r ≡ datedSup header count (tablesOf (now (rows .entry)) (now (letters .entry)) (now (islands .entry)) (now (points .entry))) (now (date .entry)) (now (figures .entry)) (length (now (out .entry))) ⌝ }
     ensures { λ r. ⌜ now (out .exit) ≡ supOutput r (supText header (now (date .entry)) (now (figures .entry)) (codesInOrder header count (tablesOf (now (rows .entry)) (now (letters .entry)) (now (islands .entry)) (now (points .entry))))) (now (out .entry)) ⌝ }
 {

@@ -6,7 +6,7 @@ ghost use Prim.Native.Nat.{_+_, _≤_};
 ghost use lib.ListN.{length};
 ghost use Rattle.record.specs.declared.Mode.the-variants.{Loose};
 ghost use Rattle.made.specs.declared.Verdict.the-variants.{Fine};
-ghost use Rattle.made.specs.Made.{tablesOf, lettersOf, judgeRows};
+ghost use Rattle.made.specs.Made.{tablesOf, lettersOf, noneBefore, judgeRows};
 ghost use Rattle.row.specs.Walk.{firstStand, leftAt};
 ghost use Rattle.writer.specs.Put.{Put};
 ghost use Rattle.spelling.specs.Figures.{isNarrow};
@@ -95,7 +95,7 @@ fn wide_listed(
     islands: &[u16],
     points: &[i64],
 ) -> usize
-    requires { ⌜ judgeRows Loose count 0 (tablesOf (now rows) (now letters) (now islands) (now points)) ≡ Fine ⌝ }
+    requires { ⌜ judgeRows Loose count noneBefore (tablesOf (now rows) (now letters) (now islands) (now points)) ≡ Fine ⌝ }
     ensures { λ r. ⌜ r ≡ wideFrom 8 (figuresIn (listedLines (codesInOrder header count (tablesOf (now (rows .entry)) (now (letters .entry)) (now (islands .entry)) (now (points .entry)))))) ⌝ }
 {
     let mut w = next_window(header, count, rows, letters, islands, points, Since::First);
@@ -133,7 +133,7 @@ pub(crate) fn first_wide_listed(
     islands: &[u16],
     points: &[i64],
 ) -> usize
-    requires { ⌜ judgeRows Loose count 0 (tablesOf (now rows) (now letters) (now islands) (now points)) ≡ Fine ⌝ }
+    requires { ⌜ judgeRows Loose count noneBefore (tablesOf (now rows) (now letters) (now islands) (now points)) ≡ Fine ⌝ }
     ensures { λ r. ⌜ r ≡ wideFrom 8 (figuresIn (listedLines (codesInOrder header count (tablesOf (now (rows .entry)) (now (letters .entry)) (now (islands .entry)) (now (points .entry)))))) ⌝ }
 {
     if is_any_wide(header, count, rows, letters, islands, points) {
@@ -171,7 +171,7 @@ pub(crate) fn put_listed(
     islands: &[u16],
     points: &[i64],
 ) -> usize
-    requires { ⌜ judgeRows Loose count 0 (tablesOf (now rows) (now letters) (now islands) (now points)) ≡ Fine ⌝ }
+    requires { ⌜ judgeRows Loose count noneBefore (tablesOf (now rows) (now letters) (now islands) (now points)) ≡ Fine ⌝ }
     requires { ⌜ firstLong header count (tablesOf (now rows) (now letters) (now islands) (now points)) ≡ Nowhere ⌝ }
     requires { ⌜ areNarrow (figuresIn (listedLines (codesInOrder header count (tablesOf (now rows) (now letters) (now islands) (now points))))) ≡ true ⌝ }
     requires { ⌜ at + length (linesText (listedLines (codesInOrder header count (tablesOf (now rows) (now letters) (now islands) (now points))))) ≤ length (now out) ⌝ }

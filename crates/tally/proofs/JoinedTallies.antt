@@ -9,7 +9,8 @@ use lib.ListN.{length, length-append}
 use Rattle.record.specs.declared.Mode.{Mode}
 use Rattle.record.specs.Refusals.{fileMost}
 use Rattle.heading.specs.declared.Header.{Header}
-use Rattle.sheet.specs.Tables.{Tables, _then_, overOf, rowCount}
+use Rattle.sheet.specs.Tables.{Tables, overOf, rowCount, startsOf, movedOn, _followed_}
+use Rattle.sheet.proofs.StartLaws.{length-moved}
 use Rattle.sheet.specs.Reading.{sheet, reading, joined}
 use Rattle.sheet.proofs.Meaning.{reading-meaning}
 use Rattle.sheet.proofs.Join.{joining}
@@ -33,19 +34,19 @@ module _ (mode : Mode) (a b : List ℕ) (h g : Header) (o u : Tables) (d : readi
   used : usedOf (rowCount o) o ≡ o
   used = reading-made mode a h o (reading-meaning mode a h o d .1) .2
 
-  rows-joined : rowCount (o then u) ≡ rowCount o + rowCount u
+  rows-joined : rowCount (o followed u) ≡ rowCount o + rowCount u
   rows-joined =
       let x = reading-made mode a h o (reading-meaning mode a h o d .1) .3 in
       let y = reading-made mode b g u (reading-meaning mode b g u e .1) .3 in
-      omega (arith, x, y, length-append (o .rows) (u .rows))
+      omega (arith, x, y, length-append (o .rows) (movedOn (startsOf o) (u .rows)), length-moved (startsOf o) (u .rows))
 
   -- in maps of one kind and name
   pub joined-tallies : length (joined mode a b) ≤ fileMost → h .kind ≡ g .kind → h .name ≡ g .name → (s t : Tally) → tallyRead h o ≡ takenWith s None → tallyRead g u ≡ takenWith t None
       → isTally (plus (s .figures) (t .figures)) ≡ true
-      → (reading mode (joined mode a b) ≡ sheet h (o then u)) × (tallyRead h (o then u) ≡ takenWith (record { figures = plus (s .figures) (t .figures) }) None)
+      → (reading mode (joined mode a b) ≡ sheet h (o followed u)) × (tallyRead h (o followed u) ≡ takenWith (record { figures = plus (s .figures) (t .figures) }) None)
   joined-tallies l p q s t x y z =
       let sums = tallies-add h g (rowCount o) (rowCount u) o u s t p q x y z in
-      (joining mode a b h g o u d e l, ap₂ (λ (n : ℕ) (v : Tables). tallyOf h n (v then u)) rows-joined (sym used) ∙ sums)
+      (joining mode a b h g o u d e l, ap₂ (λ (n : ℕ) (v : Tables). tallyOf h n (v followed u)) rows-joined (sym used) ∙ sums)
 
 -- ---- the same of tables as the readings leave them, over any old contents
 
@@ -57,8 +58,8 @@ module _ (mode : Mode) (a b : List ℕ) (h g : Header) (o u x y z : Tables) (d :
   pub joined-tallies-over : length (joined mode a b) ≤ fileMost → h .kind ≡ g .kind → h .name ≡ g .name
       → (s t : Tally) → tallyOf h (rowCount o) (overOf o x) ≡ takenWith s None → tallyOf g (rowCount u) (overOf u y) ≡ takenWith t None
       → isTally (plus (s .figures) (t .figures)) ≡ true
-      → (reading mode (joined mode a b) ≡ sheet h (o then u))
-      × (tallyOf h (rowCount (o then u)) (overOf (o then u) z) ≡ takenWith (record { figures = plus (s .figures) (t .figures) }) None)
+      → (reading mode (joined mode a b) ≡ sheet h (o followed u))
+      × (tallyOf h (rowCount (o followed u)) (overOf (o followed u) z) ≡ takenWith (record { figures = plus (s .figures) (t .figures) }) None)
   joined-tallies-over l p q s t i j k =
       let r = joined-tallies mode a b h g o u d e l p q s t (sym (tally-over mode a h o x d) ∙ i) (sym (tally-over mode b g u y e) ∙ j) k in
-      (r .0, tally-over mode (joined mode a b) h (o then u) z (r .0) ∙ r .1)
+      (r .0, tally-over mode (joined mode a b) h (o followed u) z (r .0) ∙ r .1)

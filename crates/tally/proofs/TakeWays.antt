@@ -18,7 +18,7 @@ use Rattle.sheet.specs.Tables.{Tables}
 use Rattle.record.specs.declared.Mode.the-variants.{Loose}
 use Rattle.made.specs.declared.Verdict.{Verdict}
 use Rattle.made.specs.declared.Verdict.the-variants.{Fine, BadHeader, Faulty, Unlisted}
-use Rattle.made.specs.Made.{tablesOf, natOf, isMade, judgeRows, judgeOf}
+use Rattle.made.specs.Made.{tablesOf, natOf, isMade, noneBefore, judgeRows, judgeOf}
 use Rattle.made.proofs.RowWays.{made-held}
 use Rattle.row.specs.declared.Stand.{Stand}
 use Rattle.row.specs.declared.Sought.{Sought}
@@ -185,7 +185,7 @@ module _ (h : Header) (count : ℕ) (rows : List ℤ) (letters islands : List �
   unfolding tallyOf
   judged u f = rw (← e, f)
 
-  pub sheet-fine : v ≡ Fine → judgeRows Loose count 0 whole ≡ Fine
+  pub sheet-fine : v ≡ Fine → judgeRows Loose count noneBefore whole ≡ Fine
   sheet-fine f = fine-rows h count whole (sym e ∙ f)
 
   pub sheet-tallied : v ≡ Fine → (x : Taken) → x ≡ tallyRows h count 0 whole emptyTally → x ≡ tallyOf h count whole

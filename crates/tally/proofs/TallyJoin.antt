@@ -1,6 +1,6 @@
--- Tallies of joined maps add (document 01, "Areas"), and a tally counts each border once. Assumes nothing.
+-- Tallies of joined maps add (document 01, "Areas"; document 02, T-07: the second map's starts are moved on), and a tally counts each border once. Assumes nothing.
 use mathlib.Core.Path.{_≡_, refl, sym, ap, ap₂, _∙_}
-use mathlib.Core.List.{List, append-assoc}
+use mathlib.Core.List.{List}
 use mathlib.Core.Bool.{Bool, true, false, cond, _&&_}
 use Prim.Native.Nat.{ℕ, zero, suc, _+_}
 use native.Mathlib.Omega.{arith}
@@ -10,13 +10,14 @@ use Rattle.laws.proofs.Choice.{false≢true, and-left, and-right, and-both}
 use Rattle.record.specs.declared.Mode.the-variants.{Loose}
 use Rattle.heading.specs.declared.Header.{Header}
 use Rattle.heading.specs.Heading.{isHeader}
-use Rattle.sheet.specs.Tables.{Tables, _then_}
+use Rattle.sheet.specs.Tables.{Tables, _then_, Starts, startsOf, startingAt, _followed_}
 use Rattle.made.specs.declared.Verdict.{Verdict}
 use Rattle.made.specs.declared.Verdict.the-variants.{Fine, BadHeader, Faulty, Unlisted}
-use Rattle.made.specs.Made.{firstOf, restOf, isMade, isCoded, judgeRows, judgeOf, usedOf}
+use Rattle.made.specs.Made.{firstOf, restOf, isMade, Before, noneBefore, pastRow, judgeRows, judgeOf, usedOf}
 use Rattle.made.proofs.RowWays.{made-held}
-use Rattle.made.proofs.OwnLaws.{made-alike, first-own, rest-own}
+use Rattle.made.proofs.OwnLaws.{rest-own}
 use Rattle.made.proofs.UsedLaws.{fine-on}
+use Rattle.made.proofs.StartLaws.{then-assoc, rest-moved, fine-followed}
 use Rattle.row.proofs.SeekLaws.{fine-rows}
 use Rattle.border.specs.Borders.{borderOf}
 use Rattle.tally.specs.declared.Tally.{Tally}
@@ -27,47 +28,18 @@ use Rattle.tally.specs.Take.{takenWith, isNone, talliedAfter, tallyOf}
 use Rattle.tally.specs.Sums.{rowFigures, rowFits, rowsFigures, rowsFit}
 use Rattle.tally.proofs.TallyLaws.{plus-comm, plus-assoc, plus-none}
 use Rattle.tally.proofs.SumLaws.{rows-length, rows-grown, rows-taken}
-use Rattle.tally.proofs.OwnLaws.{figures-own, fits-own}
+use Rattle.tally.proofs.OwnLaws.{figures-own, fits-own, figures-moved, fits-moved}
 
 none-plus : (s : List ℤ) → length s ≡ 24 → plus noFigures s ≡ s
 none-plus s l = plus-comm noFigures s ∙ plus-none s 24 l
 
-then-assoc : (a b c : Tables) → a then b then c ≡ a then (b then c)
-then-assoc a b c = rw (append-assoc (a .rows) (b .rows) (c .rows), append-assoc (a .letters) (b .letters) (c .letters), append-assoc (a .islands) (b .islands) (c .islands), append-assoc (a .points) (b .points) (c .points))
-
--- a well made row's own part, before other rows
-made-own : (t u : Tables) → isMade t ≡ true → isMade (firstOf t then u) ≡ true
-made-own t u e = made-alike (firstOf t then u) t (first-own t u (made-held t e)) ∙ e
-
--- a well made row before rows that are
-fine-first : (n k : ℕ) (w : Tables) → isMade w ≡ true → judgeRows Loose n (k + 1) (restOf w) ≡ Fine → judgeRows Loose (suc n) k w ≡ Fine
-unfolding judgeRows isCoded
-fine-first n k w e f = rw e f
-
--- what is fine does not depend on the number of its first row
-fine-any : (n k j : ℕ) (t : Tables) → judgeRows Loose n k t ≡ Fine → judgeRows Loose n j t ≡ Fine
-unfolding judgeRows
-fine-any zero k j t e = refl
-fine-any (suc n) k j t e = let f = fine-on Loose n k t e in fine-first n j t (f .0) (fine-any n (k + 1) (j + 1) (restOf t) (f .1))
-
-pub fine-joined : (m : ℕ) (u : Tables) → judgeRows Loose m 0 u ≡ Fine → (n k : ℕ) (t : Tables) → judgeRows Loose n k t ≡ Fine → judgeRows Loose (n + m) k (usedOf n t then u) ≡ Fine
-unfolding usedOf
-fine-joined m u q zero k t e = let z : zero + m ≡ m = omega arith in ap (λ (j : ℕ). judgeRows Loose j k u) z ∙ fine-any m 0 k u q
-fine-joined m u q (suc n) k t e =
-    let f = fine-on Loose n k t e in
-    let v : Tables = usedOf n (restOf t) then u in
-    let z : suc n + m ≡ suc (n + m) = omega arith in
-    ap₂ (λ (j : ℕ) (w : Tables). judgeRows Loose j k w) z (then-assoc (firstOf t) (usedOf n (restOf t)) u)
-    ∙ fine-first (n + m) k (firstOf t then v) (made-own t v (f .0))
-    (ap (λ (w : Tables). judgeRows Loose (n + m) (k + 1) w) (rest-own t v (made-held t (f .0))) ∙ fine-joined m u q n (k + 1) (restOf t) (f .1))
-
 -- the header is judged by itself
-judge-joined : (h g : Header) (n m : ℕ) (t u : Tables) → judgeOf Loose h n t ≡ Fine → judgeOf Loose g m u ≡ Fine → judgeOf Loose h (n + m) (usedOf n t then u) ≡ Fine
+judge-joined : (h g : Header) (n m : ℕ) (t u : Tables) → judgeOf Loose h n t ≡ Fine → judgeOf Loose g m u ≡ Fine → judgeOf Loose h (n + m) (usedOf n t followed u) ≡ Fine
 unfolding judgeOf
 judge-joined h g n m t u e f = go (isHeader h) e
   where
-    go : (b : Bool) → cond b (judgeRows Loose n 0 t) BadHeader ≡ Fine → cond b (judgeRows Loose (n + m) 0 (usedOf n t then u)) BadHeader ≡ Fine
-    go true d = fine-joined m u (fine-rows g m u f) n 0 t d
+    go : (b : Bool) → cond b (judgeRows Loose n noneBefore t) BadHeader ≡ Fine → cond b (judgeRows Loose (n + m) noneBefore (usedOf n t followed u)) BadHeader ≡ Fine
+    go true d = fine-followed Loose n t d m u (fine-rows g m u f)
     go false d = absurd (let z : _≡_ {A = ℕ} 0 1 = cc in omega arith)
 
 -- one row before others
@@ -81,29 +53,45 @@ module _ (h : Header) (j : ℕ) (t v : Tables) (m : isMade t ≡ true) where
   fit-first = ap₂ (λ (x y : Bool). x && y) (fits-own h t v m) (ap (λ (w : Tables). rowsFit h j w) (rest-own t v (made-held t m)))
 
 module _ (h : Header) (m : ℕ) (u : Tables) where
-  pub figures-joined : (n k : ℕ) (t : Tables) → judgeRows Loose n k t ≡ Fine → rowsFigures h (n + m) (usedOf n t then u) ≡ plus (rowsFigures h n t) (rowsFigures h m u)
+  pub figures-joined : (n : ℕ) (b : Before) (t : Tables) → judgeRows Loose n b t ≡ Fine → rowsFigures h (n + m) (usedOf n t then u) ≡ plus (rowsFigures h n t) (rowsFigures h m u)
   unfolding usedOf rowsFigures
-  figures-joined zero k t e = let z : zero + m ≡ m = omega arith in ap (λ (j : ℕ). rowsFigures h j u) z ∙ sym (none-plus (rowsFigures h m u) (rows-length h m u))
-  figures-joined (suc n) k t e =
-      let f = fine-on Loose n k t e in
+  figures-joined zero b t e = let z : zero + m ≡ m = omega arith in ap (λ (j : ℕ). rowsFigures h j u) z ∙ sym (none-plus (rowsFigures h m u) (rows-length h m u))
+  figures-joined (suc n) b t e =
+      let f = fine-on Loose n b t e in
       let v : Tables = usedOf n (restOf t) then u in
       let z : suc n + m ≡ suc (n + m) = omega arith in
       ap₂ (λ (j : ℕ) (w : Tables). rowsFigures h j w) z (then-assoc (firstOf t) (usedOf n (restOf t)) u)
       ∙ figures-first h (n + m) t v (f .0)
-      ∙ ap (λ (s : List ℤ). plus (rowFigures h t) s) (figures-joined n (k + 1) (restOf t) (f .1))
+      ∙ ap (λ (s : List ℤ). plus (rowFigures h t) s) (figures-joined n (pastRow b t) (restOf t) (f .1))
       ∙ sym (plus-assoc (rowFigures h t) (rowsFigures h n (restOf t)) (rowsFigures h m u))
 
-  pub fit-joined : (n k : ℕ) (t : Tables) → judgeRows Loose n k t ≡ Fine → rowsFit h n t ≡ true → rowsFit h m u ≡ true → rowsFit h (n + m) (usedOf n t then u) ≡ true
+  pub fit-joined : (n : ℕ) (b : Before) (t : Tables) → judgeRows Loose n b t ≡ Fine → rowsFit h n t ≡ true → rowsFit h m u ≡ true → rowsFit h (n + m) (usedOf n t then u) ≡ true
   unfolding usedOf rowsFit
-  fit-joined zero k t e p q = let z : zero + m ≡ m = omega arith in ap (λ (j : ℕ). rowsFit h j u) z ∙ q
-  fit-joined (suc n) k t e p q =
-      let f = fine-on Loose n k t e in
+  fit-joined zero b t e p q = let z : zero + m ≡ m = omega arith in ap (λ (j : ℕ). rowsFit h j u) z ∙ q
+  fit-joined (suc n) b t e p q =
+      let f = fine-on Loose n b t e in
       let v : Tables = usedOf n (restOf t) then u in
       let z : suc n + m ≡ suc (n + m) = omega arith in
       ap₂ (λ (j : ℕ) (w : Tables). rowsFit h j w) z (then-assoc (firstOf t) (usedOf n (restOf t)) u)
       ∙ fit-first h (n + m) t v (f .0)
       ∙ and-both (rowFits h t) (rowsFit h (n + m) v) (and-left (rowFits h t) (rowsFit h n (restOf t)) p)
-      (fit-joined n (k + 1) (restOf t) (f .1) (and-right (rowFits h t) (rowsFit h n (restOf t)) p) q)
+      (fit-joined n (pastRow b t) (restOf t) (f .1) (and-right (rowFits h t) (rowsFit h n (restOf t)) p) q)
+
+-- ---- nor do they depend on the starts
+
+rows-moved : (h : Header) (s : Starts) (n : ℕ) (b : Before) (t : Tables) → judgeRows Loose n b t ≡ Fine → rowsFigures h n (startingAt s t) ≡ rowsFigures h n t
+unfolding rowsFigures
+rows-moved h s zero b t e = refl
+rows-moved h s (suc n) b t e =
+    let f = fine-on Loose n b t e in
+    ap₂ (λ (x y : List ℤ). plus x y) (figures-moved h s t (f .0)) (ap (rowsFigures h n) (rest-moved s t) ∙ rows-moved h s n (pastRow b t) (restOf t) (f .1))
+
+fit-moved : (h : Header) (s : Starts) (n : ℕ) (b : Before) (t : Tables) → judgeRows Loose n b t ≡ Fine → rowsFit h n (startingAt s t) ≡ rowsFit h n t
+unfolding rowsFit
+fit-moved h s zero b t e = refl
+fit-moved h s (suc n) b t e =
+    let f = fine-on Loose n b t e in
+    ap₂ (λ (x y : Bool). x && y) (fits-moved h s t (f .0)) (ap (rowsFit h n) (rest-moved s t) ∙ fit-moved h s n (pastRow b t) (restOf t) (f .1))
 
 -- ---- the class depends on the header's kind and name alone
 
@@ -159,15 +147,18 @@ tally-is h n t e f g =
 
 -- ---- tallies add
 
--- the used rows of one sheet and then another, in headers of one kind and name: their tallies together, where every figure keeps the limit
+-- the used rows of one sheet followed by another, in headers of one kind and name: their tallies together, where every figure keeps the limit
 module _ (h g : Header) (n m : ℕ) (t u : Tables) (a b : Tally) (p : h .kind ≡ g .kind) (q : h .name ≡ g .name) where
   pub tallies-add : tallyOf h n t ≡ takenWith a None → tallyOf g m u ≡ takenWith b None
-      → isTally (plus (a .figures) (b .figures)) ≡ true → tallyOf h (n + m) (usedOf n t then u) ≡ takenWith (record { figures = plus (a .figures) (b .figures) }) None
+      → isTally (plus (a .figures) (b .figures)) ≡ true → tallyOf h (n + m) (usedOf n t followed u) ≡ takenWith (record { figures = plus (a .figures) (b .figures) }) None
   tallies-add d f l =
       let x = tallied h n t a d in
       let y = tallied g m u b f in
       let j = fine-rows h n t (x .fine) in
-      let z : rowsFigures h (n + m) (usedOf n t then u) ≡ plus (a .figures) (b .figures)
-      = figures-joined h m u n 0 t j ∙ ap₂ (λ (r s : List ℤ). plus r s) (sym (x .is)) (rows-header h g p q m u ∙ sym (y .is)) in
-      tally-is h (n + m) (usedOf n t then u) (judge-joined h g n m t u (x .fine) (y .fine)) (fit-joined h m u n 0 t j (x .fit) (fit-header h g p q m u ∙ y .fit)) (ap isTally z ∙ l)
-      ∙ ap (λ (s : List ℤ). takenWith (record { figures = s }) None) z
+      let k = fine-rows g m u (y .fine) in
+      let s = startsOf (usedOf n t) in
+      let z : rowsFigures h (n + m) (usedOf n t followed u) ≡ plus (a .figures) (b .figures)
+      = figures-joined h m (startingAt s u) n noneBefore t j ∙ ap₂ (λ (r v : List ℤ). plus r v) (sym (x .is)) (rows-moved h s m noneBefore u k ∙ rows-header h g p q m u ∙ sym (y .is)) in
+      tally-is h (n + m) (usedOf n t followed u) (judge-joined h g n m t u (x .fine) (y .fine))
+      (fit-joined h m (startingAt s u) n noneBefore t j (x .fit) (fit-moved h s m noneBefore u k ∙ fit-header h g p q m u ∙ y .fit)) (ap isTally z ∙ l)
+      ∙ ap (λ (v : List ℤ). takenWith (record { figures = v }) None) z

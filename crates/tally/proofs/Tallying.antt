@@ -11,7 +11,7 @@ use Rattle.record.specs.declared.Mode.the-variants.{Loose}
 use Rattle.heading.specs.declared.Header.{Header}
 use Rattle.sheet.specs.Tables.{Tables}
 use Rattle.made.specs.declared.Verdict.the-variants.{Fine}
-use Rattle.made.specs.Made.{restOf, judgeRows}
+use Rattle.made.specs.Made.{restOf, noneBefore, judgeRows}
 use Rattle.row.specs.declared.Stand.{Stand}
 use Rattle.row.specs.Walk.{firstStand, nextStand, leftAt}
 use Rattle.row.proofs.Walk.{Walk, walk-start, walk-on, one-more, left-next}
@@ -31,7 +31,7 @@ pub none-good : Good noFigures
 unfolding isTally isFigure
 none-good = record { each = refl; count = refl }
 
-pub tallying-start : (h : Header) (t : Tables) (count : ℕ) → judgeRows Loose count 0 t ≡ Fine → Tallying h t count noFigures firstStand 0
+pub tallying-start : (h : Header) (t : Tables) (count : ℕ) → judgeRows Loose count noneBefore t ≡ Fine → Tallying h t count noFigures firstStand 0
 tallying-start h t count f = record { walk = walk-start Loose t count f; rest = rw (sub-zero count); good = none-good }
 
 module _ {h : Header} {t : Tables} {count : ℕ} {s : List ℤ} {d : Stand} {k : ℕ} (w : Tallying h t count s d k) where

@@ -8,8 +8,8 @@ use Rattle.heading.specs.declared.Header.{Header}
 use Rattle.sheet.specs.Tables.{Tables}
 use Rattle.made.specs.declared.Verdict.{Verdict}
 use Rattle.made.specs.declared.Verdict.the-variants.{Fine, BadHeader, Faulty, Unlisted}
-use Rattle.made.specs.Made.{restOf, judgeRows, judgeOf, usedOf}
-use Rattle.made.proofs.OwnLaws.{cell-first, Own, own-alike}
+use Rattle.made.specs.Made.{restOf, Before, noneBefore, pastRow, judgeRows, judgeOf, usedOf}
+use Rattle.made.proofs.OwnLaws.{cell-own, Own, first-alike}
 use Rattle.made.proofs.UsedLaws.{first-used, rest-used, judge-used, fine-on}
 use Rattle.row.specs.declared.Sought.{Sought}
 use Rattle.row.specs.Walk.{standOf, leftAt}
@@ -18,19 +18,19 @@ use Rattle.row.proofs.UsedLaws.{Question, asked-used}
 use Rattle.tally.specs.declared.Tally.{Tally}
 use Rattle.tally.specs.Tally.{emptyTally}
 use Rattle.tally.specs.Take.{rowTaken, frontTaken, takenAt, takenOf, tallyRows, talliedAfter, tallyOf}
-use Rattle.tally.proofs.OwnLaws.{border-taken-first, row-taken-first}
+use Rattle.tally.proofs.OwnLaws.{border-taken-owned, row-taken-owned}
 
 -- ---- the tally of a sheet
 
-rows-used : (h : Header) (n k : ℕ) (t : Tables) (a : Tally) → judgeRows Loose n k t ≡ Fine → tallyRows h n k (usedOf n t) a ≡ tallyRows h n k t a
+rows-used : (h : Header) (n k : ℕ) (b : Before) (t : Tables) (a : Tally) → judgeRows Loose n b t ≡ Fine → tallyRows h n k (usedOf n t) a ≡ tallyRows h n k t a
 unfolding tallyRows
-rows-used h zero k t a e = refl
-rows-used h (suc n) k t a e =
-    let f = fine-on Loose n k t e in
+rows-used h zero k b t a e = refl
+rows-used h (suc n) k b t a e =
+    let f = fine-on Loose n b t e in
     rw (
-      own-alike (λ (x : Tables). rowTaken h k x a) (row-taken-first h k a) (usedOf (suc n) t) t (first-used n t) (f .0),
+      first-alike (λ (x : Tables). rowTaken h k x a) (row-taken-owned h k a) (usedOf (suc n) t) t (first-used n t) (f .0),
       rest-used n t,
-      rows-used h n (k + 1) (restOf t) (rowTaken h k t a .tally) (f .1),
+      rows-used h n (k + 1) (pastRow b t) (restOf t) (rowTaken h k t a .tally) (f .1),
     )
 
 -- **what stands behind the used part never matters**, of any tables
@@ -39,7 +39,7 @@ unfolding tallyOf
 tally-used h n t = ap (talliedAfter h n (usedOf n t)) (judge-used Loose h n t) ∙ by (judgeOf Loose h n t) refl
   where
     by : (v : Verdict) → judgeOf Loose h n t ≡ v → talliedAfter h n (usedOf n t) v ≡ talliedAfter h n t v
-    by Fine e = rows-used h n 0 t emptyTally (fine-rows h n t e)
+    by Fine e = rows-used h n 0 noneBefore t emptyTally (fine-rows h n t e)
     by BadHeader e = refl
     by (Faulty k) e = refl
     by (Unlisted k) e = refl
@@ -47,11 +47,11 @@ tally-used h n t = ap (talliedAfter h n (usedOf n t)) (judge-used Loose h n t) �
 -- ---- a running tally takes a row
 
 module _ (h : Header) (k : ℕ) (a : Tally) where
-  front-first : Own (λ (t : Tables). frontTaken h k t a)
-  front-first t m = rw (border-taken-first h k a t m, cell-first t 0 (omega arith))
+  front-owned : Own (λ (t : Tables). frontTaken h k t a)
+  front-owned t m = rw (border-taken-owned h k a t m, cell-own t 0 (omega arith))
 
   takings : Question (λ (x : Tables) (s : Sought). takenAt h x k a s)
-  takings = record { own = λ t j m. sym (front-first (leftAt t (standOf j (t .rows))) m); missing = λ t u. refl; refused = λ t u v. refl }
+  takings = record { own = λ t j m. sym (front-owned (leftAt t (standOf j (t .rows))) m); missing = λ t u. refl; refused = λ t u v. refl }
 
 pub taken-used : (a : Tally) (h : Header) (n : ℕ) (t : Tables) (k : ℕ) → takenOf a h n (usedOf n t) k ≡ takenOf a h n t k
 unfolding takenOf

@@ -1,4 +1,4 @@
--- Tallies of small sheets, and tallies near the limit, computed: document 01, "Areas". Assumes nothing.
+-- Tallies of small sheets, and tallies near the limit, computed: document 01, "Areas"; document 02, T-07. Assumes nothing.
 use Prim.Native.Nat.{ℕ}
 use mathlib.Core.Path.{_≡_, refl}
 use mathlib.Core.List.{List, [], _∷_, _++_}
@@ -10,7 +10,7 @@ use Rattle.heading.specs.declared.Header.{Header}
 use Rattle.sheet.specs.Tables.{Tables}
 use Rattle.made.specs.declared.Verdict.the-variants as Verdict
 use Rattle.made.specs.Made.{tablesOf}
-use Rattle.made.specs.Examples.{header, label, border}
+use Rattle.made.specs.Examples.{header, atFirst, placed, label, border}
 use Rattle.row.specs.Examples.{computed as computedSought}
 use Rattle.area.specs.Examples.{computed as computedAreas}
 use Rattle.classes.specs.declared.Class.the-variants.{Parcel}
@@ -84,7 +84,7 @@ abbrev ring : ℕ → List ℤ
 ring side = pos 0 ∷ pos 0 ∷ pos side ∷ pos 0 ∷ pos side ∷ pos side ∷ pos 0 ∷ pos 0 ∷ []
 
 abbrev sheet : ℕ → ℕ → Tables
-sheet first second = tablesOf (label ++ border 0 1 8 ++ border 0 1 8) (text "777") (4 ∷ 4 ∷ []) (ring first ++ ring 2 ++ ring second ++ ring 3)
+sheet first second = tablesOf (label ++ placed 1 0 0 (border 0 1 8) ++ placed 2 1 8 (border 0 1 8)) (text "777") (4 ∷ 4 ∷ []) (ring first ++ ring 2 ++ ring second ++ ring 3)
 
 taken : Tally → ℕ → ℕ → ℕ → Taken
 unfolding computed
@@ -126,17 +126,17 @@ whole = (refl, refl, refl)
 
 -- a border of so many letters, without islands
 abbrev lettered : ℕ → List ℤ
-lettered letters = pos 1 ∷ pos 0 ∷ pos 0 ∷ pos 18 ∷ pos 0 ∷ pos 1 ∷ pos 1 ∷ pos 1 ∷ pos 1 ∷ pos letters ∷ pos 0 ∷ pos 4 ∷ []
+lettered letters = pos 1 ∷ pos 0 ∷ pos 0 ∷ pos 18 ∷ pos 0 ∷ pos 1 ∷ pos 1 ∷ pos 1 ∷ pos 1 ∷ pos letters ∷ pos 0 ∷ pos 4 ∷ atFirst
 
 -- each border in the place of its class: a CONFINE has the first four figures, a building the fifth four
-classed : tallyOf (header 1) 2 (tablesOf (lettered 11 ++ lettered 2) (text "Z999_0001007+") [] (ring 10 ++ ring 7))
+classed : tallyOf (header 1) 2 (tablesOf (lettered 11 ++ placed 11 0 4 (lettered 2)) (text "Z999_0001007+") [] (ring 10 ++ ring 7))
     ≡ takenWith (tallyOn (pos 1 ∷ pos 100 ∷ pos 0 ∷ pos 0 ∷ replicate 12 (pos 0) ++ pos 1 ∷ pos 49 ∷ replicate 6 (pos 0))) None
 unfolding computed
 classed = refl
 
 -- T-02: `12345678901` and `1234567890+` are a parcel and a building in kind 1, both OTHER in kind 3
 abbrev eleven : Tables
-eleven = tablesOf (lettered 11 ++ lettered 11) (text "123456789011234567890+") [] (ring 10 ++ ring 7)
+eleven = tablesOf (lettered 11 ++ placed 11 0 4 (lettered 11)) (text "123456789011234567890+") [] (ring 10 ++ ring 7)
 
 eleven-letters : (tallyOf (header 1) 2 eleven ≡ takenWith (tallyOn (replicate 16 (pos 0) ++ pos 1 ∷ pos 49 ∷ pos 0 ∷ pos 0 ∷ pos 1 ∷ pos 100 ∷ pos 0 ∷ pos 0 ∷ [])) None)
     × (tallyOf (record { kind = 3; name = text "Z999_0001QU"; scale = pos 1000 }) 2 eleven ≡ takenWith (tallyOn (replicate 4 (pos 0) ++ pos 2 ∷ pos 149 ∷ replicate 18 (pos 0))) None)
@@ -148,6 +148,11 @@ whole-refused : (tallyOf (header 1) 3 (sheet 10 20000001) ≡ takenWith emptyTal
     × (tallyOf (header 4) 3 (sheet 10 7) ≡ takenWith emptyTally (Sheet Verdict.BadHeader))
 unfolding computed
 whole-refused = (refl, refl, refl)
+
+-- a false start is 15 at its row (T-07), before a 17 in a row before it
+false-start : tallyOf (header 1) 2 (tablesOf (lettered 1 ++ placed 1 0 3 (lettered 1)) (text "77") [] (ring 20000001 ++ ring 7)) ≡ takenWith emptyTally (Sheet (Verdict.Faulty 1))
+unfolding computed
+false-start = refl
 
 -- rows in order, from a tally near the limit: an 18 at row 1 comes before a 17 at row 2, and a 17 at row 1 before an 18 there
 in-order : (tallyRows (header 1) 3 0 (sheet 10 20000001) (parcels (pos 5) (pos limit) (pos 3) (pos 2)) ≡ takenWith emptyTally (Full 1))

@@ -5,7 +5,7 @@ ghost use mathlib.Core.Bool.{true};
 ghost use lib.ListN.{length};
 ghost use Rattle.record.specs.declared.Mode.the-variants.{Loose};
 ghost use Rattle.made.specs.declared.Verdict.the-variants.{Fine};
-ghost use Rattle.made.specs.Made.{tablesOf, isMade, judgeRows};
+ghost use Rattle.made.specs.Made.{tablesOf, isMade, noneBefore, judgeRows};
 ghost use Rattle.row.specs.Walk.{leftAt, Stands};
 ghost use Rattle.tally.specs.Tally.{emptyTally, isFigure, isTally, isFit, areFit, Good, tallyOn, addOf};
 ghost use Rattle.tally.specs.Take.{Took, borderTaken, rowTaken, frontTaken, takenOf, isNone, tallyRows, tallyOf, refusedOf};
@@ -333,7 +333,7 @@ fn tally_rows(
     islands: &[u16],
     points: &[i64],
 ) -> Taken
-    requires { ⌜ judgeRows Loose count 0 (tablesOf (now rows) (now letters) (now islands) (now points)) ≡ Fine ⌝ }
+    requires { ⌜ judgeRows Loose count noneBefore (tablesOf (now rows) (now letters) (now islands) (now points)) ≡ Fine ⌝ }
     ensures { λ r. ⌜ r ≡ tallyRows header count 0 (tablesOf (now (rows .entry)) (now (letters .entry)) (now (islands .entry)) (now (points .entry))) emptyTally ⌝ }
 {
     let mut figures = [0i64; 24];

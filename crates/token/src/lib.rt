@@ -35,7 +35,7 @@ pub enum Want {
 }
 
 // How many kinds there are.
-const KINDS: usize = 7;
+pub const KINDS: usize = 7;
 
 const LIFT_BY: usize = 10_000_000_000;
 

@@ -13,7 +13,8 @@ use Rattle.laws.specs.Whole.{eqZ}
 use Rattle.laws.proofs.Choice.{and-left, and-right, false≢true}
 use Rattle.laws.proofs.ListLaws.{below-at, all-each, left-none}
 use Rattle.token.specs.Lex.{kindMost, mayLieOutside}
-use Rattle.kinds.specs.Kinds.{schedule, fixed, fixedVertices, unsaid, wantAt}
+use Rattle.kinds.specs.Kinds.{rowWidth, ownWidth, schedule, unsaid, wantAt}
+use Rattle.kinds.proofs.KindLaws.{fixed-few}
 use Rattle.sheet.specs.Tables.{Tables}
 use Rattle.made.specs.Made.{natOf, countAt, kindOf, islandsOf, pointsOf, isBetween, inRange, hasField, isOutside, isCell, cellTest, areNumbers, areLetters, sum, fourAtLeast, areCounts, areReals, areClosed, ringSizes, arePoints, isMade}
 use Rattle.row.specs.Walk.{cellIn}
@@ -49,7 +50,7 @@ holds-at (q ∷ s) (suc j) h = go (eqb (getD s j 0) q) (holds-at s j (omega arit
     go true k = refl
     go false k = k
 
-in-row : (p : ℕ) → inRow p ≡ true → (2 ≤ p) × (p < 12)
+in-row : (p : ℕ) → inRow p ≡ true → (2 ≤ p) × (p < ownWidth)
 unfolding inRow
 in-row p e = (leb-true 2 p (and-left (leb 2 p) (leb p 11) e), omega (arith, leb-true p 11 (and-right (leb 2 p) (leb p 11) e)))
 
@@ -66,7 +67,7 @@ module _ (kind : ℕ) (h : kind ≤ kindMost) where
   places-few = leb-true (length places) 9 (and-right (all inRow places) (leb (length places) 9) (below-at (kindMost + 1) placed kind all-placed (omega arith)))
 
   -- a field stands behind kind and outside
-  pub field-place : (p : ℕ) → hasField kind p ≡ true → (2 ≤ p) × (p < 12)
+  pub field-place : (p : ℕ) → hasField kind p ≡ true → (2 ≤ p) × (p < ownWidth)
   unfolding hasField
   field-place p e = in-row p (holds-each inRow places p places-in e)
 
@@ -128,27 +129,19 @@ module _ (kind p : ℕ) (z : ℤ) (e : isCell kind p z ≡ true) (h : 2 ≤ p) w
       go true f = k (cell-in f)
       go false f = omega (arith, cell-none f, u)
 
--- vertices that no record counts are few
-isFew : ℕ → Bool
-isFew kind = leb (fixedVertices kind) 9999
-
-fixed-few : (kind : ℕ) → kind ≤ kindMost → fixedVertices kind ≤ 9999
-unfolding isFew below fixedVertices fixed
-fixed-few kind h = leb-true (fixedVertices kind) 9999 (below-at (kindMost + 1) isFew kind refl (omega arith))
-
 -- ---- the numbers of a row
 
 module _ (rows : List ℤ) (e : areNumbers rows ≡ true) where
   abbrev cell : ℕ → ℤ
   cell p = getD rows p (pos 0)
 
-  pub row-held : 12 ≤ length rows
+  pub row-held : ownWidth ≤ length rows
   unfolding areNumbers
-  row-held = leb-true 12 (length rows) (and-left (leb 12 (length rows)) (below 12 (cellTest rows)) e)
+  row-held = let h = leb-true rowWidth (length rows) (and-left (leb rowWidth (length rows)) (below ownWidth (cellTest rows)) e) in omega arith
 
-  cells : (p : ℕ) → p < 12 → isCell (cellIn rows 0) p (cell p) ≡ true
+  cells : (p : ℕ) → p < ownWidth → isCell (cellIn rows 0) p (cell p) ≡ true
   unfolding areNumbers
-  cells p h = below-at 12 (cellTest rows) p (and-right (leb 12 (length rows)) (below 12 (cellTest rows)) e) h
+  cells p h = below-at ownWidth (cellTest rows) p (and-right (leb rowWidth (length rows)) (below ownWidth (cellTest rows)) e) h
 
   pub kind-in : (1 ≤ cellIn rows 0) × (cellIn rows 0 ≤ kindMost)
   unfolding isCell
@@ -168,7 +161,7 @@ module _ (rows : List ℤ) (e : areNumbers rows ≡ true) where
 
   pub vertices-in : cellIn rows 11 ≤ 9999
   unfolding wantAt inRange unsaid
-  vertices-in = cell-most (cellIn rows 0) 11 (cell 11) (cells 11 (omega arith)) (omega arith) 9999 (fixed-few (cellIn rows 0) (kind-in .1)) (λ f. between 0 9999 (cell 11) f .1)
+  vertices-in = cell-most (cellIn rows 0) 11 (cell 11) (cells 11 (omega arith)) (omega arith) 9999 (fixed-few (cellIn rows 0)) (λ f. between 0 9999 (cell 11) f .1)
 
   pub field-in : (p : ℕ) → hasField (cellIn rows 0) p ≡ true → inRange (wantAt p) (cell p) ≡ true
   field-in p f =

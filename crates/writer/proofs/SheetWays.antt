@@ -17,7 +17,7 @@ use Rattle.heading.specs.Heading.{isHeader}
 use Rattle.sheet.specs.Tables.{Tables}
 use Rattle.made.specs.declared.Verdict.{Verdict}
 use Rattle.made.specs.declared.Verdict.the-variants.{Fine, BadHeader}
-use Rattle.made.specs.Made.{judgeRows, judgeOf}
+use Rattle.made.specs.Made.{noneBefore, judgeRows, judgeOf}
 use Rattle.writer.specs.declared.Written.the-variants.{Wrote, TooLong, NoRoom}
 use Rattle.layout.specs.Sheet.{line, rowsText, headerText, sheetText}
 use Rattle.writer.specs.Write.{writtenAfter, writeOf}
@@ -25,9 +25,9 @@ use Rattle.writer.specs.Put.{Put}
 use Rattle.writer.proofs.Putting.{Putting, putting-start, putting-room, putting-on, putting-last}
 
 module _ (h : Header) (count : ℕ) (t : Tables) where
-  pub judged-is : judgeOf Exact h count t ≡ Fine → (isHeader h ≡ true) × (judgeRows Exact count 0 t ≡ Fine)
+  pub judged-is : judgeOf Exact h count t ≡ Fine → (isHeader h ≡ true) × (judgeRows Exact count noneBefore t ≡ Fine)
   unfolding judgeOf
-  judged-is e = cond-first (isHeader h) (judgeRows Exact count 0 t) BadHeader Fine (λ z. let y : _≡_ {A = ℕ} 0 1 = cc in omega arith) e
+  judged-is e = cond-first (isHeader h) (judgeRows Exact count noneBefore t) BadHeader Fine (λ z. let y : _≡_ {A = ℕ} 0 1 = cc in omega arith) e
 
   -- the answer is the verdict's that the code found
   pub written-by : {v w : Verdict} → v ≡ judgeOf Exact h count t → v ≡ w → (room : ℕ) → writtenAfter w (length (sheetText h count t)) room ≡ writeOf h count t room

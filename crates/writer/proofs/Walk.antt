@@ -11,7 +11,7 @@ use Rattle.record.specs.declared.Mode.the-variants.{Exact}
 use Rattle.record.specs.Refusals.{fileMost}
 use Rattle.sheet.specs.Tables.{Tables}
 use Rattle.made.specs.declared.Verdict.the-variants.{Fine}
-use Rattle.made.specs.Made.{areNumbers, judgeRows}
+use Rattle.made.specs.Made.{areNumbers, noneBefore, judgeRows}
 use Rattle.row.specs.declared.Stand.{Stand}
 use Rattle.layout.specs.Sheet.{rowText, rowsText}
 use Rattle.row.specs.Walk.{leftAt, nextStand}
@@ -43,7 +43,7 @@ pub record Measured (t : Tables) (count start : ℕ) (d : Stand) (total k : ℕ)
   pub small : total ≤ fileMost
   pub sum : start + length (rowsText count t) ≡ total + length (rowsText (count - k) (leftAt t d))
 
-pub measured-start : (t : Tables) (count start : ℕ) → start ≤ fileMost → judgeRows Exact count 0 t ≡ Fine → Measured t count start firstStand start 0
+pub measured-start : (t : Tables) (count start : ℕ) → start ≤ fileMost → judgeRows Exact count noneBefore t ≡ Fine → Measured t count start firstStand start 0
 measured-start t count start h e = record { walk = walk-start Exact t count e; small = h; sum = rw (sub-zero count) }
 
 module _ {t : Tables} {count start : ℕ} {d : Stand} {total k : ℕ} (m : Measured t count start d total k) where
@@ -77,7 +77,7 @@ pub record Writing (t : Tables) (count : ℕ) (l : List ℕ) (at : ℕ) (d : Sta
   pub walk : Walk Exact t count d k
   pub puts : Putting l at (rowsText count t) out next (rowsText (count - k) (leftAt t d))
 
-pub writing-start : (t : Tables) (count : ℕ) (l : List ℕ) (at : ℕ) → judgeRows Exact count 0 t ≡ Fine → at + length (rowsText count t) ≤ length l
+pub writing-start : (t : Tables) (count : ℕ) (l : List ℕ) (at : ℕ) → judgeRows Exact count noneBefore t ≡ Fine → at + length (rowsText count t) ≤ length l
     → Writing t count l at firstStand l at 0
 writing-start t count l at e h = record { walk = walk-start Exact t count e; puts = rw (sub-zero count) (putting-start l at (rowsText count t) h) }
 

@@ -20,7 +20,7 @@ use Rattle.sheet.specs.Reading.{sheet, meaning, reading}
 use Rattle.sheet.proofs.Meaning.{reading-meaning}
 use Rattle.sheet.proofs.Exact.{exact-loose}
 use Rattle.made.specs.declared.Verdict.the-variants.{Fine, BadHeader}
-use Rattle.made.specs.Made.{judgeRows, judgeOf, usedOf}
+use Rattle.made.specs.Made.{noneBefore, judgeRows, judgeOf, usedOf}
 use Rattle.made.proofs.UsedLaws.{behindOf, used-front, used-behind, judge-used, Long, fine-long}
 use Rattle.layout.specs.Sheet.{sheetText}
 use Rattle.writer.specs.Write.{writeOf, outputOf, numberOf}
@@ -33,7 +33,7 @@ use Rattle.layout.proofs.UsedLaws.{text-used, read-used}
 
 -- ---- every reading's result is well made
 
-judged-fine : (mode : Mode) (h : Header) (count : ℕ) (t : Tables) → isHeader h ≡ true → judgeRows mode count 0 t ≡ Fine → judgeOf mode h count t ≡ Fine
+judged-fine : (mode : Mode) (h : Header) (count : ℕ) (t : Tables) → isHeader h ≡ true → judgeRows mode count noneBefore t ≡ Fine → judgeOf mode h count t ≡ Fine
 unfolding judgeOf
 judged-fine mode h count t e q = rw e q
 
@@ -54,13 +54,13 @@ pub record CouldCome (mode : Mode) (h : Header) (count : ℕ) (t : Tables) : Typ
   pub counted : rowCount elements ≡ count
 
 module _ (mode : Mode) (h : Header) (count : ℕ) (t : Tables) where
-  rows-fine : judgeOf mode h count t ≡ Fine → judgeRows mode count 0 t ≡ Fine
+  rows-fine : judgeOf mode h count t ≡ Fine → judgeRows mode count noneBefore t ≡ Fine
   unfolding judgeOf
-  rows-fine e = cond-first (isHeader h) (judgeRows mode count 0 t) BadHeader Fine (λ z. let y : _≡_ {A = ℕ} 0 1 = cc in omega arith) e .1
+  rows-fine e = cond-first (isHeader h) (judgeRows mode count noneBefore t) BadHeader Fine (λ z. let y : _≡_ {A = ℕ} 0 1 = cc in omega arith) e .1
 
   -- every table of a well made sheet is long enough
   pub made-long : judgeOf mode h count t ≡ Fine → Long count t
-  made-long e = fine-long mode count 0 t (rows-fine e)
+  made-long e = fine-long mode count noneBefore t (rows-fine e)
 
   -- **well made, exactly**, one way: in either mode (in exact mode with listed codes)
   pub made-comes : judgeOf mode h count t ≡ Fine → CouldCome mode h count t

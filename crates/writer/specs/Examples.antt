@@ -1,4 +1,4 @@
--- What the writer answers for small sheets, computed: document 01, "Refusal numbers". Assumes nothing.
+-- What the writer answers for small sheets, computed: document 01, "Refusal numbers"; document 02, T-07. Assumes nothing.
 use Prim.Native.Nat.{ℕ}
 use mathlib.Core.Path.{_≡_, refl}
 use mathlib.Core.List.{[], _∷_, _++_}
@@ -8,7 +8,7 @@ use Rattle.heading.specs.declared.Header.{Header}
 use Rattle.sheet.specs.Tables.{Tables}
 use Rattle.made.specs.declared.Verdict.the-variants.{Fine, BadHeader, Faulty, Unlisted}
 use Rattle.made.specs.Made.{tablesOf}
-use Rattle.made.specs.Examples.{header, label, symbol, odd, border, raster, book, ring, computed as computedVerdict}
+use Rattle.made.specs.Examples.{header, placed, label, symbol, odd, border, raster, book, ring, computed as computedVerdict}
 use Rattle.layout.specs.Sheet.{rowText}
 use Rattle.layout.specs.Examples.{computed as computedText}
 use Rattle.writer.specs.declared.Written.{Written}
@@ -30,7 +30,7 @@ unfolding computed
 room = (refl, refl, refl)
 
 -- two rows, each with its own letters and points
-two-rows : writeOf (header 1) 2 (tablesOf (border 0 0 4 ++ label) (text "77") [] (ring 0)) 308 ≡ Wrote 308
+two-rows : writeOf (header 1) 2 (tablesOf (border 0 0 4 ++ placed 1 0 4 label) (text "77") [] (ring 0)) 308 ≡ Wrote 308
 unfolding computed
 two-rows = refl
 
@@ -44,6 +44,12 @@ refused = (refl, refl, refl, refl)
 order : (writeOf (header 1) 1 (tablesOf (odd 0 12 18 0) [] [] []) 999 ≡ Refused (Faulty 0)) × (writeOf (header 1) 2 (tablesOf (symbol 12 ++ odd 0 5 18 0) [] [] []) 999 ≡ Refused (Unlisted 0))
 unfolding computed
 order = (refl, refl)
+
+-- a false start is 15 (T-07), before 10 and before the room
+false-start : (writeOf (header 1) 2 (tablesOf (border 0 0 4 ++ placed 1 0 5 label) (text "77") [] (ring 0)) 308 ≡ Refused (Faulty 1))
+    × (writeOf (header 1) 1 (tablesOf (placed 0 1 0 (symbol 12)) [] [] []) 0 ≡ Refused (Faulty 0))
+unfolding computed
+false-start = (refl, refl)
 
 -- a file of the most bytes is written, one byte more is 1, which comes before 14 and behind 15 and 10
 longest : (writtenAfter Fine 16777216 16777216 ≡ Wrote 16777216) × (writtenAfter Fine 16777216 16777215 ≡ NoRoom 16777216) × (writtenAfter Fine 16777217 16777217 ≡ TooLong)

@@ -16,7 +16,7 @@ ghost use Rattle.kinds.specs.Kinds.{schedule, lettersPlace, wantAt};
 ghost use Rattle.header.specs.Header.{firstWords};
 ghost use Rattle.heading.specs.Heading.{isHeader};
 ghost use Rattle.made.specs.declared.Verdict.the-variants.{Fine};
-ghost use Rattle.made.specs.Made.{tablesOf, hasField, areNumbers, sum, areReals, isMade, judgeRows, judgeOf};
+ghost use Rattle.made.specs.Made.{tablesOf, hasField, areNumbers, sum, areReals, isMade, noneBefore, judgeRows, judgeOf};
 ghost use Rattle.layout.specs.Sheet.{line, fieldText, fieldsText, integersText, realsText, rowText, rowsText, headerText, sheetText};
 ghost use Rattle.writer.specs.Write.{writtenAfter, writeOf, outputOf};
 ghost use Rattle.row.specs.Walk.{cellIn};
@@ -200,7 +200,7 @@ fn put_rows(
     islands: &[u16],
     points: &[i64],
 ) -> usize
-    requires { ⌜ judgeRows Exact count 0 (tablesOf (now rows) (now letters) (now islands) (now points)) ≡ Fine ⌝ }
+    requires { ⌜ judgeRows Exact count noneBefore (tablesOf (now rows) (now letters) (now islands) (now points)) ≡ Fine ⌝ }
     requires { ⌜ at + length (rowsText count (tablesOf (now rows) (now letters) (now islands) (now points))) ≤ length (now out) ⌝ }
     ensures { λ r. ⌜ Put (now (out .entry)) at (rowsText count (tablesOf (now (rows .entry)) (now (letters .entry)) (now (islands .entry)) (now (points .entry)))) (now (out .exit)) r ⌝ }
 {
@@ -252,7 +252,7 @@ fn rows_length(
     islands: &[u16],
     points: &[i64],
 ) -> usize
-    requires { ⌜ (start ≤ fileMost) × (judgeRows Exact count 0 (tablesOf (now rows) (now letters) (now islands) (now points)) ≡ Fine) ⌝ }
+    requires { ⌜ (start ≤ fileMost) × (judgeRows Exact count noneBefore (tablesOf (now rows) (now letters) (now islands) (now points)) ≡ Fine) ⌝ }
     ensures { λ r. ⌜ r ≡ min (start + length (rowsText count (tablesOf (now (rows .entry)) (now (letters .entry)) (now (islands .entry)) (now (points .entry))))) (fileMost + 1) ⌝ }
 {
     let mut d = Stand {

@@ -46,7 +46,7 @@ slice-aggregate-put-used-4 : tie.Need-slice-aggregate-put-used-4
 slice-aggregate-put-used-4 c = search needs
 
 put-used-requires : tie.Need-put-used-requires
-put-used-requires c κs = (read-fits ((c .before .before .before .before .before .before .before .before .before .before .before .before .before .before .before .before .before .before .before .before) .args .src .now) _ ((c .before .before .before .before .before .before .before .before .before .before .before .before .before .before .before .before .before .before .before .before) .pre .0) enough-tables _ (c .before .before .before .before .before .before .before .before .before .before .before .before .before .read .ensures .0) _ (c .before .before .before .before .before .before .answer2 .given .1) (replicate 16380 (pos 0)) _ (replicate 8192 0) _ (replicate 4096 0) _ (replicate 1365 (pos 0)) _ (c .before .before .before .before .before .before .before .before .before .before .before .before .before .read .ensures .1 .0) (c .before .before .before .before .before .before .before .before .before .before .before .before .before .read .ensures .1 .1 .0) (c .before .before .before .before .before .before .before .before .before .before .before .before .before .read .ensures .1 .1 .1 .0) (c .before .before .before .before .before .before .before .before .before .before .before .before .before .read .ensures .1 .1 .1 .1), room-same (read-sheet ((c .before .before .before .before .before .before .before .before .before .before .before .before .before .before .before .before .before .before .before .before) .args .src .now) _ ((c .before .before .before .before .before .before .before .before .before .before .before .before .before .before .before .before .before .before .before .before) .pre .0) enough-tables _ (c .before .before .before .before .before .before .before .before .before .before .before .before .before .read .ensures .0) _ (c .before .before .before .before .before .before .answer2 .given .1) (replicate 16380 (pos 0)) _ (replicate 8192 0) _ (replicate 4096 0) _ (replicate 1365 (pos 0)) _ (c .before .before .before .before .before .before .before .before .before .before .before .before .before .read .ensures .1 .0) (c .before .before .before .before .before .before .before .before .before .before .before .before .before .read .ensures .1 .1 .0) (c .before .before .before .before .before .before .before .before .before .before .before .before .before .read .ensures .1 .1 .1 .0) (c .before .before .before .before .before .before .before .before .before .before .before .before .before .read .ensures .1 .1 .1 .1)) _ (read-fits-in ((c .before .before .before .before .before .before .before .before .before .before .before .before .before .before .before .before .before .before .before .before) .args .src .now) _ ((c .before .before .before .before .before .before .before .before .before .before .before .before .before .before .before .before .before .before .before .before) .pre .1)))
+put-used-requires c κs = (read-fits ((c .before .before .before .before .before .before .before .before .before .before .before .before .before .before .before .before .before .before .before .before) .args .src .now) _ ((c .before .before .before .before .before .before .before .before .before .before .before .before .before .before .before .before .before .before .before .before) .pre .0) enough-tables _ (c .before .before .before .before .before .before .before .before .before .before .before .before .before .read .ensures .0) _ (c .before .before .before .before .before .before .answer2 .given .1) (replicate 4380 (pos 0)) _ (replicate 8192 0) _ (replicate 4096 0) _ (replicate 1365 (pos 0)) _ (c .before .before .before .before .before .before .before .before .before .before .before .before .before .read .ensures .1 .0) (c .before .before .before .before .before .before .before .before .before .before .before .before .before .read .ensures .1 .1 .0) (c .before .before .before .before .before .before .before .before .before .before .before .before .before .read .ensures .1 .1 .1 .0) (c .before .before .before .before .before .before .before .before .before .before .before .before .before .read .ensures .1 .1 .1 .1), room-same (read-sheet ((c .before .before .before .before .before .before .before .before .before .before .before .before .before .before .before .before .before .before .before .before) .args .src .now) _ ((c .before .before .before .before .before .before .before .before .before .before .before .before .before .before .before .before .before .before .before .before) .pre .0) enough-tables _ (c .before .before .before .before .before .before .before .before .before .before .before .before .before .read .ensures .0) _ (c .before .before .before .before .before .before .answer2 .given .1) (replicate 4380 (pos 0)) _ (replicate 8192 0) _ (replicate 4096 0) _ (replicate 1365 (pos 0)) _ (c .before .before .before .before .before .before .before .before .before .before .before .before .before .read .ensures .1 .0) (c .before .before .before .before .before .before .before .before .before .before .before .before .before .read .ensures .1 .1 .0) (c .before .before .before .before .before .before .before .before .before .before .before .before .before .read .ensures .1 .1 .1 .0) (c .before .before .before .before .before .before .before .before .before .before .before .before .before .read .ensures .1 .1 .1 .1)) _ (read-fits-in ((c .before .before .before .before .before .before .before .before .before .before .before .before .before .before .before .before .before .before .before .before) .args .src .now) _ ((c .before .before .before .before .before .before .before .before .before .before .before .before .before .before .before .before .before .before .before .before) .pre .1)))
 
 same-length : tie.Need-same-length
 same-length c = search needs
@@ -61,7 +61,7 @@ same-length-2 : tie.Need-same-length-2
 same-length-2 c = search needs
 
 returns-3 : tie.Need-returns-3
-returns-3 c = put-same (read-sheet ((c .before .before .before .before .before .before .before .before .before .before .before .before .before .before .before .before .before .before .before .before .before .before .before) .args .src .now) _ ((c .before .before .before .before .before .before .before .before .before .before .before .before .before .before .before .before .before .before .before .before .before .before .before) .pre .0) enough-tables _ (c .before .before .before .before .before .before .before .before .before .before .before .before .before .before .before .before .read .ensures .0) _ (c .before .before .before .before .before .before .before .before .before .answer2 .given .1) (replicate 16380 (pos 0)) _ (replicate 8192 0) _ (replicate 4096 0) _ (replicate 1365 (pos 0)) _ (c .before .before .before .before .before .before .before .before .before .before .before .before .before .before .before .before .read .ensures .1 .0) (c .before .before .before .before .before .before .before .before .before .before .before .before .before .before .before .before .read .ensures .1 .1 .0) (c .before .before .before .before .before .before .before .before .before .before .before .before .before .before .before .before .read .ensures .1 .1 .1 .0) (c .before .before .before .before .before .before .before .before .before .before .before .before .before .before .before .before .read .ensures .1 .1 .1 .1)) (c .before .before .put-used .ensures)
+returns-3 c = put-same (read-sheet ((c .before .before .before .before .before .before .before .before .before .before .before .before .before .before .before .before .before .before .before .before .before .before .before) .args .src .now) _ ((c .before .before .before .before .before .before .before .before .before .before .before .before .before .before .before .before .before .before .before .before .before .before .before) .pre .0) enough-tables _ (c .before .before .before .before .before .before .before .before .before .before .before .before .before .before .before .before .read .ensures .0) _ (c .before .before .before .before .before .before .before .before .before .answer2 .given .1) (replicate 4380 (pos 0)) _ (replicate 8192 0) _ (replicate 4096 0) _ (replicate 1365 (pos 0)) _ (c .before .before .before .before .before .before .before .before .before .before .before .before .before .before .before .before .read .ensures .1 .0) (c .before .before .before .before .before .before .before .before .before .before .before .before .before .before .before .before .read .ensures .1 .1 .0) (c .before .before .before .before .before .before .before .before .before .before .before .before .before .before .before .before .read .ensures .1 .1 .1 .0) (c .before .before .before .before .before .before .before .before .before .before .before .before .before .before .before .before .read .ensures .1 .1 .1 .1)) (c .before .before .put-used .ensures)
 
 pub put-reading-spec : {M : Type 1} → statement M
 put-reading-spec =

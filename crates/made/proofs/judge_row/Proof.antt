@@ -1,5 +1,5 @@
 -- `made::judge_row` meets its contract: the ways are in `RowWays`. Assumes nothing.
-use Rattle.made.proofs.RowWays.{turn-ways}
+use Rattle.made.proofs.RowWays.{turn-ways, turn-held}
 use borrow.Author.Needs.{needs}
 use Rattle.made.proofs.judge_row.Statement.{statement}
 use Rattle.made.proofs.judge_row.Tie as tie
@@ -10,6 +10,12 @@ is-made-requires c κs = search needs
 returns : tie.Need-returns
 returns c = search (turn-ways, needs)
 
+are-starts-requires : tie.Need-are-starts-requires
+are-starts-requires c κs = turn-held _ _ (c .before .is-made .ensures) (c .if1 .left)
+
+returns-2 : tie.Need-returns-2
+returns-2 c = search (turn-ways, needs)
+
 count-at-requires : tie.Need-count-at-requires
 count-at-requires c κs = search needs
 
@@ -19,8 +25,8 @@ count-at-requires-2 c κs = search needs
 is-coded-requires : tie.Need-is-coded-requires
 is-coded-requires c κs = search needs
 
-returns-2 : tie.Need-returns-2
-returns-2 c = search (turn-ways, needs)
+returns-3 : tie.Need-returns-3
+returns-3 c = search (turn-ways, needs)
 
 count-at-requires-3 : tie.Need-count-at-requires-3
 count-at-requires-3 c κs = search needs
@@ -31,11 +37,8 @@ count-at-requires-4 c κs = search needs
 count-at-requires-5 : tie.Need-count-at-requires-5
 count-at-requires-5 c κs = search needs
 
-mul-t11 : tie.Need-mul-t11
-mul-t11 c = search (turn-ways, needs)
-
-returns-3 : tie.Need-returns-3
-returns-3 c = search (turn-ways, needs)
+returns-4 : tie.Need-returns-4
+returns-4 c = search (turn-ways, needs)
 
 pub judge-row-spec : {M : Type 1} → statement M
 judge-row-spec =
@@ -43,12 +46,13 @@ judge-row-spec =
     (tie.spec
     is-made-requires
     returns
+    are-starts-requires
+    returns-2
     count-at-requires
     count-at-requires-2
     is-coded-requires
-    returns-2
+    returns-3
     count-at-requires-3
     count-at-requires-4
     count-at-requires-5
-    mul-t11
-    returns-3)
+    returns-4)

@@ -53,6 +53,9 @@ part-judge-row-end-3 c = search needs
 mul-judge-row-3 : tie.Need-mul-judge-row-3 Inv-loop μ-loop
 mul-judge-row-3 c = search needs
 
+mul-judge-row-4 : tie.Need-mul-judge-row-4 Inv-loop μ-loop
+mul-judge-row-4 c = search needs
+
 sub-judge-row-4 : tie.Need-sub-judge-row-4 Inv-loop μ-loop
 sub-judge-row-4 c = c .before .before .before .before .loop .inv .points-in
 
@@ -143,6 +146,7 @@ judge-rows-spec =
     part-judge-row-start-3
     part-judge-row-end-3
     mul-judge-row-3
+    mul-judge-row-4
     sub-judge-row-4
     part-judge-row-start-4
     part-judge-row-end-4

@@ -2,7 +2,7 @@
 use borrow.Author.Needs.{needs}
 use native.Mathlib.Omega.{arith}
 use Rattle.made.specs.Made.{tablesOf}
-use Rattle.row.proofs.SeekWays.{sought-ways, stand-fits}
+use Rattle.row.proofs.SeekWays.{sought-ways, own-held}
 use Rattle.row.proofs.seek.Statement.{statement}
 use Rattle.row.proofs.seek.Tie as tie
 
@@ -15,7 +15,7 @@ enum-told c = search needs
 stand-at-requires : tie.Need-stand-at-requires
 stand-at-requires c κs =
     let s = c .before .before .before .before .before .before in
-    stand-fits
+    own-held
     (s .args .header)
     (s .args .count)
     (tablesOf (s .args .rows .now) (s .args .letters .now) (s .args .islands .now) (s .args .points .now))
@@ -24,8 +24,6 @@ stand-at-requires c κs =
     (c .before .before .before .judge .ensures)
     (c .before .enum-told .given .1)
     (c .if1 .taken)
-    (omega arith)
-    (omega arith)
     (omega arith)
 
 returns : tie.Need-returns

@@ -1,40 +1,50 @@
--- `stand_at` meets its contract: past n rows it stands where row n does. Assumes nothing.
-use Prim.Native.Nat.{_-_}
-use mathlib.Core.Path.{_∙_}
-use native.Mathlib.Omega.{arith}
+-- `stand_at` meets its contract: the row's own starts, which fit. Assumes nothing.
 use borrow.Author.Needs.{needs}
-use Rattle.row.proofs.NextWays.{after-next}
-use Rattle.row.proofs.SeekWays.{Passed, passed-none, passed-in, passed-next, passed-on, passed-all}
+use Rattle.row.proofs.SeekWays.{own-is, own-fits}
 use Rattle.row.proofs.stand_at.Statement.{statement}
 use Rattle.row.proofs.stand_at.Tie as tie
 
-abbrev Inv-loop : tie.InvT-loop
-Inv-loop k rows d₀ n₀ d n = Passed k rows d n
+mul-row : tie.Need-mul-row
+mul-row c = search needs
 
-abbrev μ-loop : tie.MeasureT-loop
-μ-loop k rows d₀ n₀ d n = k - n
+mul-own : tie.Need-mul-own
+mul-own c = search needs
 
-loop-holds : tie.Need-loop-holds Inv-loop μ-loop
-loop-holds c = passed-none (c .args .k) (c .args .rows .now)
+sub-own : tie.Need-sub-own
+sub-own c = search needs
 
-stand-next-requires : tie.Need-stand-next-requires Inv-loop μ-loop
-stand-next-requires c κs = search needs
+part-own-start : tie.Need-part-own-start
+part-own-start c = search needs
 
-add-n : tie.Need-add-n Inv-loop μ-loop
-add-n c = search needs
+part-own-end : tie.Need-part-own-end
+part-own-end c = search needs
 
-loop-less : tie.Need-loop-less Inv-loop μ-loop
-loop-less c = search needs
+count-at-requires : tie.Need-count-at-requires
+count-at-requires c κs = search needs
 
-loop-again : tie.Need-loop-again Inv-loop μ-loop
-loop-again c =
-    let i = c .before .before .loop .inv in
-    let h = c .before .before .before .pre in
-    let k = c .before .loop-test .taken in
-    passed-on i h k _ (c .stand-next .ensures ∙ after-next _ _ (passed-in i h k) (passed-next i h k (omega arith)))
+count-at-requires-2 : tie.Need-count-at-requires-2
+count-at-requires-2 c κs = search needs
 
-returns : tie.Need-returns Inv-loop μ-loop
-returns c = passed-all (c .before .loop .inv) (c .loop-test .left)
+count-at-requires-3 : tie.Need-count-at-requires-3
+count-at-requires-3 c κs = search needs
+
+mul-t10 : tie.Need-mul-t10
+mul-t10 c = search (own-fits, needs)
+
+returns : tie.Need-returns
+returns c = search (own-is, needs)
 
 pub stand-at-spec : {M : Type 1} → statement M
-stand-at-spec = tie.close (tie.spec Inv-loop μ-loop loop-holds stand-next-requires add-n loop-less loop-again returns)
+stand-at-spec =
+    tie.close
+    (tie.spec
+    mul-row
+    mul-own
+    sub-own
+    part-own-start
+    part-own-end
+    count-at-requires
+    count-at-requires-2
+    count-at-requires-3
+    mul-t10
+    returns)

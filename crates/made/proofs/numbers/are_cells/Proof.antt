@@ -1,6 +1,6 @@
 -- `made::are_cells` meets its contract: the numbers from p on are right. Assumes nothing.
 use Rattle.made.specs.Made.{isCellAt}
-use Rattle.kinds.specs.Kinds.{rowWidth}
+use Rattle.kinds.specs.Kinds.{ownWidth}
 use Rattle.laws.specs.Lists.{below}
 use Prim.Native.Nat.{_≤_}
 use mathlib.Core.Path.{_≡_}
@@ -10,7 +10,7 @@ use Rattle.made.proofs.numbers.are_cells.Statement.{statement}
 use Rattle.made.proofs.numbers.are_cells.Tie as tie
 
 abbrev Inv-loop : tie.InvT-loop
-Inv-loop kind rows p₀ p = (p ≤ rowWidth) × (below rowWidth (isCellAt kind rows) ≡ below p (isCellAt kind rows))
+Inv-loop kind rows p₀ p = (p ≤ ownWidth) × (below ownWidth (isCellAt kind rows) ≡ below p (isCellAt kind rows))
 
 abbrev μ-loop : tie.MeasureT-loop
 μ-loop kind rows p₀ p = p

@@ -13,7 +13,7 @@ mul-put-row : tie.Need-mul-put-row
 mul-put-row c = omega (arith, rw ((c .before .before .enum-told) .given .1) at ((c .before .before .before .before .before .before .before) .pre .1))
 
 put-row-requires : tie.Need-put-row-requires
-put-row-requires c κs = (rw ((c .before .before .enum-told) .given .1) at ((c .before .before .before .before .before .before .before) .pre .1), (c .before .before .before .before .before .before .before) .pre .0 .0)
+put-row-requires c κs = (rw ((c .before .before .enum-told) .given .1) at ((c .before .before .before .before .before .before .before) .pre .1), (c .before .before .before .before .before .before .before) .pre .0 .0, (c .before .before .before .before .before .before .before) .pre .0 .2)
 
 enum-known-st : tie.Need-enum-known-st
 enum-known-st c = search needs
