@@ -2,5 +2,14 @@
 mod PartWays
 mod PlaceWays
 mod RowMoves
+mod RowLoops
 mod PointMoves
 mod SheetMoves
+mod CloseWays
+mod LowerWays
+mod FallLaws
+mod ColumnLaws
+mod RemoveWays
+pub mod MoveLaws
+pub mod BackLaws
+pub mod RemoveLaws

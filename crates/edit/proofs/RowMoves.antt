@@ -1,4 +1,4 @@
--- The ways through the functions that judge and move rows. Assumes nothing.
+-- The ways through the functions that judge and move a pair of coordinates and a row. Assumes nothing.
 use mathlib.Core.Path.{_≡_, refl, sym, _∙_, ap, ap₂}
 use mathlib.Core.List.{List, [], _∷_, _++_, append-assoc, append-nil}
 use mathlib.Core.Bool.{Bool, true, false, not, _&&_, _||_}
@@ -19,7 +19,8 @@ use Rattle.laws.proofs.Choice.{false≢true, and-false, and-left, and-right}
 use Rattle.number.specs.Number.{isReal}
 use Rattle.kinds.specs.Kinds.{rowWidth, xPlace, yPlace, x2Place, y2Place}
 use Rattle.made.specs.Made.{natOf, hasField}
-use Rattle.edit.specs.Moves.{isPart, isMoved, partAt, movedCell, movedCells, movedRow, movedRows, rowStays, rowsStay}
+use Rattle.edit.specs.Rows.{eachRow}
+use Rattle.edit.specs.Moves.{isPart, isMoved, partAt, movedCell, movedCells, movedRow, movedRows, rowStays}
 use Rattle.edit.specs.Used.{pairStays, pairShifted}
 use Rattle.edit.proofs.PartWays.{bits}
 use Rattle.edit.proofs.PlaceWays.{paired}
@@ -124,47 +125,6 @@ module _ (dx dy : ℤ) (rows : List ℤ) where
 
 pub ruleset row-ways = (row-unplaced, row-first-off, row-single, row-second)
 
--- ---- rows that stay, one after the other
-
-pub record Staying (dx dy : ℤ) (count : ℕ) (rows : List ℤ) (r k : ℕ) : Type 0 where
-  pub at : r ≡ rowWidth * k
-  pub few : k ≤ count
-  pub left : rowsStay dx dy count rows ≡ rowsStay dx dy (count - k) (drop r rows)
-
-module _ (dx dy : ℤ) (count : ℕ) (rows : List ℤ) where
-  pub staying-none : Staying dx dy count rows 0 0
-  staying-none = record { at = refl; few = omega arith; left = rw (sub-zero count) }
-
-  module _ (r k : ℕ) (i : Staying dx dy count rows r k) where
-    pub staying-all : count ≤ k → true ≡ rowsStay dx dy count rows
-    unfolding rowsStay
-    staying-all h =
-        let z : count - k ≡ 0 = omega arith in
-        sym (i .left ∙ rw z)
-
-    module _ (h : k < count) (l : rowWidth * count ≤ length rows) where
-      pub row-in : r ≤ length rows
-      row-in = omega (arith, i .at)
-
-      pub row-there : rowWidth ≤ length (tail rows r)
-      row-there = rw (rest-is rows r) (omega (arith, i .at, length-drop r rows))
-
-      one-row : rowsStay dx dy count rows ≡ (rowStays dx dy (drop r rows) && rowsStay dx dy (count - (k + 1)) (drop (r + rowWidth) rows))
-      unfolding rowsStay
-      one-row =
-          let z : count - k ≡ suc (count - (k + 1)) = omega arith in
-          i .left ∙ rw (z, drop-drop rowWidth r rows)
-
-      module _ (b : Bool) (e₀ : b ≡ rowStays dx dy (tail rows r)) where
-        e : b ≡ rowStays dx dy (drop r rows)
-        e = rw (rest-is rows r) at e₀
-
-        pub staying-not : not b ≡ true → false ≡ rowsStay dx dy count rows
-        staying-not t = sym (one-row ∙ rw (sym e ∙ not-true b t))
-
-        pub staying-on : not b ≡ false → Staying dx dy count rows (r + rowWidth) (k + 1)
-        staying-on t = record { at = omega (arith, i .at); few = omega arith; left = one-row ∙ rw (sym e ∙ not-false b t) }
-
 -- ---- a row that is moved
 
 -- behind the second y nothing moves
@@ -197,21 +157,21 @@ or-right true b e f = f
 or-right false b e f = absurd (false≢true e)
 
 unmoved : (dx dy : ℤ) (rows : List ℤ) → 9 ≤ length rows → hasField (natOf (getD rows 0 (pos 0))) xPlace ≡ false → rows ≡ movedRows dx dy 1 rows
-unfolding movedRows movedRow movedCells movedCell isMoved
+unfolding eachRow movedRow movedCells movedCell isMoved
 unmoved dx dy =
     nine (λ (s : List ℤ). hasField (natOf (getD s 0 (pos 0))) xPlace ≡ false → s ≡ movedRows dx dy 1 s)
     (λ a b c d e f g h i s n. let p = paired (natOf a) in rw (p .second, p .both n, p .first, n, late-moved dx dy (natOf a) (rowWidth - 9) s))
 
 moved-one : (dx dy : ℤ) (rows : List ℤ) → 9 ≤ length rows → hasField (natOf (getD rows 0 (pos 0))) xPlace ≡ true → hasField (natOf (getD rows 0 (pos 0))) x2Place ≡ false
     → pairShifted dx dy rows xPlace ≡ movedRows dx dy 1 rows
-unfolding movedRows movedRow movedCells movedCell isMoved partAt pairShifted
+unfolding eachRow movedRow movedCells movedCell isMoved partAt pairShifted
 moved-one dx dy =
     nine (λ (s : List ℤ). hasField (natOf (getD s 0 (pos 0))) xPlace ≡ true → hasField (natOf (getD s 0 (pos 0))) x2Place ≡ false → pairShifted dx dy s xPlace ≡ movedRows dx dy 1 s)
     (λ a b c d e f g h i s m n. let p = paired (natOf a) in rw (p .second, n, p .first, m, late-moved dx dy (natOf a) (rowWidth - 9) s))
 
 moved-two : (dx dy : ℤ) (rows : List ℤ) → 9 ≤ length rows → hasField (natOf (getD rows 0 (pos 0))) xPlace ≡ true → hasField (natOf (getD rows 0 (pos 0))) x2Place ≡ true
     → pairShifted dx dy (pairShifted dx dy rows xPlace) x2Place ≡ movedRows dx dy 1 rows
-unfolding movedRows movedRow movedCells movedCell isMoved partAt pairShifted
+unfolding eachRow movedRow movedCells movedCell isMoved partAt pairShifted
 moved-two dx dy =
     nine (λ (s : List ℤ). hasField (natOf (getD s 0 (pos 0))) xPlace ≡ true → hasField (natOf (getD s 0 (pos 0))) x2Place ≡ true → pairShifted dx dy (pairShifted dx dy s xPlace) x2Place ≡ movedRows dx dy 1 s)
     (λ a b c d e f g h i s m n. let p = paired (natOf a) in rw (p .second, n, p .first, m, late-moved dx dy (natOf a) (rowWidth - 9) s))
@@ -267,7 +227,7 @@ module _ (dx dy : ℤ) (rows : List ℤ) (l : rowWidth ≤ length rows) (st : ro
         pub move-both : (v : List ℤ) → v ≡ pairShifted (bits dx) (bits dy) u 7 → v ≡ movedRows dx dy 1 rows
         move-both v ev = (rw (toZ-ofZ fx, toZ-ofZ fy, u-shifted) at ev) ∙ moved-two dx dy rows (omega arith) yes (x2-field ∙ not-false b w)
 
--- ---- rows that are moved, one after the other
+-- ---- how long it is
 
 length-cells : (dx dy : ℤ) (kind p : ℕ) (s : List ℤ) → length (movedCells dx dy kind p s) ≡ length s
 unfolding movedCells
@@ -277,90 +237,3 @@ length-cells dx dy kind p (z ∷ s) = ap suc (length-cells dx dy kind (suc p) s)
 pub length-row : (dx dy : ℤ) (rows : List ℤ) → rowWidth ≤ length rows → length (movedRow dx dy rows) ≡ rowWidth
 unfolding movedRow
 length-row dx dy rows l = length-cells dx dy (natOf (getD rows 0 (pos 0))) 0 (take rowWidth rows) ∙ length-take-le rowWidth rows l
-
-module _ (dx dy : ℤ) where
-  -- the row behind n that are moved
-  pub rows-next : (n : ℕ) (rows : List ℤ) → rowWidth * suc n ≤ length rows
-      → (drop (rowWidth * n) (movedRows dx dy n rows) ≡ drop (rowWidth * n) rows) × (movedRows dx dy (suc n) rows ≡ take (rowWidth * n) (movedRows dx dy n rows) ++ movedRows dx dy 1 (drop (rowWidth * n) rows))
-  unfolding movedRows
-  rows-next zero rows l = (refl, refl)
-  rows-next (suc n) rows l =
-      let i = rows-next n (drop rowWidth rows) (omega (arith, length-drop rowWidth rows)) in
-      let m = length-row dx dy rows (omega arith) in
-      let z : rowWidth * suc n ≡ length (movedRow dx dy rows) + rowWidth * n = omega arith in
-      let y : rowWidth * suc n ≡ rowWidth * n + rowWidth = omega arith in
-      let w : rowWidth * n + rowWidth ≡ rowWidth + rowWidth * n = omega arith in
-      (
-        ap (λ (j : ℕ). drop j (movedRow dx dy rows ++ movedRows dx dy n (drop rowWidth rows))) z ∙ drop-append-add (movedRow dx dy rows) (movedRows dx dy n (drop rowWidth rows)) (rowWidth * n)
-        ∙ i .0 ∙ drop-drop (rowWidth * n) rowWidth rows ∙ ap (λ (j : ℕ). drop j rows) (let x : rowWidth + rowWidth * n ≡ rowWidth * suc n = omega arith in x),
-        ap (λ (x : List ℤ). movedRow dx dy rows ++ x) (i .1)
-        ∙ ap (λ (x : List ℤ). movedRow dx dy rows ++ (take (rowWidth * n) (movedRows dx dy n (drop rowWidth rows)) ++ movedRows dx dy 1 x)) (drop-drop (rowWidth * n) rowWidth rows ∙ ap (λ (j : ℕ). drop j rows) (let x : rowWidth + rowWidth * n ≡ rowWidth * suc n = omega arith in x))
-        ∙ sym (append-assoc (movedRow dx dy rows) (take (rowWidth * n) (movedRows dx dy n (drop rowWidth rows))) (movedRows dx dy 1 (drop (rowWidth * suc n) rows)))
-        ∙ ap (λ (x : List ℤ). x ++ movedRows dx dy 1 (drop (rowWidth * suc n) rows))
-        (sym (ap (λ (j : ℕ). take j (movedRow dx dy rows ++ movedRows dx dy n (drop rowWidth rows))) z ∙ take-append-add (movedRow dx dy rows) (movedRows dx dy n (drop rowWidth rows)) (rowWidth * n))),
-      )
-
--- the rows before the k-th are moved
-pub record Moved (dx dy : ℤ) (count : ℕ) (rows₀ rows : List ℤ) (r k : ℕ) : Type 0 where
-  pub at : r ≡ rowWidth * k
-  pub few : k ≤ count
-  pub is : rows ≡ movedRows dx dy k rows₀
-
-length-rows : (dx dy : ℤ) (n : ℕ) (rows : List ℤ) → rowWidth * n ≤ length rows → length (movedRows dx dy n rows) ≡ length rows
-unfolding movedRows
-length-rows dx dy zero rows l = refl
-length-rows dx dy (suc n) rows l =
-    omega (
-      arith,
-      length-append (movedRow dx dy rows) (movedRows dx dy n (drop rowWidth rows)),
-      length-row dx dy rows (omega arith),
-      length-rows dx dy n (drop rowWidth rows) (omega (arith, length-drop rowWidth rows)),
-      length-drop rowWidth rows,
-    )
-
--- each of the rows stays
-row-stays : (dx dy : ℤ) (n k : ℕ) (rows : List ℤ) → k < n → rowsStay dx dy n rows ≡ true → rowStays dx dy (drop (rowWidth * k) rows) ≡ true
-unfolding rowsStay
-row-stays dx dy zero k rows h e = absurd (omega arith)
-row-stays dx dy (suc n) zero rows h e = and-left (rowStays dx dy rows) (rowsStay dx dy n (drop rowWidth rows)) e
-row-stays dx dy (suc n) (suc k) rows h e =
-    let z : rowWidth * suc k ≡ rowWidth + rowWidth * k = omega arith in
-    rw (z, ← drop-drop (rowWidth * k) rowWidth rows) (row-stays dx dy n k (drop rowWidth rows) (omega arith) (and-right (rowStays dx dy rows) (rowsStay dx dy n (drop rowWidth rows)) e))
-
-module _ (dx dy : ℤ) (count : ℕ) (rows₀ : List ℤ) where
-  pub moved-none : Moved dx dy count rows₀ rows₀ 0 0
-  unfolding movedRows
-  moved-none = record { at = refl; few = omega arith; is = refl }
-
-  module _ (rows : List ℤ) (r k : ℕ) (m : Moved dx dy count rows₀ rows r k) (l : rowWidth * count ≤ length rows₀) where
-    pub moved-length : length rows ≡ length rows₀
-    moved-length = rw (m .is) (length-rows dx dy k rows₀ (omega (arith, m .few)))
-
-    pub moved-all : count ≤ k → rows ≡ movedRows dx dy count rows₀
-    moved-all h = let z : k ≡ count = omega (arith, m .few) in m .is ∙ ap (λ (j : ℕ). movedRows dx dy j rows₀) z
-
-    module _ (h : k < count) where
-      pub moved-in : r ≤ length rows
-      moved-in = omega (arith, m .at, moved-length)
-
-      next : (drop (rowWidth * k) (movedRows dx dy k rows₀) ≡ drop (rowWidth * k) rows₀)
-          × (movedRows dx dy (suc k) rows₀ ≡ take (rowWidth * k) (movedRows dx dy k rows₀) ++ movedRows dx dy 1 (drop (rowWidth * k) rows₀))
-      next = rows-next dx dy k rows₀ (omega arith)
-
-      left-as : tail rows r ≡ drop (rowWidth * k) rows₀
-      left-as = rest-is rows r ∙ rw (m .at, m .is) (next .0)
-
-      pub moved-asks : rowsStay dx dy count rows₀ ≡ true → (rowWidth ≤ length (tail rows r)) × (rowStays dx dy (tail rows r) ≡ true)
-      moved-asks st = rw left-as (omega (arith, length-drop (rowWidth * k) rows₀), row-stays dx dy count k rows₀ h st)
-
-      pub moved-on : (u : List ℤ) → u ≡ movedRows dx dy 1 (tail rows r) → Moved dx dy count rows₀ (take r rows ++ (u ++ drop (length rows - r) (drop r rows))) (r + rowWidth) (k + 1)
-      moved-on u e =
-          let z : k + 1 ≡ suc k = omega arith in
-          let none : drop (length rows - r) (drop r rows) ≡ [] = left-none (drop r rows) (length rows - r) (omega (arith, length-drop r rows)) in
-          record {
-            at = omega (arith, m .at);
-            few = omega arith;
-            is =
-                rw (none, append-nil u, z, e, left-as)
-                (sym (next .1 ∙ ap₂ (λ (j : ℕ) (x : List ℤ). take j x ++ movedRows dx dy 1 (drop (rowWidth * k) rows₀)) (sym (m .at)) (sym (m .is))));
-          }

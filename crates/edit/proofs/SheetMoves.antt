@@ -4,7 +4,7 @@ use mathlib.Core.List.{List, _++_}
 use mathlib.Core.Bool.{Bool, true, false, cond, not, _&&_}
 use Prim.Native.Nat.{ℕ, zero, suc, _+_, _*_, _≤_}
 use native.Mathlib.Omega.{arith}
-use lib.ListN.{length, take, drop}
+use lib.ListN.{length, take, drop, length-append, length-drop}
 use lib.Seq.{length-take-le}
 use lib.IntN.{ℤ}
 use mir.Syntax.{w64}
@@ -21,7 +21,7 @@ use Rattle.plane.proofs.MovedLaws.{length-moved}
 use Rattle.sheet.specs.Tables.{Tables}
 use Rattle.made.specs.declared.Verdict.{Verdict}
 use Rattle.made.specs.declared.Verdict.the-variants.{Fine, BadHeader, Faulty, Unlisted}
-use Rattle.made.specs.Made.{restOf, areReals, judgeOf, usedOf}
+use Rattle.made.specs.Made.{restOf, noneBefore, areReals, judgeOf, usedOf}
 use Rattle.made.proofs.UsedLaws.{total, used-front, fine-long}
 use Rattle.row.proofs.SeekLaws.{fine-rows}
 use Rattle.edit.specs.declared.Edited.{Edited}
@@ -87,6 +87,17 @@ module _ (dx dy : ℤ) (n : ℕ) (rows points : List ℤ) (fx : SFits w64 dx) (f
       let k : 2 * v ≡ length (moved dx dy (pointsUsed n rows points)) = omega (arith, length-moved dx dy (pointsUsed n rows points), length-take-le (2 * vertexCount n rows) points l) in
       rw (f, k)
 
+  pub points-length : (v : ℕ) → v ≡ vertexCount n rows → 2 * vertexCount n rows ≤ length points → (w : List ℤ) → w ≡ moved (bits dx) (bits dy) (take (2 * v) points)
+      → length (w ++ drop (2 * v) points) ≡ length points
+  points-length v ev l w e =
+      omega (
+        arith,
+        length-append w (drop (2 * v) points),
+        ap length e ∙ length-moved (bits dx) (bits dy) (take (2 * v) points),
+        length-take-le (2 * v) points (omega arith),
+        length-drop (2 * v) points,
+      )
+
 -- ---- the points that rows use
 
 total-is : (n : ℕ) (t : Tables) → total verticesPlace n t ≡ vertexCount n (t .rows)
@@ -101,7 +112,7 @@ used-points n t = ap (λ (x : Tables). x .points) (used-front n t) ∙ rw (total
 
 module _ (h : Header) (count : ℕ) (t : Tables) (dx dy : ℤ) (v : Verdict) (e : v ≡ judgeOf Loose h count t) where
   pub judged-long : v ≡ Fine → (rowWidth * count ≤ length (t .rows)) × (2 * vertexCount count (t .rows) ≤ length (t .points))
-  judged-long f = let l = fine-long Loose count 0 t (fine-rows h count t (sym e ∙ f)) in (l .rows-in, omega (arith, l .points-in, total-is count t))
+  judged-long f = let l = fine-long Loose count noneBefore t (fine-rows h count t (sym e ∙ f)) in (l .rows-in, omega (arith, l .points-in, total-is count t))
 
   pub move-after : (w : Verdict) → v ≡ w → movedAfter w count (isMove dx dy count t) ≡ moveOf h count t dx dy
   unfolding moveOf
@@ -114,11 +125,10 @@ module _ (h : Header) (count : ℕ) (t : Tables) (dx dy : ℤ) (v : Verdict) (e 
 
     module _ (rows points : List ℤ) (er : rows ≡ cond b (movedRows (bits dx) (bits dy) count (t .rows)) (t .rows))
         (ep : points ≡ cond b (movedPoints (bits dx) (bits dy) count (t .rows) (t .points)) (t .points)) where
-      pub sheet-moved : b ≡ true → (Done count ≡ moveOf h count t dx dy) × (rows ≡ movedTables dx dy count t .rows) × (points ≡ movedTables dx dy count t .points)
+      pub sheet-moved : b ≡ true → (Done count ≡ moveOf h count t dx dy) × ((rows ≡ movedTables dx dy count t .rows) × (points ≡ movedTables dx dy count t .points))
       unfolding movedTables
       sheet-moved y =
-          (ap (λ (x : Bool). cond x (Done count) MovedOff) (sym (is-move ∙ y)) ∙ move-after Fine f, rw (toZ-ofZ fx, toZ-ofZ fy, y) at er,
-          (rw (toZ-ofZ fx, toZ-ofZ fy, y) at ep) ∙ rw (used-points count t))
+          (ap (λ (x : Bool). cond x (Done count) MovedOff) (sym (is-move ∙ y)) ∙ move-after Fine f, (rw (toZ-ofZ fx, toZ-ofZ fy, y) at er, (rw (toZ-ofZ fx, toZ-ofZ fy, y) at ep) ∙ rw (used-points count t)))
 
-      pub sheet-off : b ≡ false → (MovedOff ≡ moveOf h count t dx dy) × (rows ≡ t .rows) × (points ≡ t .points)
-      sheet-off y = (ap (λ (x : Bool). cond x (Done count) MovedOff) (sym (is-move ∙ y)) ∙ move-after Fine f, rw y at er, rw y at ep)
+      pub sheet-off : b ≡ false → (MovedOff ≡ moveOf h count t dx dy) × ((rows ≡ t .rows) × (points ≡ t .points))
+      sheet-off y = (ap (λ (x : Bool). cond x (Done count) MovedOff) (sym (is-move ∙ y)) ∙ move-after Fine f, (rw y at er, rw y at ep))

@@ -1,15 +1,13 @@
 -- Sheets that are moved, by computation (document 02, T-08): a row of each kind, what just fits and what just does not, the order of the refusals.
 -- Assumes nothing.
-use Prim.Native.Nat.{ℕ, _-_}
+use Prim.Native.Nat.{ℕ}
 use mathlib.Core.Path.{_≡_, refl}
 use mathlib.Core.List.{List, [], _∷_, _++_}
 use mathlib.Core.Bool.{true, false}
-use lib.ListN.{take}
 use lib.IntN.{ℤ, pos, negsuc}
 use Rattle.laws.specs.Lists.{below}
 use Rattle.laws.specs.Text.{text}
 use Rattle.number.specs.Number.{isReal}
-use Rattle.kinds.specs.Kinds.{rowWidth}
 use Rattle.heading.specs.declared.Header.{Header}
 use Rattle.plane.specs.Moved.{moved}
 use Rattle.sheet.specs.Tables.{Tables}
@@ -19,12 +17,13 @@ use Rattle.made.specs.Examples.{header, computed as computedVerdict}
 use Rattle.edit.specs.declared.Edited.{Edited}
 use Rattle.edit.specs.declared.Edited.the-variants.{Done, MovedOff, Refused}
 use Rattle.edit.specs.Answers.{tablesAt, numberOf, rowOf, countOf}
-use Rattle.edit.specs.Moves.{isPart, isMoved, partAt, movedCell, movedCells, movedRow, movedRows, movedTables, rowStays, rowsStay, isMove, moveOf}
+use Rattle.edit.specs.Rows.{everyRow, eachRow}
+use Rattle.edit.specs.Moves.{isPart, isMoved, partAt, movedCell, movedCells, movedRow, movedTables, rowStays, isMove, moveOf}
 
 -- a row of a kind: size, angle, x, y, second x, y; letters, island counts, vertices; and where they start
 abbrev pub row : ℕ → ℤ → ℤ → ℤ → ℤ → ℤ → ℤ → ℕ → ℕ → ℕ → ℕ → ℕ → ℕ → List ℤ
 row kind size angle x y x2 y2 letters islands vertices l i p =
-    pos kind ∷ pos 0 ∷ pos 0 ∷ size ∷ angle ∷ x ∷ y ∷ x2 ∷ y2 ∷ pos letters ∷ pos islands ∷ pos vertices ∷ take (rowWidth - 12) (pos l ∷ pos i ∷ pos p ∷ [])
+    pos kind ∷ pos 0 ∷ pos 0 ∷ size ∷ angle ∷ x ∷ y ∷ x2 ∷ y2 ∷ pos letters ∷ pos islands ∷ pos vertices ∷ pos l ∷ pos i ∷ pos p ∷ []
 
 -- a row with a number in each place, and the same moved by (100, -1)
 abbrev full : ℕ → List ℤ
@@ -54,7 +53,7 @@ sheetOf x y z =
 
 -- the definitions opened, so that they compute
 unfoldable pub computed : Header → ℕ → Tables → ℤ → ℤ → Edited × Tables
-unfolding moveOf isMove movedTables movedRows rowStays rowsStay isPart moved usedOf computedRow computedVerdict
+unfolding moveOf isMove movedTables eachRow everyRow rowStays isPart moved usedOf computedRow computedVerdict
 computed h count t dx dy = (moveOf h count t dx dy, movedTables dx dy count t)
 
 pub moveSheet : ℕ → Tables → ℤ → ℤ → Edited

@@ -1,9 +1,9 @@
 -- A sheet that is moved (document 02, T-08): "Moving adds one whole-millimetre pair to every vertex, position, inner point and label point; sizes,
 -- angles and missing fields don't change". Assumes nothing: these are definitions.
-use Prim.Native.Nat.{ℕ, zero, suc}
-use mathlib.Core.List.{List, [], _∷_, _++_}
-use mathlib.Core.Bool.{Bool, true, cond, not, _&&_, _||_}
-use lib.ListN.{getD, take, drop}
+use Prim.Native.Nat.{ℕ, suc}
+use mathlib.Core.List.{List, [], _∷_}
+use mathlib.Core.Bool.{Bool, cond, not, _&&_, _||_}
+use lib.ListN.{getD, take}
 use lib.Dec.{leb, eqb}
 use lib.IntN.{ℤ, pos, natAbs, _+ℤ_}
 use Rattle.laws.specs.Lists.{below, over}
@@ -17,6 +17,7 @@ use Rattle.made.specs.declared.Verdict.{Verdict}
 use Rattle.made.specs.declared.Verdict.the-variants.{Fine, BadHeader, Faulty, Unlisted}
 use Rattle.made.specs.Made.{natOf, hasField, areReals, judgeOf, usedOf}
 use Rattle.edit.specs.declared.Edited.{Edited}
+use Rattle.edit.specs.Rows.{everyRow, eachRow}
 use Rattle.edit.specs.declared.Edited.the-variants.{Done, MovedOff, Refused}
 
 -- ---- the pair
@@ -51,9 +52,8 @@ unfoldable pub movedRow : ℤ → ℤ → List ℤ → List ℤ
 movedRow dx dy rows = movedCells dx dy (natOf (getD rows 0 (pos 0))) 0 (take rowWidth rows)
 
 -- n rows; what stands behind them stays
-unfoldable pub movedRows : ℤ → ℤ → ℕ → List ℤ → List ℤ
-movedRows dx dy zero rows = rows
-movedRows dx dy (suc n) rows = movedRow dx dy rows ++ movedRows dx dy n (drop rowWidth rows)
+abbrev pub movedRows : ℤ → ℤ → ℕ → List ℤ → List ℤ
+movedRows dx dy n rows = eachRow (movedRow dx dy) n rows
 
 -- ---- the sheet
 
@@ -68,9 +68,8 @@ cellStays dx dy rows p = not (isMoved (natOf (getD rows 0 (pos 0))) p) || isReal
 unfoldable pub rowStays : ℤ → ℤ → List ℤ → Bool
 rowStays dx dy rows = below rowWidth (cellStays dx dy rows)
 
-unfoldable pub rowsStay : ℤ → ℤ → ℕ → List ℤ → Bool
-rowsStay dx dy zero rows = true
-rowsStay dx dy (suc n) rows = rowStays dx dy rows && rowsStay dx dy n (drop rowWidth rows)
+abbrev pub rowsStay : ℤ → ℤ → ℕ → List ℤ → Bool
+rowsStay dx dy n rows = everyRow (rowStays dx dy) n rows
 
 -- neither part is too far, and every coordinate stays
 unfoldable pub isMove : ℤ → ℤ → ℕ → Tables → Bool

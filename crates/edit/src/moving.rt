@@ -12,9 +12,8 @@ ghost use Rattle.edit.specs.Answers.{tablesAt};
 ghost use Rattle.edit.specs.Moves.{isPart, rowStays, rowsStay, movedRows, movedTables, moveOf};
 ghost use Rattle.edit.specs.Used.{pairStays, pairShifted, vertexMost, vertexCount, isMoveOf, movedPoints};
 use crate::Edited;
-use crate::ROW_WIDTH;
-use crate::VERTICES_PLACE;
 use heading::Header;
+use kinds::ROW_WIDTH;
 use made::Verdict;
 use made::count_at;
 use made::judge;
@@ -30,6 +29,8 @@ const REAL_MOST: i64 = 99_999_999_999;
 const X_PLACE: usize = 5;
 
 const X2_PLACE: usize = 7;
+
+const VERTICES_PLACE: usize = 11;
 
 // A part of a move that is not too far.
 fn is_part(by: i64) -> bool

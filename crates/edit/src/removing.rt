@@ -113,3 +113,64 @@ fn end_of(count: usize, rows: &[i64]) -> Stand
         points: 2 * (count_at(own, FIRST_POINT_PLACE) + count_at(own, VERTICES_PLACE)),
     }
 }
+
+// Takes out the row that stands at d, of a sheet that was judged. The rows are closed up before the starts fall: the freed row keeps what it held.
+fn remove_at(
+    count: usize,
+    rows: &mut [i64],
+    letters: &mut [u8],
+    islands: &mut [u16],
+    points: &mut [i64],
+    row: usize,
+    d: Stand,
+)
+    requires { ⌜ (judgeRows Loose count noneBefore (tablesOf (now rows) (now letters) (now islands) (now points)) ≡ Fine) × (row < count) × (d ≡ standOf row (now rows)) ⌝ }
+    ensures { λ _. ⌜ now (rows .exit) ≡ removedTables count row (tablesOf (now (rows .entry)) (now (letters .entry)) (now (islands .entry)) (now (points .entry))) .rows ⌝ }
+    ensures { λ _. ⌜ now (letters .exit) ≡ removedTables count row (tablesOf (now (rows .entry)) (now (letters .entry)) (now (islands .entry)) (now (points .entry))) .letters ⌝ }
+    ensures { λ _. ⌜ now (islands .exit) ≡ removedTables count row (tablesOf (now (rows .entry)) (now (letters .entry)) (now (islands .entry)) (now (points .entry))) .islands ⌝ }
+    ensures { λ _. ⌜ now (points .exit) ≡ removedTables count row (tablesOf (now (rows .entry)) (now (letters .entry)) (now (islands .entry)) (now (points .entry))) .points ⌝ }
+{
+    let r = d.row;
+    let l = count_at(&rows[r..], LETTERS_PLACE);
+    let i = count_at(&rows[r..], ISLANDS_PLACE);
+    let v = count_at(&rows[r..], VERTICES_PLACE);
+    let end = end_of(count, rows);
+    let letters_end = end.letters;
+    let islands_end = end.islands;
+    let points_end = end.points;
+    let rows_end = end.row;
+    let letters_at = d.letters;
+    let islands_at = d.islands;
+    let points_at = d.points;
+    close_letters(letters, letters_at, l, letters_end);
+    close_islands(islands, islands_at, i, islands_end);
+    close_numbers(points, points_at, 2 * v, points_end);
+    close_numbers(rows, r, ROW_WIDTH, rows_end);
+    lower_rows(count - 1 - row, &mut rows[r..], l, i, v);
+}
+
+// Takes a row out. Any code is well made.
+pub fn remove_row(
+    header: Header,
+    count: usize,
+    rows: &mut [i64],
+    letters: &mut [u8],
+    islands: &mut [u16],
+    points: &mut [i64],
+    row: usize,
+) -> Edited
+    ensures { λ r. ⌜ r ≡ removeOf header count (tablesOf (now (rows .entry)) (now (letters .entry)) (now (islands .entry)) (now (points .entry))) row ⌝ }
+    ensures { λ r. ⌜ now (rows .exit) ≡ tablesAt r (removedTables count row (tablesOf (now (rows .entry)) (now (letters .entry)) (now (islands .entry)) (now (points .entry)))) (tablesOf (now (rows .entry)) (now (letters .entry)) (now (islands .entry)) (now (points .entry))) .rows ⌝ }
+    ensures { λ r. ⌜ now (letters .exit) ≡ tablesAt r (removedTables count row (tablesOf (now (rows .entry)) (now (letters .entry)) (now (islands .entry)) (now (points .entry)))) (tablesOf (now (rows .entry)) (now (letters .entry)) (now (islands .entry)) (now (points .entry))) .letters ⌝ }
+    ensures { λ r. ⌜ now (islands .exit) ≡ tablesAt r (removedTables count row (tablesOf (now (rows .entry)) (now (letters .entry)) (now (islands .entry)) (now (points .entry)))) (tablesOf (now (rows .entry)) (now (letters .entry)) (now (islands .entry)) (now (points .entry))) .islands ⌝ }
+    ensures { λ r. ⌜ now (points .exit) ≡ tablesAt r (removedTables count row (tablesOf (now (rows .entry)) (now (letters .entry)) (now (islands .entry)) (now (points .entry)))) (tablesOf (now (rows .entry)) (now (letters .entry)) (now (islands .entry)) (now (points .entry))) .points ⌝ }
+{
+    match seek(header, count, rows, letters, islands, points, row) {
+        Sought::At(d) => {
+            remove_at(count, rows, letters, islands, points, row, d);
+            Edited::Done(count - 1)
+        }
+        Sought::Missing => Edited::Missing,
+        Sought::Refused(v) => Edited::Refused(v),
+    }
+}

@@ -1,5 +1,5 @@
 -- `edit::move_sheet` meets its contract: the verdict decides. Assumes nothing.
-use mathlib.Core.Path.{refl, sym, _∙_}
+use mathlib.Core.Path.{refl}
 use Rattle.made.specs.Made.{tablesOf}
 use borrow.Author.Needs.{needs}
 use Rattle.edit.proofs.SheetMoves.{judged-long, move-after, sheet-moved, sheet-off}
@@ -22,7 +22,7 @@ same-length-2 : tie.Need-same-length-2
 same-length-2 c = search needs
 
 returns : tie.Need-returns
-returns c = let s = c .before .before .before .before .before .before .before .before .before .before .before .before .before in sheet-moved (s .args .header) (s .args .count) (tablesOf (s .args .rows .now) (s .args .letters .now) (s .args .islands .now) (s .args .points .now)) (s .args .dx) (s .args .dy) _ (c .before .before .before .before .before .before .before .before .judge .ensures) (c .before .before .before .before .before .before .enum-told .given .1) (s .fits .dx) (s .fits .dy) _ (c .before .before .before .move-judged .ensures .0) _ _ (c .before .before .before .move-judged .ensures .1) (c .before .before .before .move-judged .ensures .2) (c .if1 .taken)
+returns c = let s = c .before .before .before .before .before .before .before .before .before .before .before .before .before in sheet-moved (s .args .header) (s .args .count) (tablesOf (s .args .rows .now) (s .args .letters .now) (s .args .islands .now) (s .args .points .now)) (s .args .dx) (s .args .dy) _ (c .before .before .before .before .before .before .before .before .judge .ensures) (c .before .before .before .before .before .before .enum-told .given .1) (s .fits .dx) (s .fits .dy) _ (c .before .before .before .move-judged .ensures .0) _ _ (c .before .before .before .move-judged .ensures .1 .0) (c .before .before .before .move-judged .ensures .1 .1) (c .if1 .taken)
 
 enum-told-2 : tie.Need-enum-told-2
 enum-told-2 c = search needs
@@ -40,7 +40,7 @@ same-length-4 : tie.Need-same-length-4
 same-length-4 c = search needs
 
 returns-2 : tie.Need-returns-2
-returns-2 c = let s = c .before .before .before .before .before .before .before .before .before .before .before .before .before in sheet-off (s .args .header) (s .args .count) (tablesOf (s .args .rows .now) (s .args .letters .now) (s .args .islands .now) (s .args .points .now)) (s .args .dx) (s .args .dy) _ (c .before .before .before .before .before .before .before .before .judge .ensures) (c .before .before .before .before .before .before .enum-told .given .1) (s .fits .dx) (s .fits .dy) _ (c .before .before .before .move-judged .ensures .0) _ _ (c .before .before .before .move-judged .ensures .1) (c .before .before .before .move-judged .ensures .2) (c .if1 .left)
+returns-2 c = let s = c .before .before .before .before .before .before .before .before .before .before .before .before .before in sheet-off (s .args .header) (s .args .count) (tablesOf (s .args .rows .now) (s .args .letters .now) (s .args .islands .now) (s .args .points .now)) (s .args .dx) (s .args .dy) _ (c .before .before .before .before .before .before .before .before .judge .ensures) (c .before .before .before .before .before .before .enum-told .given .1) (s .fits .dx) (s .fits .dy) _ (c .before .before .before .move-judged .ensures .0) _ _ (c .before .before .before .move-judged .ensures .1 .0) (c .before .before .before .move-judged .ensures .1 .1) (c .if1 .left)
 
 same-length-5 : tie.Need-same-length-5
 same-length-5 c = search needs
@@ -49,7 +49,7 @@ same-length-6 : tie.Need-same-length-6
 same-length-6 c = search needs
 
 returns-3 : tie.Need-returns-3
-returns-3 c = let s = c .before .before .before .before .before .before .before in (move-after (s .args .header) (s .args .count) (tablesOf (s .args .rows .now) (s .args .letters .now) (s .args .islands .now) (s .args .points .now)) (s .args .dx) (s .args .dy) _ (c .before .before .judge .ensures) _ (c .enum-told2 .given .1), refl, refl)
+returns-3 c = let s = c .before .before .before .before .before .before .before in (move-after (s .args .header) (s .args .count) (tablesOf (s .args .rows .now) (s .args .letters .now) (s .args .islands .now) (s .args .points .now)) (s .args .dx) (s .args .dy) _ (c .before .before .judge .ensures) _ (c .enum-told2 .given .1), (refl, refl))
 
 same-length-7 : tie.Need-same-length-7
 same-length-7 c = search needs
@@ -58,7 +58,7 @@ same-length-8 : tie.Need-same-length-8
 same-length-8 c = search needs
 
 returns-4 : tie.Need-returns-4
-returns-4 c = let s = c .before .before .before .before .before .before .before .before in (move-after (s .args .header) (s .args .count) (tablesOf (s .args .rows .now) (s .args .letters .now) (s .args .islands .now) (s .args .points .now)) (s .args .dx) (s .args .dy) _ (c .before .before .before .judge .ensures) _ (c .before .k .given .1), refl, refl)
+returns-4 c = let s = c .before .before .before .before .before .before .before .before in (move-after (s .args .header) (s .args .count) (tablesOf (s .args .rows .now) (s .args .letters .now) (s .args .islands .now) (s .args .points .now)) (s .args .dx) (s .args .dy) _ (c .before .before .before .judge .ensures) _ (c .before .k .given .1), (refl, refl))
 
 same-length-9 : tie.Need-same-length-9
 same-length-9 c = search needs
@@ -67,7 +67,7 @@ same-length-10 : tie.Need-same-length-10
 same-length-10 c = search needs
 
 returns-5 : tie.Need-returns-5
-returns-5 c = let s = c .before .before .before .before .before .before .before .before in (move-after (s .args .header) (s .args .count) (tablesOf (s .args .rows .now) (s .args .letters .now) (s .args .islands .now) (s .args .points .now)) (s .args .dx) (s .args .dy) _ (c .before .before .before .judge .ensures) _ (c .before .k2 .given .1), refl, refl)
+returns-5 c = let s = c .before .before .before .before .before .before .before .before in (move-after (s .args .header) (s .args .count) (tablesOf (s .args .rows .now) (s .args .letters .now) (s .args .islands .now) (s .args .points .now)) (s .args .dx) (s .args .dy) _ (c .before .before .before .judge .ensures) _ (c .before .k2 .given .1), (refl, refl))
 
 pub move-sheet-spec : {M : Type 1} → statement M
 move-sheet-spec =

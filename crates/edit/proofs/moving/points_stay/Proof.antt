@@ -38,7 +38,7 @@ add-k : tie.Need-add-k Inv-loop μ-loop
 add-k c = search needs
 
 loop-less : tie.Need-loop-less Inv-loop μ-loop
-loop-less c = let h = let h = c .before .before .loop-test .taken in omega arith
+loop-less c = let h = c .before .before .loop-test .taken in omega arith
 
 loop-again : tie.Need-loop-again Inv-loop μ-loop
 loop-again c = (omega (arith, c .before .before .loop-test .taken), points-on _ _ _ _ (c .before .before .before .before .pre .0) _ (c .before .before .before .loop .inv .1) (c .before .before .loop-test .taken) _ (c .before .pair-stays .ensures) (c .if1 .left))
