@@ -10,6 +10,10 @@
  *   A refusal   alters nothing that was lent.
  *   Numbers     are in thousandths where a file has decimals: a scale of 1000.000 is 1000000, and a coordinate in metres
  *               is one in millimetres.
+ *   Stack       is said of each function in bytes, on x86-64: all that a call takes below the frame that calls, its arguments and its
+ *               answer counted, the most over a small and a giant sheet (bench/stack). A host with little stack links with
+ *               -Wl,-z,now: else the first call of a function by its name, memcpy's too, has the dynamic linker look it up
+ *               there, once, with some 3,600 bytes.
  */
 #ifndef CXF_H
 #define CXF_H
@@ -28,6 +32,7 @@ extern "C" {
        if (cxf_interface() != CXF_INTERFACE) .. */
 #define CXF_INTERFACE 3
 
+/* The library's number. Stack: 24 bytes. */
 uint64_t cxf_interface(void);
 
 /* ---- limits ---------------------------------------------------------------------------------------------------------- */
@@ -170,7 +175,7 @@ typedef struct {
 /* Reads a whole file into four lent tables: rows, 15 numbers each; letters; island counts; points, x and y after each other.
    The room of a table is rows_len / 15 rows, letters_len letters, islands_len counts, points_len / 2 points. CXF_ROWS_MOST and
    the three beside it are enough for any file. To learn what a file needs, ask with four lengths of 0: the answer is 14 and the
-   needs (0 where the sheet has no rows). Past the used part no table is altered. */
+   needs (0 where the sheet has no rows). Past the used part no table is altered. Stack: 1,928 bytes. */
 cxf_reading cxf_read(const uint8_t *src, size_t src_len, uint64_t mode,
                      int64_t *rows, size_t rows_len, uint8_t *letters, size_t letters_len,
                      uint16_t *islands, size_t islands_len, int64_t *points, size_t points_len);
@@ -265,7 +270,7 @@ typedef struct {
 
 /* Writes a sheet in the layout of the exact mode to the start of out. After the header (6) the rows are judged in order, each for
    15 and then for its code (10), so a 10 in row 0 comes before a 15 in row 1; then whether the file would be too long (1), then
-   the room (14). Past the text out is not altered. */
+   the room (14). Past the text out is not altered. Stack: 1,280 bytes. */
 cxf_written cxf_write(CXF_SHEET, uint8_t *out, size_t out_len);
 
 /* ---- borders and texts ----------------------------------------------------------------------------------------------- */
@@ -280,7 +285,7 @@ typedef struct {
     uint64_t letters, islands, vertices;
 } cxf_border;
 
-/* A row that is a border, and its class. A row that is none is refused 19. */
+/* A row that is a border, and its class. A row that is none is refused 19. Stack: 1,064 bytes. */
 cxf_border cxf_border_at(CXF_SHEET, uint64_t row);
 
 typedef struct {
@@ -289,7 +294,7 @@ typedef struct {
     uint64_t centroid;      /* 1 where it is a TESTO of size 0: a raster parcel's centroid. A row may be both */
 } cxf_text;
 
-/* Of any row: one that is no TESTO answers 0 and 0, and is not refused. */
+/* Of any row: one that is no TESTO answers 0 and 0, and is not refused. Stack: 936 bytes. */
 cxf_text cxf_text_at(CXF_SHEET, uint64_t row);
 
 /* ---- areas ----------------------------------------------------------------------------------------------------------- */
@@ -299,10 +304,11 @@ typedef struct {
     int64_t doubled; /* twice the area, in square millimetres */
 } cxf_area;
 
-/* One ring of a border, judged alone: ring 0 is the outer one, ring i is island i. 17, or 19 where there is no such ring. */
+/* One ring of a border, judged alone: ring 0 is the outer one, ring i is island i. 17, or 19 where there is no such ring.
+   Stack: 1,128 bytes. */
 cxf_area cxf_ring_area(CXF_SHEET, uint64_t row, uint64_t ring);
 
-/* The outer ring less the islands: below 0 where the islands are larger. */
+/* The outer ring less the islands: below 0 where the islands are larger. Stack: 1,016 bytes. */
 cxf_area cxf_net_area(CXF_SHEET, uint64_t row);
 
 /* ---- tallies --------------------------------------------------------------------------------------------------------- */
@@ -314,12 +320,12 @@ typedef struct {
     int64_t figures[CXF_FIGURES];
 } cxf_tally;
 
-/* All borders of a sheet. Refused 17 or 18 it names the row; refused at all, its figures are 0. */
+/* All borders of a sheet. Refused 17 or 18 it names the row; refused at all, its figures are 0. Stack: 1,816 bytes. */
 cxf_tally cxf_tally_sheet(CXF_SHEET);
 
 /* A running tally by value: the tally with the border of a row taken, or as it was and the refusal. Begin with 24 zeros. The
    tally handed in is judged after 6, 15 and 19: a figure that is negative or too large, or a figures_len other than 24 (the
-   answer's figures are then 0), is refused 18; then come 17, and 18 of the border. */
+   answer's figures are then 0), is refused 18; then come 17, and 18 of the border. Stack: 1,624 bytes. */
 cxf_tally cxf_tally_take(const int64_t *figures, size_t figures_len, CXF_SHEET, uint64_t row);
 
 /* ---- SUP files ------------------------------------------------------------------------------------------------------- */
@@ -335,7 +341,7 @@ typedef struct {
    each. Listed are the parcels, or the borders of class CXF_OTHER of a QUADRO D'UNIONE, by the bytes of their codes, equal codes by
    rising area. The date is eight digits: year, month, day. Refused are, in this order: the header (6), the rows (15), the tally
    (17, 18), the date (21), the first row with a listed code that is too long (22), a TOTALE beyond the tally's limit (18, with no
-   row), the first figure that is too wide (23), the room (14). Past the text out is not altered. */
+   row), the first figure that is too wide (23), the room (14). Past the text out is not altered. Stack: 27,008 bytes. */
 cxf_sup cxf_sup_write(CXF_SHEET, const uint8_t *date, size_t date_len, uint8_t *out, size_t out_len);
 
 /* ---- ring check ------------------------------------------------------------------------------------------------------ */
@@ -346,7 +352,8 @@ typedef struct {
     uint64_t first, second; /* where it is not: the first faulty pair of edges, from 0; an edge of no length with itself */
 } cxf_ring;
 
-/* Whether no edge of a ring has equal ends, neighbours share only their vertex, and other edges share no point. */
+/* Whether no edge of a ring has equal ends, neighbours share only their vertex, and other edges share no point.
+   Stack: 1,272 bytes. */
 cxf_ring cxf_ring_check(CXF_SHEET, uint64_t row, uint64_t ring);
 
 /* ---- tile points ----------------------------------------------------------------------------------------------------- */
@@ -356,7 +363,7 @@ typedef struct {
     float east, south; /* the differences in millimetres, divided by 256; nothing is rounded */
 } cxf_tile;
 
-/* A point from a tile's north-west corner, all in millimetres. */
+/* A point from a tile's north-west corner, all in millimetres. Stack: 32 bytes. */
 cxf_tile cxf_tile_point(int64_t corner_x, int64_t corner_y, int64_t x, int64_t y);
 
 /* ---- masks ----------------------------------------------------------------------------------------------------------- */
@@ -372,7 +379,7 @@ typedef struct {
    where an odd number of edges have one end north of it and the other not, and cross its height strictly east of it. Refused are,
    in this order: the header (6), the rows (15), a row that is no border (19), the side (26), a ring that is too wide (17), and then,
    with 20, a grid whose corners are not all within the real range, or a vertex of the border more than CXF_MASK_REACH from the
-   corner. Refused, all rows and covered are 0. */
+   corner. Refused, all rows and covered are 0. Stack: 4,816 bytes. */
 cxf_mask cxf_mask_of(CXF_SHEET, uint64_t row, int64_t corner_x, int64_t corner_y, int64_t cell);
 
 /* ---- records and numbers --------------------------------------------------------------------------------------------- */
@@ -383,7 +390,7 @@ typedef struct {
     uint64_t next;          /* where the next record starts */
 } cxf_record;
 
-/* The record that starts at a byte. keyword_due: 0 is no, anything else is yes. */
+/* The record that starts at a byte. keyword_due: 0 is no, anything else is yes. Stack: 136 bytes. */
 cxf_record cxf_record_at(const uint8_t *src, size_t src_len, uint64_t at, uint64_t mode, uint64_t keyword_due);
 
 typedef struct {
@@ -394,7 +401,7 @@ typedef struct {
 
 /* The content of a record as an integer, 0 to 9999, or as a real; 8 where it is malformed. The column, from 1, is that of the first
    byte that no accepted number of that form and mode has there after the same beginning, however long the record, or one past the end if
-   the content only stops early. */
+   the content only stops early. Stack: 184 bytes and 288. */
 cxf_number cxf_integer(const uint8_t *content, size_t content_len, uint64_t mode);
 cxf_number cxf_real(const uint8_t *content, size_t content_len, uint64_t mode);
 
@@ -407,7 +414,8 @@ typedef struct {
 
 /* What the listing program writes for this input: the header, six lines of figures, the number of rows. A text that says
    REFUSED, with the refusal's number, its record (or the tally's row), offset and column, is an answer as well: number is 0 whenever
-   the text stands in out. No text is longer than CXF_LISTING_MOST. The tables are on the stack: some 170,000 bytes. */
+   the text stands in out. No text is longer than CXF_LISTING_MOST. The tables are on the stack.
+   Stack: 161,336 bytes. */
 cxf_listed cxf_listing(const uint8_t *src, size_t src_len, uint8_t *out, size_t out_len);
 
 #ifdef __cplusplus

@@ -88,7 +88,7 @@ unfolding net
 wide-net = (refl, refl)
 
 -- 15 comes before 19 and names the row; 6 comes first
-faulty : numberOf (ringAreaAt header 2 (tablesOf (label ++ label) (text "7") [] []) 5 0) ≡ 15
+faulty : numberOf (ringAreaAt header 2 (tablesOf (label ++ placed 1 0 0 label) (text "7") [] []) 5 0) ≡ 15
 unfolding computed
 faulty = refl
 
@@ -99,7 +99,7 @@ bad-header = refl
 -- ---- two borders: the second row's rings stand behind the first row's
 
 abbrev pair : Tables
-pair = tablesOf (border ++ border) (text "77") (4 ∷ 4 ∷ []) (ring 10 ++ ring 2 ++ ring 7 ++ ring 3)
+pair = tablesOf (border ++ placed 1 1 8 border) (text "77") (4 ∷ 4 ∷ []) (ring 10 ++ ring 2 ++ ring 7 ++ ring 3)
 
 second-row : (ringAreaAt header 2 pair 1 0 ≡ Doubled (pos 49)) × (ringAreaAt header 2 pair 1 1 ≡ Doubled (pos 9)) × (ringAreaAt header 2 pair 0 1 ≡ Doubled (pos 4))
     × (netAreaAt header 2 pair 1 ≡ Doubled (pos 40)) × (netAreaAt header 2 pair 0 ≡ Doubled (pos 96))

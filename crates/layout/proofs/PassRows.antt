@@ -116,4 +116,4 @@ rest-rows r =
 
 -- what the machine goes on by from keyword to keyword is well made rows
 pub pass-rows : {mode : Mode} {o : Tables} {bs : List ℕ} → Pass mode Due empty bs Due o → (n : ℕ) × MadeRows mode n o bs
-pass-rows p = rest-rows (pass-rest p refl empty empty refl refl tt empty-whole tt)
+pass-rows p = rest-rows (pass-rest p refl empty empty (sym (followed-empty empty)) refl tt empty-whole tt)

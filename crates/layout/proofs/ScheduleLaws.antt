@@ -135,8 +135,7 @@ starts-unread kind h =
     let a = not (hasField kind firstLetterPlace) in
     let b = not (hasField kind firstIslandPlace) in
     let c = not (hasField kind firstPointPlace) in
-    let e : (a && b && c) ≡ true = below-at (kindMost + 1) noneAtStarts kind refl (omega arith) in
-    (
+    let e : (a && b && c) ≡ true = below-at (kindMost + 1) noneAtStarts kind refl (omega arith) in (
       not-true (hasField kind firstLetterPlace) (and-left a b (and-left (a && b) c e)),
       not-true (hasField kind firstIslandPlace) (and-right a b (and-left (a && b) c e)),
       not-true (hasField kind firstPointPlace) (and-right (a && b) c e),

@@ -257,6 +257,9 @@ module _ (κs : Lfts 6) (a : ArgsD cxf-write.signature κs) (r : ResD cxf-write.
     pub cxf-write-faulty-untouched : cxfTables ≡ sheetWith 2 14 → cxfLeft ≡ cxfLent
     cxf-write-faulty-untouched t = cxf-untouched (Faulty 1) (rw (its-header, n, t) (faulty _))
 
+    pub cxf-write-false-start : cxfTables ≡ falseStart → (r ≡ record { number = 15; row = 1; length = 0 }) × (cxfLeft ≡ cxfLent)
+    cxf-write-false-start t = (cxf-told (Refused (Faulty 1)) (rw (its-header, n, t) (misplaced _)), cxf-untouched (Faulty 1) (rw (its-header, n, t) (misplaced _)))
+
     pub cxf-write-unlisted : cxfTables ≡ sheetWith 0 12 → r ≡ record { number = 10; row = 1; length = 0 }
     cxf-write-unlisted t = cxf-told (Refused (Unlisted 1)) (rw (its-header, n, t) (unlisted _))
 

@@ -1,11 +1,11 @@
 -- The ways through the code: the loop that places digits, and a lemma for each answer. Assumes nothing.
-use Prim.Native.Nat.{ℕ, suc, _+_, _-_, _*_, _/_, _%_, _^_, _≤_, _<_, zero-le}
-use mathlib.Core.Path.{_≡_, refl, sym, _∙_, ap}
+use Prim.Native.Nat.{ℕ, zero, suc, _+_, _-_, _*_, _/_, _%_, _^_, _≤_, _<_, zero-le}
+use mathlib.Core.Path.{_≡_, refl, sym, _∙_, ap, subst}
 use mathlib.Core.List.{List, [], _∷_, _++_, append-assoc, append-nil}
 use mathlib.Core.Bool.{Bool, true, false, cond, _&&_}
 use native.Mathlib.Omega.{arith}
-use lib.ListN.{length, getD, take, drop, set, replicate, length-append, length-replicate, replicate-append-replicate, drop-of-length-le}
-use lib.Seq.{take-at, drop-at, take-length, take-append-le, drop-append-add, drop-drop, sets-eq, length-take-le}
+use lib.ListN.{length, getD, take, drop, set, replicate, length-append, length-replicate, replicate-append-replicate}
+use lib.Seq.{take-at, take-append-le, drop-append-add, drop-drop, sets-eq, length-take-le}
 use lib.Dec.{T, leb}
 use lib.IntN.{ℤ, pos, negsuc, negℤ, natAbs, _-ℤ_, +ℤ-idl}
 use lib.Signed.{ltZ, leZ, nonNeg}
@@ -20,7 +20,7 @@ use Rattle.number.specs.Number.{isReal}
 use Rattle.spelling.specs.Stored.{hasRoom, Stored}
 use Rattle.spelling.specs.Spelling.{digits, places, countText, aligned, integerText, minus, decimal, realText}
 use Rattle.spelling.specs.Figures.{wholeText, isNarrow, figureText}
-use Rattle.spelling.proofs.DigitLaws.{digits-few, digits-more, digits-fit, digits-most, shorter}
+use Rattle.spelling.proofs.DigitLaws.{value-below, digits-few, digits-more, digits-all, digits-some, digits-fit, digits-most, digits-value, shorter}
 use Rattle.spelling.proofs.SpellingLaws.{body-length, decimal-length, in-plus, in-minus, minus-none}
 use Rattle.spelling.proofs.FigureLaws.{digits-wider, narrow-plus, narrow-minus}
 
@@ -250,14 +250,6 @@ pub integer-made : (v r : ℕ) (l d : List ℕ) → (r + length (digits 4 v) ≡
 unfolding integerText
 integer-made v r l d e = e .1 ∙ aligned-over 4 4 r (digits 4 v) l (e .0) (omega (arith, e .0)) (omega arith)
 
--- digits at the end of an array are the part from their start on
-part-made : (w r : ℕ) (s text : List ℕ) → r + length s ≡ w → text ≡ pasted (blanks w) r s → take (w - r) (drop r text) ≡ s
-part-made w r s text e q =
-    let n : length (take r (blanks w)) ≡ r = length-take-le r (blanks w) (omega (arith, length-replicate {A = ℕ} w 32)) in
-    let z : drop (r + length s) (blanks w) ≡ [] = drop-of-length-le (blanks w) {i = r + length s} (omega (arith, length-replicate {A = ℕ} w 32)) in
-    let k : w - r ≡ length s = omega arith in
-    rw (q, z, k, append-nil, drop-at (take r (blanks w)) s r n) (take-length s)
-
 -- a sign finds room before the digits
 sign-room : (z : ℤ) → isReal z ≡ true → length (minus z) + length (digits 8 (natAbs z / 1000)) ≤ 8
 sign-room z h = omega (arith, body-length z h, length-append (minus z) (decimal (natAbs z)), decimal-length (natAbs z))
@@ -420,23 +412,65 @@ module _ (p : ℤ → Bool) (w : ℕ) (z : ℤ) (n : ℕ) (f : SFits w64 z) (r :
   pub signed-done : r ≡ true → w ≤ n → true ≡ (p z && leb w n)
   signed-done x k = rw (← test-is, x, le-leb w n k)
 
-module _ (v r : ℕ) (text : List ℕ) (e : (r + length (digits 20 v) ≡ 20) × (text ≡ pasted (blanks 20) r (digits 20 v))) (l : List ℕ) where
-  count-size : 20 - r ≡ length (countText v)
+-- the digits of a listed number are counted as they are taken off, the last first: `rest` has those to come, fewer than `left`
+pub record Counting (v size rest : ℕ) : Type 0 where
+  pub left : ℕ
+  pub some : 1 ≤ left
+  pub all : size + left ≡ 21
+  pub few : rest < 10 ^ left
+  pub counted : length (countText v) + 1 ≡ size + length (digits left rest)
+
+pub counting-start : (v : ℕ) → v < 10 ^ 20 → Counting v 1 v
+unfolding countText
+counting-start v h = record { left = 20; some = omega arith; all = refl; few = h; counted = omega arith }
+
+module _ (v size rest : ℕ) (p : Counting v size rest) where
+  pub counting-step : 10 ≤ rest → Counting v (size + 1) (rest / 10)
+  counting-step h = go (p .left) (p .all) (p .few) (p .counted)
+    where
+      go : (w : ℕ) → size + w ≡ 21 → rest < 10 ^ w → length (countText v) + 1 ≡ size + length (digits w rest) → Counting v (size + 1) (rest / 10)
+      go zero a f c = absurd (omega arith)
+      go (suc w) a f c =
+          let s = shorter w rest h f in
+          let d = ap length (digits-more w rest h) ∙ length-append (digits w (rest / 10)) ((48 + rest % 10) ∷ []) in
+          record { left = w; some = s .0; all = omega arith; few = s .1; counted = omega arith }
+
+  pub counting-fits : Fits w64 (size + 1)
+  counting-fits = record { fits = omega (arith, p .all) }
+
+  pub counting-end : rest < 10 → size ≡ length (countText v)
+  counting-end h = go (p .left) (p .some) (p .counted)
+    where
+      go : (w : ℕ) → 1 ≤ w → length (countText v) + 1 ≡ size + length (digits w rest) → size ≡ length (countText v)
+      go zero s c = absurd (omega arith)
+      go (suc w) s c = omega (arith, ap length (digits-few w rest h))
+
+-- they are placed before that count of them, so from the start on
+module _ (v size : ℕ) (h : v < 10 ^ 20) (e : size ≡ length (countText v)) where
+  pub count-room : (1 ≤ size) × (v < 10 ^ size)
   unfolding countText
-  count-size = omega (arith, e .0)
+  count-room = (
+    rw e (digits-some 20 v (omega arith)),
+    rw e (subst (λ (n : ℕ). n < 10 ^ length (digits 20 v)) (digits-value 20 v h) (omega (arith, value-below (digits 20 v) 0 1 (digits-all 20 v) (omega arith)))),
+  )
 
-  abbrev fits : Bool
-  fits = leb (length (countText v)) (length l)
-
-  pub count-tight : length l < 20 - r → (0 ≡ cond fits (length (countText v)) 0) × (l ≡ cond fits (over (countText v) l) l)
-  count-tight h = rw (lt-leb (length (countText v)) (length l) (omega (arith, count-size))) (refl, refl)
-
-  pub count-done : (d : List ℕ) → 20 - r ≤ length l → d ≡ over (take (20 - r) (drop r text)) l
-      → (20 - r ≡ cond fits (length (countText v)) 0) × (d ≡ cond fits (over (countText v) l) l)
+  count-digits : digits size v ≡ countText v
   unfolding countText
-  count-done d h q =
-      rw (le-leb (length (countText v)) (length l) (omega (arith, count-size)))
-      (count-size, q ∙ rw (part-made 20 r (digits 20 v) text (e .0) (e .1)))
+  count-digits = sym (digits-wider size 20 v (count-room .0) (rw e (digits-most 20 v)) (count-room .1))
+
+  module _ (l : List ℕ) where
+    abbrev fits : Bool
+    fits = leb (length (countText v)) (length l)
+
+    pub count-tight : length l < size → (0 ≡ cond fits (length (countText v)) 0) × (l ≡ cond fits (over (countText v) l) l)
+    count-tight k = rw (lt-leb (length (countText v)) (length l) (omega arith)) (refl, refl)
+
+    pub count-done : (r : ℕ) (d : List ℕ) → size ≤ length l → (r + length (digits size v) ≡ size) × (d ≡ pasted l r (digits size v))
+        → (size ≡ cond fits (length (countText v)) 0) × (d ≡ cond fits (over (countText v) l) l)
+    count-done r d k q =
+        let z : r ≡ 0 = omega (arith, q .0, ap length count-digits) in
+        let s : 0 + length (countText v) ≡ length (countText v) = omega arith in
+        rw (le-leb (length (countText v)) (length l) (omega arith)) (e, q .1 ∙ rw (z, count-digits, s))
 
 -- ---- bytes at a place
 

@@ -26,8 +26,6 @@ const REAL_MOST: i64 = 99_999_999_999;
 
 const REAL_WIDTH: usize = 12;
 
-const COUNT_WIDTH: usize = 20;
-
 // The numbers of at most 10 characters, a minus counted.
 const FIGURE_LEAST: i64 = -999_999_999;
 
@@ -221,19 +219,30 @@ pub fn spell_real(value: i64, out: &mut [u8]) -> bool
     false
 }
 
+// How many digits a number has, with no zero in front except for 0 itself.
+fn count_size(value: usize) -> usize
+    ensures { λ r. ⌜ r ≡ length (countText value) ⌝ }
+{
+    let mut size = 1;
+    let mut rest = value;
+    while rest >= 10 {
+        rest /= 10;
+        size += 1;
+    }
+    size
+}
+
 // How many digits of a number now stand at the start of `out`, with no zero in front except for 0 itself;
 // 0, and `out` as it was, where it is shorter.
 pub fn spell_count(value: usize, out: &mut [u8]) -> usize
     ensures { λ r. ⌜ r ≡ cond (leb (length (countText value)) (length (now (out .entry)))) (length (countText value)) 0 ⌝ }
     ensures { λ _. ⌜ now (out .exit) ≡ cond (leb (length (countText value)) (length (now (out .entry)))) (over (countText value) (now (out .entry))) (now (out .entry)) ⌝ }
 {
-    let mut text = [b' '; COUNT_WIDTH];
-    let at = put_digits(&mut text, COUNT_WIDTH, value);
-    let size = COUNT_WIDTH - at;
+    let size = count_size(value);
     if out.len() < size {
         return 0;
     }
-    copy(&text[at..], out);
+    put_digits(out, size, value);
     size
 }
 
