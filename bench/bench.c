@@ -1,6 +1,6 @@
 /* How fast the library is, beside the independent implementation of tests/reference.c, in one run.
-   bench [RUNS]: the best of so many runs (10) of reading, writing, the tally, the ring check, the SUP file and masks, at a quarter and
-   at full size (12 MB); one memchr pass over the file is the floor. */
+   bench [RUNS]: the best of so many runs (10) of reading, writing, the tally, the ring check, the SUP file, masks, removing and moving,
+   at a quarter and at full size (12 MB); one memchr pass over the file is the floor. */
 #define _POSIX_C_SOURCE 200809L
 #include "generate.h"
 #include "reference.h"
@@ -22,10 +22,14 @@ typedef struct {
     cxf_ring (*ring)(CXF_SHEET, uint64_t, uint64_t);
     cxf_sup (*sup)(CXF_SHEET, const uint8_t *, size_t, uint8_t *, size_t);
     cxf_mask (*mask)(CXF_SHEET, uint64_t, int64_t, int64_t, int64_t);
+    cxf_edited (*remove)(CXF_TABLES, uint64_t);
+    cxf_edited (*move)(CXF_TABLES, int64_t, int64_t);
 } party;
 
-static const party PARTIES[] = { { "library", cxf_read, cxf_write, cxf_tally_sheet, cxf_ring_check, cxf_sup_write, cxf_mask_of },
-                                 { "reference", ref_read, ref_write, ref_tally_sheet, ref_ring_check, ref_sup_write, ref_mask_of } };
+static const party PARTIES[] = {
+    { "library", cxf_read, cxf_write, cxf_tally_sheet, cxf_ring_check, cxf_sup_write, cxf_mask_of, cxf_remove, cxf_move },
+    { "reference", ref_read, ref_write, ref_tally_sheet, ref_ring_check, ref_sup_write, ref_mask_of, ref_remove, ref_move },
+};
 enum { LIBRARY, REFERENCE, COUNT };
 
 static int runs = 10;
@@ -175,6 +179,21 @@ static uint64_t fine_item(const party *p, const job *j, tables *to, bytes *out) 
     return mask_about(p, j, 500);
 }
 
+/* The first row is removed from a copy, which is made each time; a move there and back needs none. */
+static uint64_t remove_item(const party *p, const job *j, tables *to, bytes *out) {
+    const tables *s = &j->sheet;
+    (void)out;
+    memcpy(to->rows, s->rows, 8 * s->rows_len), memcpy(to->letters, s->letters, s->letters_len);
+    memcpy(to->islands, s->islands, 2 * s->islands_len), memcpy(to->points, s->points, 8 * s->points_len);
+    return p->remove(s->kind, s->name, s->name_len, s->scale, s->count, to->rows, s->rows_len, to->letters, s->letters_len, to->islands,
+                     s->islands_len, to->points, s->points_len, 0).number;
+}
+static uint64_t move_item(const party *p, const job *j, tables *to, bytes *out) {
+    const tables *s = &j->sheet;
+    (void)to, (void)out;
+    return p->move(SHEET(s), 1000, -1000).number | p->move(SHEET(s), -1000, 1000).number;
+}
+
 static void measure(const char *name, item run, job full, job quarter) {
     const job *jobs[2] = { &full, &quarter };
     for (int size = 0; size < 2; size++) {
@@ -239,6 +258,8 @@ int main(int argc, char **argv) {
     measure("mask 9999", mask_item, job_of(round_mask(GIANT), false), job_of(round_mask(GIANT / 4), false));
     measure("mask fine", fine_item, job_of(round_mask(GIANT), false), job_of(round_mask(GIANT / 4), false));
     measure("mask town", mask_item, exact, exact4);
+    measure("remove", remove_item, exact, exact4);
+    measure("move", move_item, exact, exact4);
     measure("sup", sup_item, exact, exact4);
     measure("sup parcels", sup_item, job_of(parcels(FULL), false), job_of(parcels(FULL / 4), false));
     return 0;

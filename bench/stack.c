@@ -160,6 +160,12 @@ static uint64_t call_listing(work *w)
 static uint64_t call_sup(work *w) { return cxf_sup_write(CXF_SPREAD(w->sheet), DATE, sizeof DATE - 1, w->out, w->out_len).number; }
 static uint64_t call_mask(work *w) { return cxf_mask_of(CXF_SPREAD(w->sheet), 0, -2100000, 4300000, 10000).number; }
 
+#define TABLES(w)                                                                                                        \
+    (w)->sheet.kind, (w)->sheet.name, (w)->sheet.name_len, (w)->sheet.scale, (w)->sheet.count, (w)->rows, (w)->sheet.rows_len,   \
+        (w)->letters, (w)->sheet.letters_len, (w)->islands, (w)->sheet.islands_len, (w)->points, (w)->sheet.points_len
+static uint64_t call_remove(work *w) { return cxf_remove(TABLES(w), 0).number; }
+static uint64_t call_move(work *w) { return cxf_move(TABLES(w), 1, -1).number; }
+
 static const struct { const char *name; uint64_t (*call)(work *); } FUNCTIONS[] = {
     { "cxf_interface", call_interface },
     { "cxf_read", call_read },
@@ -178,6 +184,8 @@ static const struct { const char *name; uint64_t (*call)(work *); } FUNCTIONS[] 
     { "cxf_listing", call_listing },
     { "cxf_sup_write", call_sup },
     { "cxf_mask_of", call_mask },
+    { "cxf_remove", call_remove },
+    { "cxf_move", call_move },
 };
 
 /* ---- the painted stack ---- */
@@ -204,6 +212,7 @@ static size_t used_by(const char *name, uint64_t (*call)(work *), work *w, uint8
     static const uint8_t paints[2] = { 0xA5, 0x3C };
     size_t most = 0;
     for (int i = 0; i < 2; i++) {
+        if ((call == call_remove || call == call_move) && read_file(w) != 0) exit(1); /* as the call before it may have altered the sheet */
         probe p = { call, w, stack + 4096, paints[i], 0, 0 };
         pthread_attr_t how;
         pthread_t thread;

@@ -56,6 +56,8 @@ enum {
 #define CXF_REAL_LEAST (-INT64_C(9999999999))
 #define CXF_REAL_MOST INT64_C(99999999999)
 #define CXF_TALLY_MOST INT64_C(9000000000000000000)
+/* A part of a move, in millimetres, either way: what the real range is wide. */
+#define CXF_MOVE_MOST INT64_C(109999999998)
 
 /* What a file of n bytes can need at most, read in either mode: rows, letters, island counts, points. Who lends so much needs no
    call that asks for the needs, which judges the whole file once more. Proved: `counts-most`, `enough-read` in
@@ -91,6 +93,7 @@ enum {
     CXF_BAD_DATE = 21,  /* a SUP file's date that is not eight digits, with a month 01 to 12 and a day 01 to 31 */
     CXF_LONG_CODE = 22, /* a SUP file would list a border whose code has more than 11 letters: the answer names the row */
     CXF_WIDE_FIGURE = 23, /* a figure of a SUP file has more than 10 characters: the answer names the line */
+    CXF_MOVED_OFF = 24, /* a move of more than 109,999,999,998 mm, or one that takes a coordinate out of the real range */
     CXF_BAD_SIDE = 26   /* a mask's cell side that is not 1 to 10,000 mm */
 };
 
@@ -120,6 +123,7 @@ static inline const char *cxf_refusal_text(uint64_t number)
     case CXF_BAD_DATE: return "The date of a SUP file is not eight digits with a month and a day.";
     case CXF_LONG_CODE: return "The code of a border that a SUP file lists has more than 11 letters.";
     case CXF_WIDE_FIGURE: return "A figure of a SUP file has more than 10 characters.";
+    case CXF_MOVED_OFF: return "The move is too far, or takes a coordinate out of the real range.";
     case CXF_BAD_SIDE: return "The side of a mask's cells is not 1 to 10,000 mm.";
     default: return "This is not a refusal of this interface.";
     }
@@ -381,6 +385,28 @@ typedef struct {
    with 20, a grid whose corners are not all within the real range, or a vertex of the border more than CXF_MASK_REACH from the
    corner. Refused, all rows and covered are 0. Stack: 4,816 bytes. */
 cxf_mask cxf_mask_of(CXF_SHEET, uint64_t row, int64_t corner_x, int64_t corner_y, int64_t cell);
+
+/* ---- altering a sheet ------------------------------------------------------------------------------------------------ */
+
+/* A sheet whose tables may be altered: the thirteen parameters of CXF_SHEET, the four tables not const. */
+#define CXF_TABLES                                                                                       \
+    uint64_t kind, const uint8_t *name, size_t name_len, int64_t scale, uint64_t count,                  \
+    int64_t *rows, size_t rows_len, uint8_t *letters, size_t letters_len,                                \
+    uint16_t *islands, size_t islands_len, int64_t *points, size_t points_len
+
+typedef struct {
+    uint64_t number, row; /* row with 15 */
+    uint64_t count;       /* the rows at exit, where number is 0 */
+} cxf_edited;
+
+/* Takes a row out: the rows behind it, and their letters, island counts and points, close up in their order, and their starts stay true.
+   What is freed at the end of the used part, and all that stands behind it, keeps what it held. 6, 15, then 19 for no such row. */
+cxf_edited cxf_remove(CXF_TABLES, uint64_t row);
+
+/* Adds a pair of whole millimetres to every vertex, position, inner point and label point. 6, 15, then 24 where either part is beyond
+   CXF_MOVE_MOST either way or some coordinate would leave the real range; that is judged before anything is stored. The opposite move gives the
+   sheet as it stood. */
+cxf_edited cxf_move(CXF_TABLES, int64_t by_x, int64_t by_y);
 
 /* ---- records and numbers --------------------------------------------------------------------------------------------- */
 

@@ -19,12 +19,12 @@
 
 typedef enum {
     READ, WRITE, BORDER_AT, TEXT_AT, RING_AREA, NET_AREA, TALLY_SHEET, TALLY_TAKE, RING_CHECK, TILE_POINT, RECORD_AT, INTEGER, REAL,
-    LISTING, SUP_WRITE, MASK_OF, ENTRIES
+    LISTING, SUP_WRITE, MASK_OF, REMOVE, MOVE, ENTRIES
 } entry;
 
 static const char *const NAMES[ENTRIES] = {
     "read", "write", "border_at", "text_at", "ring_area", "net_area", "tally_sheet", "tally_take", "ring_check", "tile_point",
-    "record_at", "integer", "real", "listing", "sup_write", "mask_of",
+    "record_at", "integer", "real", "listing", "sup_write", "mask_of", "remove", "move",
 };
 
 /* How often the reference gave each number, so that thin coverage shows. */
@@ -38,6 +38,7 @@ static uint64_t sup_kinds[4], sup_listed_most, sup_equal_codes, sup_minus, sup_w
 static uint64_t columns[2][2][COLUMNS]; /* of integers and reals, loose and exact; the last holds all further ones */
 static uint64_t kinds_read[LAST_KIND + 1], joined_files, joined_tallies;
 static uint64_t masks_empty, masks_full, masks_part, masks_through, masks_level, masks_flat;
+static uint64_t removed[LAST_KIND + 1][4], moved_back; /* by the row's kind; only row, first, last, between */
 static uint64_t answers, differences, shown_most = 1;
 
 /* ---- What is being asked, for the report ---- */
@@ -252,6 +253,14 @@ static flat of_mask(cxf_mask a) {
     return f;
 }
 
+static flat of_edited(cxf_edited a) {
+    flat f = {.count = 0};
+    put(&f, "number", a.number);
+    put(&f, "row", a.row);
+    put(&f, "count", a.count);
+    return f;
+}
+
 /* Compares two answers; `lent` says what else went wrong with what was lent, or is null. */
 static void judge(flat library, flat reference, const char *lent) {
     bool same = lent == NULL;
@@ -331,6 +340,7 @@ static bool holds(const pen *p, const void *what) { return guarded(p) && (p->len
 /* The reference's own copies of the tables that are lent. */
 typedef struct { void *at; size_t room; } copy;
 static copy rows_copy, letters_copy, islands_copy, points_copy, out_copy;
+static copy edited_rows, edited_letters, edited_islands, edited_points;
 
 static void *copied(copy *c, const pen *p) {
     if (c->room < p->len || c->at == NULL) {
@@ -599,6 +609,46 @@ static cxf_mask try_mask(const tables *t, uint64_t row, frame f) {
     return mine;
 }
 
+#define ALTERED(t, rows, letters, islands, points)                                                                   \
+    (t)->kind, (t)->name, (t)->name_len, (t)->scale, (t)->count, rows, (t)->rows_len, letters, (t)->letters_len, islands, \
+        (t)->islands_len, points, (t)->points_len
+
+/* A row removed, or the sheet moved: on the tables that are lent and on the reference's own, which are then compared, with what
+   stands behind the used part. `result` is the sheet as the reference left it, until the next edit. */
+static cxf_edited try_edit(rng *g, const tables *t, entry what, uint64_t row, pair by, tables *result) {
+    lend_sheet(g, t);
+    ask_sheet(what, t);
+    if (what == REMOVE) {
+        arg("row", row);
+    } else {
+        arg("by_x", (uint64_t)by.x);
+        arg("by_y", (uint64_t)by.y);
+    }
+    int64_t *rows = (int64_t *)lent_rows, *my_rows = copied(&edited_rows, &ROWS);
+    int64_t *points = (int64_t *)lent_points, *my_points = copied(&edited_points, &POINTS);
+    uint8_t *letters = (uint8_t *)lent_letters, *my_letters = copied(&edited_letters, &LETTERS);
+    uint16_t *islands = (uint16_t *)lent_islands, *my_islands = copied(&edited_islands, &ISLANDS);
+    cxf_edited theirs, mine;
+    if (what == REMOVE) {
+        theirs = cxf_remove(ALTERED(t, rows, letters, islands, points), row);
+        mine = ref_remove(ALTERED(t, my_rows, my_letters, my_islands, my_points), row);
+    } else {
+        theirs = cxf_move(ALTERED(t, rows, letters, islands, points), by.x, by.y);
+        mine = ref_move(ALTERED(t, my_rows, my_letters, my_islands, my_points), by.x, by.y);
+    }
+    const char *lent = NULL;
+    if (!holds(&ROWS, my_rows)) lent = "the row table, or what lies around it, differs";
+    else if (!holds(&LETTERS, my_letters)) lent = "the letters table, or what lies around it, differs";
+    else if (!holds(&ISLANDS, my_islands)) lent = "the islands table, or what lies around it, differs";
+    else if (!holds(&POINTS, my_points)) lent = "the points table, or what lies around it, differs";
+    else if (!holds(&NAME, t->name)) lent = "the name was altered, or what lies around it";
+    judge(of_edited(theirs), of_edited(mine), lent);
+    *result = *t;
+    result->rows = my_rows, result->letters = my_letters, result->islands = my_islands, result->points = my_points;
+    if (mine.number == 0) result->count = mine.count;
+    return mine;
+}
+
 /* A row with its own parts of the tables, as a sheet of one row, its starts set to 0. It holds until the next one is asked for. */
 static tables alone(const tables *t, uint64_t row) {
     static int64_t own[ROW_WIDTH];
@@ -855,6 +905,73 @@ static void mask_once(rng *g, const tables *t, frame f) {
     }
 }
 
+static uint8_t *text_of(const tables *t, size_t *length) {
+    *length = (size_t)ref_write(OWN(t), NULL, 0).length;
+    uint8_t *text = malloc(*length + 1);
+    if (text == NULL) exit(2);
+    if (ref_write(OWN(t), text, *length).number != 0) own_fault("a sheet is not written in the length that it needs");
+    return text;
+}
+
+/* What is true of a sheet less a row: it is well made; it is written as before without that row's text, which stands behind the text
+   of the rows before it, EOF's five bytes apart; the tally lacks that border's figures. */
+static void look_at_removed(const tables *t, uint64_t row, const tables *left) {
+    static const int64_t nothing[24] = {0};
+    const cxf_tally all = ref_tally_sheet(OWN(t)), rest = ref_tally_sheet(OWN(left));
+    if (rest.number == 15) own_fault("a sheet less a row is not well made");
+    if (all.number == 0) {
+        const cxf_tally one = ref_tally_take(nothing, 24, OWN(t), row);
+        for (int i = 0; i < 24; i++)
+            if (rest.number != 0 || rest.figures[i] != all.figures[i] - one.figures[i])
+                own_fault("the tally of a sheet less a row is not the difference");
+    }
+    if (ref_write(OWN(t), NULL, 0).number != 14) return;
+    tables before = *t, up_to = *t;
+    before.count = row, up_to.count = row + 1;
+    const size_t first = (size_t)ref_write(OWN(&before), NULL, 0).length - 5, next = (size_t)ref_write(OWN(&up_to), NULL, 0).length - 5;
+    size_t n, m;
+    uint8_t *whole = text_of(t, &n), *other_text = text_of(left, &m);
+    if (m != n - (next - first) || memcmp(whole, other_text, first) != 0 || memcmp(whole + next, other_text + first, n - next) != 0)
+        own_fault("a sheet less a row is not written without that row's text alone");
+    free(whole);
+    free(other_text);
+}
+
+static void remove_once(rng *g, const tables *t) {
+    tables left;
+    const uint64_t row = some_row(g, t, one_in(g, 2) ? BORDO : between(g, TESTO, LAST_KIND));
+    if (try_edit(g, t, REMOVE, row, (pair){0, 0}, &left).number != 0) return;
+    removed[t->rows[ROW_WIDTH * row]][t->count == 1 ? 0 : row == 0 ? 1 : row + 1 == t->count ? 2 : 3]++;
+    look_at_removed(t, row, &left);
+}
+
+/* "An accepted move followed by its opposite gives the sheet as it stood; doubled areas are the same throughout." */
+static void look_at_moved(rng *g, const tables *t, pair by, const tables *moved) {
+    const cxf_tally before = ref_tally_sheet(OWN(t)), after = ref_tally_sheet(OWN(moved));
+    if (before.number != after.number || before.row != after.row || memcmp(before.figures, after.figures, sizeof before.figures) != 0)
+        own_fault("a sheet that was moved has another tally");
+    const uint64_t row = some_row(g, t, BORDO), ring = some_ring(g, t, row);
+    const cxf_ring a = ref_ring_check(OWN(t), row, ring), b = ref_ring_check(OWN(moved), row, ring);
+    if (memcmp(&a, &b, sizeof a) != 0) own_fault("a ring that was moved is checked otherwise");
+    tables there = *moved, back;
+    there.rows = malloc(t->rows_len * sizeof t->rows[0] + 1), there.points = malloc(t->points_len * sizeof t->points[0] + 1);
+    if (there.rows == NULL || there.points == NULL) exit(2);
+    memcpy(there.rows, moved->rows, t->rows_len * sizeof t->rows[0]);
+    memcpy(there.points, moved->points, t->points_len * sizeof t->points[0]);
+    const cxf_edited e = try_edit(g, &there, MOVE, 0, (pair){-by.x, -by.y}, &back);
+    if (e.number != 0 || memcmp(back.rows, t->rows, t->rows_len * sizeof t->rows[0]) != 0 ||
+        memcmp(back.points, t->points, t->points_len * sizeof t->points[0]) != 0)
+        own_fault("a move and its opposite do not give the sheet as it stood");
+    moved_back++;
+    free(there.rows);
+    free(there.points);
+}
+
+static void move_once(rng *g, const tables *t, pair by) {
+    tables moved;
+    if (try_edit(g, t, MOVE, 0, by, &moved).number == 0) look_at_moved(g, t, by, &moved);
+}
+
 /* Questions on one sheet; `all` asks each, else some. */
 static void question_sheet(rng *g, const tables *t, bool all) {
     lend_sheet(g, t);
@@ -884,6 +1001,8 @@ static void question_sheet(rng *g, const tables *t, bool all) {
         const uint64_t row = some_row(g, t, one_in(g, 3) ? TESTO : BORDO);
         try_alone(t, row, some_ring(g, t, row));
     }
+    if (all || one_in(g, 6)) remove_once(g, t);
+    if (all || one_in(g, 6)) move_once(g, t, make_pair(g));
 }
 
 /* The sheet that a reading left in the reference's copies, as tables to hand in. */
@@ -1082,6 +1201,17 @@ static void mask_case(rng *g, size_class size) {
     for (int i = 0; i < (size == LONG ? 1 : 3); i++) mask_once(g, &sheet, i == 0 || one_in(g, 2) ? f : make_frame(g, &sheet));
 }
 
+/* Rows removed, and sheets moved; what stands behind the used part is to stay as it was. */
+static void edit_case(rng *g, size_class size) {
+    pair by;
+    make_moved(g, size, &sheet, &by);
+    if (one_in(g, 12)) damage_sheet(g, &sheet);
+    if (one_in(g, 2)) lengthen(g, &sheet);
+    move_once(g, &sheet, by);
+    move_once(g, &sheet, make_pair(g));
+    for (int i = 0; i < (size == LONG ? 1 : 3); i++) remove_once(g, &sheet);
+}
+
 static void number_case(rng *g) {
     for (int i = 0; i < 4; i++) {
         file.len = 0;
@@ -1179,6 +1309,8 @@ static void one_case(rng *g) {
     else if (draw < 9000) sup_case(g, one_in(g, 2) ? SHORT : MIDDLE);
     else if (draw < 15000) mask_case(g, one_in(g, 2) ? SHORT : MIDDLE);
     else if (draw < 18000) joined_case(g);
+    else if (draw < 18100) edit_case(g, LONG);
+    else if (draw < 24000) edit_case(g, one_in(g, 2) ? SHORT : MIDDLE);
     else if (draw < 42000) sheet_file_case(g, SHORT);
     else if (draw < 55000) sheet_file_case(g, MIDDLE);
     else if (draw < 74000) sheet_case(g, SHORT);
@@ -1257,6 +1389,10 @@ static void print_counts(void) {
     printf("  rows read, by their kinds 1 to %d:", LAST_KIND);
     for (int k = 1; k <= LAST_KIND; k++) printf(" %llu", (unsigned long long)kinds_read[k]);
     printf("; maps joined %llu, with their tallies %llu\n", (unsigned long long)joined_files, (unsigned long long)joined_tallies);
+    printf("  rows removed, only ones, first, last, between, by their kinds 1 to %d:", LAST_KIND);
+    for (int k = 1; k <= LAST_KIND; k++)
+        for (int i = 0; i < 4; i++) printf("%s%llu", i == 0 ? "  " : " ", (unsigned long long)removed[k][i]);
+    printf("; moved and moved back %llu\n", (unsigned long long)moved_back);
     printf("  files with no fault read as they were made %llu, written again as they stood %llu\n", (unsigned long long)whole_files,
            (unsigned long long)rewritten);
 }

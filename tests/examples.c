@@ -25,6 +25,8 @@ typedef struct {
     cxf_listed (*listing)(const uint8_t *, size_t, uint8_t *, size_t);
     cxf_sup (*sup_write)(CXF_SHEET, const uint8_t *, size_t, uint8_t *, size_t);
     cxf_mask (*mask_of)(CXF_SHEET, uint64_t, int64_t, int64_t, int64_t);
+    cxf_edited (*remove)(CXF_TABLES, uint64_t);
+    cxf_edited (*move)(CXF_TABLES, int64_t, int64_t);
 } interface;
 
 static uint64_t wrong;
@@ -422,6 +424,143 @@ static void starts(const interface *i) {
     expect(i, "a row alone", i->border_at(THE_SHEET(&bad), 0).class_of == 5);
 }
 
+/* ---- T-08 ---- */
+
+#define LINE_OF_2 "LINEA\\,   6,   2,       1.000,       2.000,       3.000,       4.000,"
+#define ISLE "BORDO,7,  18,       0.500,       1.000,       2.000,       3.000,       4.000,   1,   8,   4," RING_OF_4 RING_OF_4
+#define SIGN "TESTO,ab,  40,       0.250,       5.000,       6.000,"
+#define MARK "FIDUCIALE,9,  20,       5.000,       6.000,       7.000,       8.000,"
+#define SCAN "RIFERIMENTO_RASTER,a.tif,       0.000,       0.000,       1.000,       0.000,       1.000,      -1.000,       0.000,      -1.000,"
+
+/* A sheet less a row is the sheet that the file without it gives, and what is freed, and behind it, stands as it stood. */
+static void less(const interface *i, const char *what, const char *with, uint64_t row, const char *without) {
+    held before, h, rest;
+    read_into(i, with, 1, &before);
+    read_into(i, without, 1, &rest);
+    h = before;
+    const cxf_edited e = i->remove(THE_SHEET(&h), row);
+    expect(i, what, before.r.number == 0 && rest.r.number == 0);
+    expect(i, what, e.number == 0 && e.row == 0 && e.count == before.r.rows - 1 && e.count == rest.r.rows);
+    const size_t rows = (size_t)rest.r.rows * ROW_WIDTH, letters = (size_t)rest.r.letters, islands = (size_t)rest.r.islands;
+    const size_t points = (size_t)rest.r.points * 2;
+    expect(i, what, memcmp(h.rows, rest.rows, rows * sizeof h.rows[0]) == 0 && memcmp(h.letters, rest.letters, letters) == 0 &&
+                        memcmp(h.islands, rest.islands, islands * sizeof h.islands[0]) == 0 &&
+                        memcmp(h.points, rest.points, points * sizeof h.points[0]) == 0);
+    expect(i, what, memcmp(h.rows + rows, before.rows + rows, sizeof h.rows - rows * sizeof h.rows[0]) == 0 &&
+                        memcmp(h.letters + letters, before.letters + letters, sizeof h.letters - letters) == 0 &&
+                        memcmp(h.islands + islands, before.islands + islands, sizeof h.islands - islands * sizeof h.islands[0]) == 0 &&
+                        memcmp(h.points + points, before.points + points, sizeof h.points - points * sizeof h.points[0]) == 0);
+}
+
+static void removing(const interface *i) {
+    held h, before;
+    less(i, "the first of three removed", HEAD ISLE SIGN LINE_OF_2 "EOF,", 0, HEAD SIGN LINE_OF_2 "EOF,");
+    less(i, "the second of three removed", HEAD ISLE SIGN LINE_OF_2 "EOF,", 1, HEAD ISLE LINE_OF_2 "EOF,");
+    less(i, "the last of three removed", HEAD ISLE SIGN LINE_OF_2 "EOF,", 2, HEAD ISLE SIGN "EOF,");
+    less(i, "a border between borders removed", HEAD ISLE ISLE ISLE "EOF,", 1, HEAD ISLE ISLE "EOF,");
+    less(i, "a line between rasters removed", HEAD SCAN LINE_OF_2 SCAN "EOF,", 1, HEAD SCAN SCAN "EOF,");
+    less(i, "a raster before a border removed", HEAD SCAN ISLE MARK "EOF,", 0, HEAD ISLE MARK "EOF,");
+    less(i, "a mark before a border removed", HEAD MARK ISLE "EOF,", 0, HEAD ISLE "EOF,");
+    less(i, "the only border removed", HEAD ISLE "EOF,", 0, HEAD "EOF,");
+    less(i, "the only text removed", HEAD SIGN "EOF,", 0, HEAD "EOF,");
+    less(i, "the only raster removed", HEAD SCAN "EOF,", 0, HEAD "EOF,");
+    read_into(i, HEAD ISLE SIGN "EOF,", 1, &before);
+    static const uint64_t none[] = {2, 3, 4294967296, UINT64_MAX};
+    for (int k = 0; k < 4; k++) {
+        h = before;
+        const cxf_edited e = i->remove(THE_SHEET(&h), none[k]);
+        expect(i, "no such row", e.number == 19 && e.row == 0 && e.count == 0 && memcmp(&h, &before, sizeof h) == 0);
+    }
+    before.rows[ROW_WIDTH] = 9; /* 15 before 19 */
+    h = before;
+    cxf_edited e = i->remove(THE_SHEET(&h), 5);
+    expect(i, "a row removed of a sheet that is not well made", e.number == 15 && e.row == 1 && e.count == 0 && memcmp(&h, &before, sizeof h) == 0);
+    before.r.scale = 0;
+    h = before;
+    e = i->remove(THE_SHEET(&h), 5);
+    expect(i, "a row removed of a sheet with a wrong header", e.number == 6 && e.row == 0 && memcmp(&h, &before, sizeof h) == 0);
+}
+
+/* A move that is refused leaves all as it was. */
+static void not_moved(const interface *i, const char *what, const held *before, int64_t by_x, int64_t by_y, uint64_t refusal, uint64_t row) {
+    held h = *before;
+    const cxf_edited e = i->move(THE_SHEET(&h), by_x, by_y);
+    expect(i, what, e.number == refusal && e.row == row && e.count == 0 && memcmp(&h, before, sizeof h) == 0);
+}
+
+/* One sort of coordinate stands at 0 while all others stand at 1,000 or -1,000, so that it alone just fits, or just does not. */
+static void just_moved(const interface *i, const char *what, const char *high, const char *low) {
+    held h;
+    read_into(i, high, 1, &h); /* all others are below it */
+    not_moved(i, what, &h, 99999999999 + 1, 0, 24, 0);
+    not_moved(i, what, &h, 0, 99999999999 + 1, 24, 0);
+    cxf_edited e = i->move(THE_SHEET(&h), 99999999999, 99999999999);
+    expect(i, what, h.r.number == 0 && e.number == 0 && e.count == 1);
+    read_into(i, low, 1, &h); /* all others are above it */
+    not_moved(i, what, &h, -9999999999 - 1, 0, 24, 0);
+    not_moved(i, what, &h, 0, -9999999999 - 1, 24, 0);
+    e = i->move(THE_SHEET(&h), -9999999999, -9999999999);
+    expect(i, what, h.r.number == 0 && e.number == 0 && e.count == 1);
+}
+
+static void moving(const interface *i) {
+    held before, h;
+    /* the angle, the sizes and what a kind lacks stay */
+    read_into(i, HEAD ISLE SIGN MARK "SIMBOLO,  14,       0.750,       5.000,       6.000," LINE_OF_2 SCAN "EOF,", 1, &before);
+    h = before;
+    cxf_edited e = i->move(THE_SHEET(&h), 1000000, -2000);
+    static const int64_t places[6][8] = {
+        {18, 500, 1001000, 0, 1003000, 2000}, {40, 250, 1005000, 4000, 0, 0}, {0, 0, 1005000, 4000, 1007000, 6000},
+        {0, 750, 1005000, 4000, 0, 0},        {0, 0, 0, 0, 0, 0},             {0, 0, 0, 0, 0, 0},
+    };
+    expect(i, "a move", before.r.number == 0 && e.number == 0 && e.row == 0 && e.count == 6);
+    for (uint64_t row = 0; row < 6; row++) {
+        expect(i, "a move's rows", memcmp(h.rows + ROW_WIDTH * row + 3, places[row], 6 * sizeof places[0][0]) == 0);
+        memcpy(h.rows + ROW_WIDTH * row + 5, before.rows + ROW_WIDTH * row + 5, 4 * sizeof h.rows[0]);
+    }
+    expect(i, "the other numbers of the rows", memcmp(h.rows, before.rows, sizeof h.rows) == 0);
+    for (uint64_t k = 0; k < 200; k++)
+        expect(i, "a move's points", h.points[k] == before.points[k] + (k >= before.r.points * 2 ? 0 : k % 2 == 0 ? 1000000 : -2000));
+
+    just_moved(i, "a position that just fits", HEAD "TESTO,a,   0,       0.000,       0.000,       0.000,EOF,",
+               HEAD "TESTO,a,   0,       0.000,       0.000,       0.000,EOF,");
+    just_moved(i, "a symbol that just fits", HEAD "SIMBOLO,  14,       0.000,       0.000,       0.000,EOF,",
+               HEAD "SIMBOLO,  14,       0.000,       0.000,       0.000,EOF,");
+    just_moved(i, "a label point that just fits", HEAD "FIDUCIALE,9,  20,      -1.000,      -1.000,       0.000,       0.000,EOF,",
+               HEAD "FIDUCIALE,9,  20,       1.000,       1.000,       0.000,       0.000,EOF,");
+    just_moved(i, "a line's vertex that just fits", HEAD "LINEA,   1,   2,      -1.000,      -1.000,       0.000,       0.000,EOF,",
+               HEAD "LINEA,   1,   2,       1.000,       1.000,       0.000,       0.000,EOF,");
+#define AT(m) "      " m ".000,      " m ".000,"
+#define POINT_RING(m) AT(m) AT(m) AT(m) AT(m)
+    just_moved(i, "an inner point that just fits", HEAD "BORDO,7,  18,       0.000," AT("-1") AT(" 0") "   0,   4," POINT_RING("-1") "EOF,",
+               HEAD "BORDO,7,  18,       0.000," AT(" 1") AT(" 0") "   0,   4," POINT_RING(" 1") "EOF,");
+    just_moved(i, "an island's vertex that just fits",
+               HEAD "BORDO,7,  18,       0.000," AT("-1") AT("-1") "   1,   8,   4," POINT_RING("-1") AT("-1") AT(" 0") AT("-1") AT("-1") "EOF,",
+               HEAD "BORDO,7,  18,       0.000," AT(" 1") AT(" 1") "   1,   8,   4," POINT_RING(" 1") AT(" 1") AT(" 0") AT(" 1") AT(" 1") "EOF,");
+    just_moved(i, "a raster's corner that just fits", HEAD "RIFERIMENTO_RASTER,a," AT("-1") AT("-1") AT("-1") AT(" 0") "EOF,",
+               HEAD "RIFERIMENTO_RASTER,a," AT(" 1") AT(" 1") AT(" 1") AT(" 0") "EOF,");
+#undef POINT_RING
+#undef AT
+
+    static const int64_t beyond[] = {109999999999, -109999999999, INT64_MAX, INT64_MIN};
+    read_into(i, HEAD "EOF,", 1, &before);
+    for (int k = 0; k < 4; k++) {
+        not_moved(i, "an empty sheet, too far in x", &before, beyond[k], 0, 24, 0);
+        not_moved(i, "an empty sheet, too far in y", &before, 0, beyond[k], 24, 0);
+    }
+    h = before;
+    e = i->move(THE_SHEET(&h), 109999999998, -109999999998);
+    expect(i, "an empty sheet, as far as may be", e.number == 0 && e.count == 0 && memcmp(&h, &before, sizeof h) == 0);
+    read_into(i, HEAD "LINEA,   1,   2,-9999999.999,99999999.999,-9999999.999,99999999.999,EOF,", 1, &h);
+    e = i->move(THE_SHEET(&h), 109999999998, -109999999998);
+    expect(i, "from one end of the range to the other", e.number == 0 && e.count == 1 && h.points[0] == 99999999999 && h.points[3] == -9999999999);
+    read_into(i, HEAD ISLE SIGN "EOF,", 1, &before);
+    before.rows[ROW_WIDTH] = 9;
+    not_moved(i, "a sheet that is not well made, too far", &before, INT64_MAX, 0, 15, 1);
+    before.r.scale = 0;
+    not_moved(i, "a wrong header, too far", &before, INT64_MAX, 0, 6, 0);
+}
+
 /* ---- Listing ---- */
 
 static void listing_says(const interface *i, const char *records, const char *text) {
@@ -503,7 +642,8 @@ static void records(const interface *i) {
 
 #define SIDE(name, P)                                                                                                              \
     {name, P##_read, P##_write, P##_border_at, P##_text_at, P##_ring_area, P##_net_area, P##_tally_sheet, P##_tally_take,          \
-     P##_ring_check, P##_tile_point, P##_record_at, P##_integer, P##_real, P##_listing, P##_sup_write, P##_mask_of}
+     P##_ring_check, P##_tile_point, P##_record_at, P##_integer, P##_real, P##_listing, P##_sup_write, P##_mask_of, \
+     P##_remove, P##_move}
 
 uint64_t examples(void) {
     static const interface sides[2] = {SIDE("library", cxf), SIDE("reference", ref)};
@@ -515,6 +655,8 @@ uint64_t examples(void) {
         scanned_refused(&sides[k]);
         specification(&sides[k]);
         starts(&sides[k]);
+        removing(&sides[k]);
+        moving(&sides[k]);
         listing(&sides[k]);
         eleven_letters(&sides[k]);
         tiles(&sides[k]);

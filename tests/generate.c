@@ -966,6 +966,61 @@ void damage_frame(rng *g, const tables *t, frame *f) {
     }
 }
 
+/* ---- Sheets that are moved ---- */
+
+#define MOVE_MOST (REAL_HIGH - REAL_LOW)
+
+pair make_pair(rng *g) {
+    static const int64_t ways[] = {0, 0, 1, -1, 1000, MOVE_MOST, -MOVE_MOST, MOVE_MOST + 1, -MOVE_MOST - 1, MOVE_MOST - 1, REAL_HIGH, REAL_LOW};
+    int64_t by[2];
+    for (int i = 0; i < 2; i++) by[i] = one_in(g, 3) ? between(g, -1000000, 1000000) : one_in(g, 6) ? edge_number(g) : PICK(g, ways);
+    return (pair){by[0], by[1]};
+}
+
+/* The coordinates of a sheet that a move takes along, those of x or those of y; how many. */
+static size_t coordinates(tables *t, int axis, int64_t **out) {
+    size_t n = 0;
+    for (int64_t *row = t->rows; row < t->rows + t->rows_len; row += WIDTH) {
+        if (row[KIND] < LINEA) out[n++] = row + X + axis;
+        if (row[KIND] == BORDO || row[KIND] == FIDUCIALE) out[n++] = row + SECOND_X + axis;
+    }
+    for (size_t i = 0; i < t->points_len; i += 2) out[n++] = t->points + i + axis;
+    return n;
+}
+
+/* All are brought near each other, but for one, and those that are equal to it, which is further off than the rest: as equal ones stay
+   equal, rings stay closed. The way that takes it to an end of the real range, one less, or one past it. */
+static int64_t way_to_the_end(rng *g, tables *t, int axis) {
+    int64_t **all = grown(NULL, 2 * t->rows_len / WIDTH + t->points_len / 2 + 1, sizeof *all);
+    const size_t n = coordinates(t, axis, all);
+    const bool whole_range = one_in(g, 6); /* all in one place, from one end of the range to the other */
+    const int64_t up = one_in(g, 2) ? 1 : -1, base = between(g, REAL_LOW + 9000, one_in(g, 2) ? -9000 : REAL_HIGH - 9000);
+    const int64_t far = whole_range ? (up > 0 ? REAL_LOW : REAL_HIGH) : base + 5000 * up, last = n == 0 ? 0 : *all[below(g, n)];
+    for (size_t i = 0; i < n; i++) *all[i] = whole_range || *all[i] == last ? far : base + *all[i] % 1000;
+    free(all);
+    return (up > 0 ? REAL_HIGH : REAL_LOW) - far + up * between(g, -1, 1);
+}
+
+void make_moved(rng *g, size_class size, tables *t, pair *by) {
+    make_sheet(g, size, t);
+    *by = make_pair(g);
+    if (one_in(g, 2)) by->x = way_to_the_end(g, t, 0);
+    if (by->x == 0 || one_in(g, 2)) by->y = way_to_the_end(g, t, 1);
+}
+
+void lengthen(rng *g, tables *t) {
+#define LENGTHEN(table, value)                                                                                       \
+    if (!one_in(g, 3)) {                                                                                             \
+        ROOM(t, table, BEYOND);                                                                                      \
+        for (size_t n = 1 + below(g, BEYOND - 1); n > 0; n--) t->table[t->table##_len++] = (value);                  \
+    }
+    LENGTHEN(rows, edge_number(g))
+    LENGTHEN(letters, (uint8_t)any(g))
+    LENGTHEN(islands, (uint16_t)any(g))
+    LENGTHEN(points, edge_number(g))
+#undef LENGTHEN
+}
+
 /* ---- Sheets damaged ---- */
 
 static void stretch(rng *g, size_t *len, size_t room) {

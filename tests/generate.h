@@ -64,6 +64,14 @@ void make_masked(rng *g, size_class size, tables *t, frame *f);
 frame make_frame(rng *g, const tables *t);
 /* Alters a frame: a bad cell, a corner next to what is too far, an end of the grid at or past the real range. */
 void damage_frame(rng *g, const tables *t, frame *f);
+/* How far a sheet is moved, in millimetres. */
+typedef struct { int64_t x, y; } pair;
+/* A well made sheet and a pair to move it by, with which some coordinate, of any sort, just stays in the real range or just leaves it. */
+void make_moved(rng *g, size_class size, tables *t, pair *by);
+/* Any pair: small, at the end of what a move may be, past it. */
+pair make_pair(rng *g);
+/* Lengthens the tables of a sheet, or some, with numbers that are no part of it. */
+void lengthen(rng *g, tables *t);
 /* A sheet that is whole but for one count or length just past its rule: an island of 3, a line of 1 or of 10,000, 256
    letters and the like, with all that belongs to it. As a file too it is refused for that alone. */
 void make_odd(rng *g, tables *t);

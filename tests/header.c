@@ -20,6 +20,7 @@
 #define cxf_listed paper_listed
 #define cxf_mask paper_mask
 #define cxf_sup paper_sup
+#define cxf_edited paper_edited
 #define STRUCTS_ALONE
 #include "reference.h"
 #undef cxf_reading
@@ -35,6 +36,7 @@
 #undef cxf_listed
 #undef cxf_mask
 #undef cxf_sup
+#undef cxf_edited
 
 #include "cxf.h"
 #include "cxf.h" /* once is twice */
@@ -44,6 +46,7 @@ DECLARE_INTERFACE(cxf)
 DECLARE_SUP(cxf)
 uint64_t cxf_interface(void);
 DECLARE_MASK(cxf)
+DECLARE_EDITS(cxf)
 
 /* ---- structs: the offset, the size and the type of each field ---- */
 
@@ -142,6 +145,11 @@ SAME(sup, number);
 SAME(sup, row);
 SAME(sup, line);
 SAME(sup, length);
+
+WHOLE(edited);
+SAME(edited, number);
+SAME(edited, row);
+SAME(edited, count);
 
 /* ---- numbers, as documents 01 and 02 and the paper of the interface have them ---- */
 
@@ -248,21 +256,23 @@ static void expect(int holds, const char *what)
     wrong = 1;
 }
 
-enum { LAST_REFUSAL = 23 };
+static int is_refusal(uint64_t n)
+{
+    return (n >= 1 && n <= 24 && n != 16) || n == 26;
+}
 
 /* One sentence for each refusal, and one for all other numbers. */
 static void sentences(void)
 {
     const char *other = cxf_refusal_text(0);
-    for (uint64_t n = 1; n <= 24; n++) {
+    for (uint64_t n = 1; n <= 27; n++) {
         const char *text = cxf_refusal_text(n);
-        const int listed = n <= LAST_REFUSAL && n != 16;
+        const int listed = is_refusal(n);
         expect(text[0] != 0 && text[strlen(text) - 1] == '.' && strchr(text, '\n') == NULL, "a refusal's text is no sentence");
         expect((strcmp(text, other) != 0) == listed, "a refusal has no sentence of its own, or another number has one");
         for (uint64_t m = 1; m < n; m++)
             if (listed) expect(strcmp(text, cxf_refusal_text(m)) != 0, "two refusals have one sentence");
     }
-    expect(strcmp(cxf_refusal_text(26), other) != 0, "refusal 26 has no sentence of its own");
     expect(strcmp(cxf_refusal_text(UINT64_MAX), other) == 0, "a number that is no refusal has a sentence of its own");
 }
 

@@ -1,4 +1,4 @@
-/* The reference: document 01's base, and T-01 to T-07 of document 02, in plain C, written from the papers for clarity, not for
+/* The reference: document 01's base, and T-01 to T-08 of document 02, in plain C, written from the papers for clarity, not for
    speed. It shares no line with the library. The sentences in comments are document 01's, or the interface paper's; those
    of the SUP file are T-01's, those of masks T-03's. */
 #include "reference.h"
@@ -23,13 +23,14 @@
 #define MASK_SIDE 64
 #define CELL_MOST 10000
 #define MASK_REACH 40000000LL
+#define MOVE_MOST 109999999998LL
 
 /* The refusal numbers, by the names of document 01's table. */
 enum {
     TOO_LONG = 1, CUT = 2, LINE_END = 3, LENGTH = 4, BYTE = 5, HEADER = 6, NO_KEYWORD = 7, NO_NUMBER = 8,
     NO_LETTERS = 9, CODE = 10, COUNT = 11, OPEN_RING = 12, AFTER_EOF = 13, NO_ROOM = 14, NOT_MADE = 15,
     TOO_WIDE = 17, TOTAL = 18, MISSING = 19, OUTSIDE_FRAME = 20, BAD_DATE = 21, LONG_CODE = 22, WIDE_FIGURE = 23,
-    BAD_CELL = 26
+    MOVED_OFF = 24, BAD_CELL = 26
 };
 
 /* "Each element is a row of 12 numbers": their places; T-07's three behind them. */
@@ -1303,4 +1304,64 @@ cxf_mask ref_mask_of(CXF_SHEET, uint64_t row, int64_t corner_x, int64_t corner_y
             answer.covered++;
         }
     return answer;
+}
+
+/* ---- Sheets altered ---- */
+
+/* Elements `first` to `next` - 1 of a table go, and those behind them, to `end`, close up; the freed tail keeps what it held. */
+static void close_up(void *table, size_t size, size_t first, size_t next, size_t end) {
+    uint8_t *at = table;
+    if (next > first && end > next) memmove(at + first * size, at + next * size, (end - next) * size);
+}
+
+/* T-08: "Removing row k closes up all four tables, keeps the order, keeps every start true and leaves the freed tail as it was."
+   "Refusals: 6, 15, 19 for no such row" */
+cxf_edited ref_remove(CXF_TABLES, uint64_t row) {
+    const sheet s = THE_SHEET;
+    const refusal r = judge_sheet(&s);
+    if (r.number != 0) return (cxf_edited){r.number, r.row, 0};
+    if (row >= count) return (cxf_edited){MISSING, 0, 0};
+    spot at = spot_of(&s, row);
+    const spot next = after_row(&s, row, at), end = spot_of(&s, count);
+    close_up(letters, sizeof *letters, at.letters, next.letters, end.letters);
+    close_up(islands, sizeof *islands, at.islands, next.islands, end.islands);
+    close_up(points, 2 * sizeof *points, at.points, next.points, end.points);
+    close_up(rows, ROW_WIDTH * sizeof *rows, (size_t)row, (size_t)row + 1, (size_t)count);
+    for (uint64_t i = row; i < count - 1; i++) {
+        put_starts(rows + ROW_WIDTH * i, at);
+        at = after_row(&s, i, at);
+    }
+    return (cxf_edited){0, 0, count - 1};
+}
+
+static bool would_stay(int64_t *coordinate, int64_t by) { return in_real_range(*coordinate + by); }
+
+static bool moved(int64_t *coordinate, int64_t by) {
+    *coordinate += by;
+    return true;
+}
+
+/* "every vertex, position, inner point and label point; sizes, angles and missing fields don't change": whether `step` holds of all. */
+static bool each_coordinate(const sheet *s, int64_t *rows, int64_t *points, bool (*step)(int64_t *, int64_t), int64_t by_x, int64_t by_y) {
+    for (uint64_t row = 0; row < s->count; row++) {
+        int64_t *n = rows + ROW_WIDTH * row;
+        if (SECTIONS[n[KIND]].place && (!step(n + X, by_x) || !step(n + Y, by_y))) return false;
+        if (SECTIONS[n[KIND]].second && (!step(n + SECOND_X, by_x) || !step(n + SECOND_Y, by_y))) return false;
+    }
+    const size_t vertices = spot_of(s, s->count).points;
+    for (size_t i = 0; i < vertices; i++)
+        if (!step(points + 2 * i, by_x) || !step(points + 2 * i + 1, by_y)) return false;
+    return true;
+}
+
+/* "24 if either part of the pair is beyond 109,999,999,998 mm either way or any coordinate would leave the real range, judged before
+   anything is stored" */
+cxf_edited ref_move(CXF_TABLES, int64_t by_x, int64_t by_y) {
+    const sheet s = THE_SHEET;
+    const refusal r = judge_sheet(&s);
+    if (r.number != 0) return (cxf_edited){r.number, r.row, 0};
+    if (by_x > MOVE_MOST || by_x < -MOVE_MOST || by_y > MOVE_MOST || by_y < -MOVE_MOST) return (cxf_edited){MOVED_OFF, 0, 0};
+    if (!each_coordinate(&s, rows, points, would_stay, by_x, by_y)) return (cxf_edited){MOVED_OFF, 0, 0};
+    each_coordinate(&s, rows, points, moved, by_x, by_y);
+    return (cxf_edited){0, 0, count};
 }

@@ -77,6 +77,23 @@ enum { LAST_KIND = 7 };
 /* T-07: "three fields more, 15 in all" */
 #define ROW_WIDTH 15u
 
+/* T-08: a sheet whose tables may be altered */
+#define CXF_TABLES                                                                                       \
+    uint64_t kind, const uint8_t *name, size_t name_len, int64_t scale, uint64_t count,                  \
+    int64_t *rows, size_t rows_len, uint8_t *letters, size_t letters_len,                                \
+    uint16_t *islands, size_t islands_len, int64_t *points, size_t points_len
+
+typedef struct { uint64_t number, row, count; } cxf_edited; /* T-08; the rows at exit where number is 0 */
+
+#define DECLARE_EDITS(P)                                                                                 \
+    cxf_edited P##_remove(CXF_TABLES, uint64_t row);                                                     \
+    cxf_edited P##_move(CXF_TABLES, int64_t by_x, int64_t by_y);
+
+#ifndef STRUCTS_ALONE
+DECLARE_EDITS(cxf)
+DECLARE_EDITS(ref)
+#endif
+
 #define DECLARE_MASK(P) cxf_mask P##_mask_of(CXF_SHEET, uint64_t row, int64_t corner_x, int64_t corner_y, int64_t cell);
 
 #ifndef STRUCTS_ALONE

@@ -18,6 +18,9 @@ ghost use Rattle.tally.specs.Take.{takenOf, tallyOf};
 ghost use Rattle.sup.specs.Answer.{sheetSup, supOf, supOutput};
 ghost use Rattle.tile.specs.Tiles.{tileOf};
 ghost use Rattle.mask.specs.Masks.{maskAt};
+ghost use Rattle.edit.specs.Answers.{tablesAt};
+ghost use Rattle.edit.specs.Moves.{movedTables, moveOf};
+ghost use Rattle.edit.specs.Removals.{removedTables, removeOf};
 ghost use Rattle.listing.specs.Listing.{listingOf};
 ghost use Rattle.listing.specs.Listed.{listedOf, listedIn};
 ghost use Rattle.told.specs.Asked.{modeOf, isKeywordDue, headerOf};
@@ -26,6 +29,7 @@ ghost use Rattle.told.specs.Answers.{borderTold, textTold, areaTold, ringTold};
 ghost use Rattle.told.specs.Tallies.{tallyIn, tallyTold, takeTold};
 ghost use Rattle.told.specs.SupFiles.{supTold};
 ghost use Rattle.told.specs.Masks.{maskTold};
+ghost use Rattle.told.specs.Edits.{editedTold};
 use area::net_area;
 use area::ring_area;
 use border::border_at;
@@ -34,6 +38,8 @@ use column::PlacedInteger;
 use column::PlacedReal;
 use column::placed_integer;
 use column::placed_real;
+use edit::move_sheet;
+use edit::remove_row;
 use listing::Listed;
 use listing::list_text;
 use mask::mask_of;
@@ -55,6 +61,8 @@ use told::CxfReading;
 use told::CxfRecord;
 use told::CxfTile;
 use told::CxfWritten;
+use told::edits::CxfEdited;
+use told::edits::edited_of;
 use told::header_of;
 use told::masks::CxfMask;
 use told::masks::mask_told;
@@ -405,4 +413,53 @@ pub extern "C" fn cxf_sup_write(
 {
     let header = header_of(kind, name, scale);
     sup_told(sup_text(header, count, rows, letters, islands, points, date, out))
+}
+
+// Takes a row out of the tables that are lent.
+#[no_mangle]
+pub extern "C" fn cxf_remove(
+    kind: usize,
+    name: &[u8],
+    scale: i64,
+    count: usize,
+    rows: &mut [i64],
+    letters: &mut [u8],
+    islands: &mut [u16],
+    points: &mut [i64],
+    row: usize,
+) -> CxfEdited
+    ensures { λ r. ⌜ r ≡ editedTold (removeOf (headerOf kind (now (name .entry)) scale) count (tablesOf (now (rows .entry)) (now (letters .entry)) (now (islands .entry)) (now (points .entry))) row) ⌝ }
+    ensures { λ r. ⌜ now (rows .exit) ≡ tablesAt (removeOf (headerOf kind (now (name .entry)) scale) count (tablesOf (now (rows .entry)) (now (letters .entry)) (now (islands .entry)) (now (points .entry))) row) (removedTables count row (tablesOf (now (rows .entry)) (now (letters .entry)) (now (islands .entry)) (now (points .entry)))) (tablesOf (now (rows .entry)) (now (letters .entry)) (now (islands .entry)) (now (points .entry))) .rows ⌝ }
+    ensures { λ r. ⌜ now (letters .exit) ≡ tablesAt (removeOf (headerOf kind (now (name .entry)) scale) count (tablesOf (now (rows .entry)) (now (letters .entry)) (now (islands .entry)) (now (points .entry))) row) (removedTables count row (tablesOf (now (rows .entry)) (now (letters .entry)) (now (islands .entry)) (now (points .entry)))) (tablesOf (now (rows .entry)) (now (letters .entry)) (now (islands .entry)) (now (points .entry))) .letters ⌝ }
+    ensures { λ r. ⌜ now (islands .exit) ≡ tablesAt (removeOf (headerOf kind (now (name .entry)) scale) count (tablesOf (now (rows .entry)) (now (letters .entry)) (now (islands .entry)) (now (points .entry))) row) (removedTables count row (tablesOf (now (rows .entry)) (now (letters .entry)) (now (islands .entry)) (now (points .entry)))) (tablesOf (now (rows .entry)) (now (letters .entry)) (now (islands .entry)) (now (points .entry))) .islands ⌝ }
+    ensures { λ r. ⌜ now (points .exit) ≡ tablesAt (removeOf (headerOf kind (now (name .entry)) scale) count (tablesOf (now (rows .entry)) (now (letters .entry)) (now (islands .entry)) (now (points .entry))) row) (removedTables count row (tablesOf (now (rows .entry)) (now (letters .entry)) (now (islands .entry)) (now (points .entry)))) (tablesOf (now (rows .entry)) (now (letters .entry)) (now (islands .entry)) (now (points .entry))) .points ⌝ }
+{
+    let header = header_of(kind, name, scale);
+    edited_of(remove_row(
+        header, count, rows, letters, islands, points, row,
+    ))
+}
+
+// Moves the whole sheet by a pair of whole millimetres.
+#[no_mangle]
+pub extern "C" fn cxf_move(
+    kind: usize,
+    name: &[u8],
+    scale: i64,
+    count: usize,
+    rows: &mut [i64],
+    letters: &[u8],
+    islands: &[u16],
+    points: &mut [i64],
+    dx: i64,
+    dy: i64,
+) -> CxfEdited
+    ensures { λ r. ⌜ r ≡ editedTold (moveOf (headerOf kind (now (name .entry)) scale) count (tablesOf (now (rows .entry)) (now (letters .entry)) (now (islands .entry)) (now (points .entry))) dx dy) ⌝ }
+    ensures { λ r. ⌜ now (rows .exit) ≡ tablesAt (moveOf (headerOf kind (now (name .entry)) scale) count (tablesOf (now (rows .entry)) (now (letters .entry)) (now (islands .entry)) (now (points .entry))) dx dy) (movedTables dx dy count (tablesOf (now (rows .entry)) (now (letters .entry)) (now (islands .entry)) (now (points .entry)))) (tablesOf (now (rows .entry)) (now (letters .entry)) (now (islands .entry)) (now (points .entry))) .rows ⌝ }
+    ensures { λ r. ⌜ now (points .exit) ≡ tablesAt (moveOf (headerOf kind (now (name .entry)) scale) count (tablesOf (now (rows .entry)) (now (letters .entry)) (now (islands .entry)) (now (points .entry))) dx dy) (movedTables dx dy count (tablesOf (now (rows .entry)) (now (letters .entry)) (now (islands .entry)) (now (points .entry)))) (tablesOf (now (rows .entry)) (now (letters .entry)) (now (islands .entry)) (now (points .entry))) .points ⌝ }
+{
+    let header = header_of(kind, name, scale);
+    edited_of(move_sheet(
+        header, count, rows, letters, islands, points, dx, dy,
+    ))
 }

@@ -94,7 +94,7 @@ reals-append (z ∷ a) b = ap (λ (x : Bool). isReal z && x) (reals-append a b) 
     nest false y w = refl
 
 -- equal numbers stay equal, others do not become so
-same-shift : (a b d : ℤ) → eqZ (a +ℤ d) (b +ℤ d) ≡ eqZ a b
+pub same-shift : (a b d : ℤ) → eqZ (a +ℤ d) (b +ℤ d) ≡ eqZ a b
 same-shift a b d = go (eqZ a b) refl
   where
     go : (t : Bool) → eqZ a b ≡ t → eqZ (a +ℤ d) (b +ℤ d) ≡ t

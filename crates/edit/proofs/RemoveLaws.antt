@@ -17,10 +17,10 @@ use Rattle.made.specs.Made.{tablesOf, kindOf, countAt, firstOf, ownOf, restOf, 
 use Rattle.made.proofs.RowWays.{made-held}
 use Rattle.made.proofs.OwnLaws.{Own, own-alike, first-alike, cell-alike, made-alike, starts-alike, first-own, rest-own, letters-own, islands-own, points-own}
 use Rattle.made.proofs.UsedLaws.{behindOf, used-behind, judge-used, fine-on, fine-before, used-then}
-use Rattle.made.proofs.StartLaws.{then-assoc}
+use Rattle.made.proofs.StartLaws.{then-assoc, own-moved, made-moved}
 use Rattle.edit.specs.Removals.{takenBack, without, removedTables}
 use Rattle.edit.specs.Elements.{elementsOf, lessOne}
-use Rattle.edit.proofs.FallLaws.{back-starting, back-own, back-made, back-rest, fine-back}
+use Rattle.edit.proofs.FallLaws.{back-starting, back-made, back-rest, fine-back}
 
 -- ---- rows without one of them are fine
 
@@ -52,9 +52,21 @@ fine-without mode (suc n) (suc k) b t e h =
 
 -- ---- what they say one by one
 
-module _ {A : Type 0} (f : Tables → A) (own : Own f) where
+-- a definition on the first row that looks at the row alone, wherever it stands and whatever stands behind it
+pub record Says {A : Type 0} (f : Tables → A) : Type 0 where
+  pub behind : (t u : Tables) → isMade t ≡ true → f (firstOf t then u) ≡ f t
+  pub placed : (s : Starts) (t : Tables) → isMade t ≡ true → f (startingAt s t) ≡ f t
+
+pub own-says : {A : Type 0} (f : Tables → A) → Own f → Says f
+own-says f own =
+    record {
+      behind = λ t u m. first-alike f own (firstOf t then u) t (first-own t u (made-held t m)) m;
+      placed = λ s t m. own-alike f own (startingAt s t) t (own-moved s t) (made-moved s t ∙ m) m;
+    }
+
+module _ {A : Type 0} (f : Tables → A) (own : Says f) where
   back-says : (s : Starts) (t : Tables) → isMade t ≡ true → f (takenBack s t) ≡ f t
-  back-says s t m = own-alike f own (takenBack s t) t (back-own s t) (back-made s t ∙ m) m
+  back-says s t m = sym (own .placed s (takenBack s t) (back-made s t ∙ m)) ∙ ap f (back-starting s t)
 
   elements-back : (mode : Mode) (n : ℕ) (b : Before) (s : Starts) (t : Tables) → judgeRows mode n b t ≡ Fine → elementsOf f n (takenBack s t) ≡ elementsOf f n t
   unfolding elementsOf
@@ -72,7 +84,7 @@ module _ {A : Type 0} (f : Tables → A) (own : Own f) where
       let g = fine-on mode (suc n) b t e in
       let w = without k (restOf t) in
       let held = made-held t (g .0) in
-      ap₂ (λ (x : A) (l : List A). x ∷ l) (first-alike f own (firstOf t then w) t (first-own t w held) (g .0))
+      ap₂ (λ (x : A) (l : List A). x ∷ l) (own .behind t w (g .0))
       (ap (elementsOf f n) (rest-own t w held) ∙ elements-without mode n k (pastRow b t) (restOf t) (g .1) (omega arith))
 
   -- whatever stands behind the used part
@@ -84,7 +96,7 @@ module _ {A : Type 0} (f : Tables → A) (own : Own f) where
       let w : Tables = usedOf n (restOf t) then u in
       let held = made-held t (g .0) in
       ap (elementsOf f (suc n)) (then-assoc (firstOf t) (usedOf n (restOf t)) u)
-      ∙ ap₂ (λ (x : A) (l : List A). x ∷ l) (first-alike f own (firstOf t then w) t (first-own t w held) (g .0))
+      ∙ ap₂ (λ (x : A) (l : List A). x ∷ l) (own .behind t w (g .0))
       (ap (elementsOf f n) (rest-own t w held) ∙ elements-used mode n (pastRow b t) (restOf t) u (g .1))
 
 -- a row alone is said by its own part
@@ -136,8 +148,8 @@ module _ (mode : Mode) (h : Header) (n : ℕ) (t : Tables) (k : ℕ) (e : judgeO
   removed-fine = sym (judge-used mode h n (removedTables (suc n) k t)) ∙ ap (judgeOf mode h n) removed-used ∙ judge-used mode h n w ∙ judged-w
 
   -- **its elements are the others in order**: what any definition on a row says of them
-  pub removed-elements : {A : Type 0} (f : Tables → A) → Own f → elementsOf f n (removedTables (suc n) k t) ≡ lessOne k (elementsOf f (suc n) t)
+  pub removed-elements : {A : Type 0} (f : Tables → A) → Says f → elementsOf f n (removedTables (suc n) k t) ≡ lessOne k (elementsOf f (suc n) t)
   removed-elements f own = ap (elementsOf f n) removed-is ∙ elements-used f own mode n noneBefore w behind fine-w ∙ elements-without f own mode n k noneBefore t (both .1) l
 
   pub removed-alone : elementsOf aloneOf n (removedTables (suc n) k t) ≡ lessOne k (elementsOf aloneOf (suc n) t)
-  removed-alone = removed-elements aloneOf alone-says
+  removed-alone = removed-elements aloneOf (own-says aloneOf alone-says)

@@ -128,7 +128,7 @@ pub ruleset row-ways = (row-unplaced, row-first-off, row-single, row-second)
 -- ---- a row that is moved
 
 -- behind the second y nothing moves
-cells-late : (dx dy : ℤ) (kind p : ℕ) (s : List ℤ) → 9 ≤ p → movedCells dx dy kind p s ≡ s
+pub cells-late : (dx dy : ℤ) (kind p : ℕ) (s : List ℤ) → 9 ≤ p → movedCells dx dy kind p s ≡ s
 unfolding movedCells movedCell isMoved
 cells-late dx dy kind p [] h = refl
 cells-late dx dy kind p (z ∷ s) h = rw (lt-leb p 8 h, and-false (leb 5 p), cells-late dx dy kind (suc p) s (omega arith))

@@ -1,6 +1,7 @@
 // What a caller in another language asks and is told: the structs of `include/cxf.h`, and each answer laid out in one.
 // All of it is proved, and no public function has a `requires`. `number` is 0 where the question was answered, else the refusal; a
 // field that the answer does not name is 0.
+pub mod edits;
 pub mod masks;
 pub mod question;
 pub mod sup_files;
