@@ -435,9 +435,7 @@ pub extern "C" fn cxf_remove(
     ensures { λ r. ⌜ now (points .exit) ≡ tablesAt (removeOf (headerOf kind (now (name .entry)) scale) count (tablesOf (now (rows .entry)) (now (letters .entry)) (now (islands .entry)) (now (points .entry))) row) (removedTables count row (tablesOf (now (rows .entry)) (now (letters .entry)) (now (islands .entry)) (now (points .entry)))) (tablesOf (now (rows .entry)) (now (letters .entry)) (now (islands .entry)) (now (points .entry))) .points ⌝ }
 {
     let header = header_of(kind, name, scale);
-    edited_of(remove_row(
-        header, count, rows, letters, islands, points, row,
-    ))
+    edited_of(remove_row(header, count, rows, letters, islands, points, row))
 }
 
 // Moves the whole sheet by a pair of whole millimetres.
@@ -459,7 +457,5 @@ pub extern "C" fn cxf_move(
     ensures { λ r. ⌜ now (points .exit) ≡ tablesAt (moveOf (headerOf kind (now (name .entry)) scale) count (tablesOf (now (rows .entry)) (now (letters .entry)) (now (islands .entry)) (now (points .entry))) dx dy) (movedTables dx dy count (tablesOf (now (rows .entry)) (now (letters .entry)) (now (islands .entry)) (now (points .entry)))) (tablesOf (now (rows .entry)) (now (letters .entry)) (now (islands .entry)) (now (points .entry))) .points ⌝ }
 {
     let header = header_of(kind, name, scale);
-    edited_of(move_sheet(
-        header, count, rows, letters, islands, points, dx, dy,
-    ))
+    edited_of(move_sheet(header, count, rows, letters, islands, points, dx, dy))
 }

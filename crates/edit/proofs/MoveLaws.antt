@@ -71,7 +71,6 @@ drop-moved dx dy (suc n) [] = let e : 2 * suc n ≡ suc (suc (2 * n)) = omega ar
 drop-moved dx dy (suc n) (x ∷ []) = let e : 2 * suc n ≡ suc (suc (2 * n)) = omega arith in rw e (none (2 * n))
   where
     none : (k : ℕ) → _≡_ {A = List ℤ} (drop k []) (moved dx dy (drop k []))
-    unfolding moved
     none zero = refl
     none (suc k) = refl
 drop-moved dx dy (suc n) (x ∷ y ∷ s) = let e : 2 * suc n ≡ suc (suc (2 * n)) = omega arith in rw e (drop-moved dx dy n s)
@@ -185,20 +184,20 @@ module _ (dx dy : ℤ) (t : Tables) (r : Held t) where
 
 -- ---- it is well made
 
+moved-cell-made : (kind p : ℕ) (z : ℤ) → isMoved kind p ≡ true → isReal z ≡ true → isCell kind p z ≡ true
+unfolding isMoved isCell inRange wantAt
+moved-cell-made kind p z e f =
+    let low = leb-true 5 p (and-left (leb 5 p) (leb p 8) (and-left (leb 5 p && leb p 8) (hasField kind p) e)) in
+    let high = leb-true p 8 (and-right (leb 5 p) (leb p 8) (and-left (leb 5 p && leb p 8) (hasField kind p) e)) in
+    rw (ne-eqb p 0 (λ q. omega arith), ne-eqb p 1 (λ q. omega arith), and-right (leb 5 p && leb p 8) (hasField kind p) e, ne-eqb p 9 (λ q. omega arith), le-leb 4 p (omega arith), le-leb p 8 high) f
+
 -- a number that moves is a real before and behind, another stays
 cell-made : (dx dy : ℤ) (kind p : ℕ) (z : ℤ) → isCell kind p z ≡ true → (not (isMoved kind p) || isReal (z +ℤ partAt dx dy p)) ≡ true → isCell kind p (movedCell dx dy kind p z) ≡ true
 unfolding movedCell
 cell-made dx dy kind p z c s = go (isMoved kind p) refl s
   where
-    here : isMoved kind p ≡ true → isReal (z +ℤ partAt dx dy p) ≡ true → isCell kind p (z +ℤ partAt dx dy p) ≡ true
-    unfolding isMoved isCell inRange wantAt
-    here e f =
-        let low = leb-true 5 p (and-left (leb 5 p) (leb p 8) (and-left (leb 5 p && leb p 8) (hasField kind p) e)) in
-        let high = leb-true p 8 (and-right (leb 5 p) (leb p 8) (and-left (leb 5 p && leb p 8) (hasField kind p) e)) in
-        rw (ne-eqb p 0 (λ q. omega arith), ne-eqb p 1 (λ q. omega arith), and-right (leb 5 p && leb p 8) (hasField kind p) e, ne-eqb p 9 (λ q. omega arith), le-leb 4 p (omega arith), le-leb p 8 high) f
-
     go : (b : Bool) → isMoved kind p ≡ b → (not b || isReal (z +ℤ partAt dx dy p)) ≡ true → isCell kind p (cond b (z +ℤ partAt dx dy p) z) ≡ true
-    go true e f = here e f
+    go true e f = moved-cell-made kind p (z +ℤ partAt dx dy p) e f
     go false e f = c
 
 module _ (dx dy : ℤ) (t : Tables) (m : isMade t ≡ true) (st : rowStays dx dy (t .rows) ≡ true) (rs : areReals (moved dx dy (pointsOf t)) ≡ true) where
@@ -309,6 +308,11 @@ module _ (dx dy : ℤ) (t : Tables) (m : isMade t ≡ true) (st : rowStays dx dy
       and-both (areNumbers (w .rows) && areLetters (countAt w lettersPlace) (lettersOf t) && areCounts (kindOf w) (countAt w islandsPlace) (countAt w verticesPlace) (islandsOf t)) _
       (and-both (areNumbers (w .rows) && areLetters (countAt w lettersPlace) (lettersOf t)) _ (and-both (areNumbers (w .rows)) _ N-w L-w) C-w) P-w
 
+same-starts : (s : Starts) (a c : Tables) → cellAt a firstLetterPlace ≡ cellAt c firstLetterPlace → cellAt a firstIslandPlace ≡ cellAt c firstIslandPlace → cellAt a firstPointPlace ≡ cellAt c firstPointPlace
+    → areStarts s (a .rows) ≡ areStarts s (c .rows)
+unfolding areStarts
+same-starts s a c x y z = rw (x, y, z)
+
 -- ---- row by row
 
 module _ (dx dy : ℤ) where
@@ -362,11 +366,6 @@ module _ (dx dy : ℤ) where
       ap (judgeRows mode (suc n) b) (moved-step n t r)
       ∙ fine-before mode n b (x then u) made starts code
       (ap₂ (judgeRows mode n) past (moved-rest dx dy t r u) ∙ rows-moved-fine mode n (pastRow b t) (restOf t) (g .1) (and-right (rowStays dx dy (t .rows)) (rowsStay dx dy n (drop rowWidth (t .rows))) s) (q .1))
-    where
-      same-starts : (s : Starts) (a c : Tables) → cellAt a firstLetterPlace ≡ cellAt c firstLetterPlace → cellAt a firstIslandPlace ≡ cellAt c firstIslandPlace → cellAt a firstPointPlace ≡ cellAt c firstPointPlace
-          → areStarts s (a .rows) ≡ areStarts s (c .rows)
-      unfolding areStarts
-      same-starts s a c x y z = rw (x, y, z)
 
 -- **a well made sheet that is moved is well made**, in either mode
 module _ (mode : Mode) (h : Header) (n : ℕ) (t : Tables) (dx dy : ℤ) (e : judgeOf mode h n t ≡ Fine) (m : isMove dx dy n t ≡ true) where

@@ -100,9 +100,10 @@ module _ (dx dy : ℤ) where
     near-moved : (1 ≤ n) → all-near qs from n ≡ all-near ps from n
     unfolding east north
     near-moved g =
-        all-near-alike qs ps from from n (λ k l.
-        (rw (x-moved dx dy ps (from + k) (omega arith), x-moved dx dy ps from (omega arith)) (apart (x-at ps (from + k)) (x-at ps from) dx),
-        rw (y-moved dx dy ps (from + k) (omega arith), y-moved dx dy ps from (omega arith)) (apart (y-at ps (from + k)) (y-at ps from) dy)))
+        all-near-alike qs ps from from n (λ k l. (
+          rw (x-moved dx dy ps (from + k) (omega arith), x-moved dx dy ps from (omega arith)) (apart (x-at ps (from + k)) (x-at ps from) dx),
+          rw (y-moved dx dy ps (from + k) (omega arith), y-moved dx dy ps from (omega arith)) (apart (y-at ps (from + k)) (y-at ps from) dy),
+        ))
 
   -- **the verdict on a ring is the same**, wherever it lies
   pub verdict-moved : (ps : List ℤ) (from n : ℕ) → verdictOf (moved dx dy ps) from n ≡ verdictOf ps from n
