@@ -27,7 +27,7 @@ use Rattle.sheet.specs.Tables.{Tables, _then_, Starts}
 use Rattle.made.specs.declared.Verdict.the-variants.{Fine, BadHeader}
 use Rattle.made.specs.Made.{tablesOf, natOf, cellAt, countAt, kindOf, lettersOf, islandsOf, pointsOf, firstOf, ownOf, restOf, hasField, inRange, isCell, isCellAt, cellTest, areNumbers, areLetters, sum as total-of, areCounts, areReals, isClosed, areClosed, ringSizes, arePoints, isMade, areStarts, countsOf, Before, noneBefore, pastRow, isCoded, judgeRows, judgeOf, usedOf}
 use Rattle.made.proofs.RowWays.{Held, made-held, border-outer}
-use Rattle.made.proofs.OwnLaws.{cell-first, made-first, made-same, first-then, rest-then, islands-first}
+use Rattle.made.proofs.OwnLaws.{first-first, cell-first, made-first, first-then, rest-then}
 use Rattle.made.proofs.UsedLaws.{fine-on, fine-before}
 use Rattle.edit.specs.Rows.{everyRow, eachRow}
 use Rattle.edit.specs.Moves.{isPart, isMoved, partAt, movedCell, movedCells, movedRow, movedRows, cellStays, rowStays, rowsStay, movedTables, isMove}
@@ -68,11 +68,7 @@ drop-moved : (dx dy : ℤ) (n : ℕ) (s : List ℤ) → drop (2 * n) (moved dx d
 unfolding moved
 drop-moved dx dy zero s = refl
 drop-moved dx dy (suc n) [] = let e : 2 * suc n ≡ suc (suc (2 * n)) = omega arith in rw e
-drop-moved dx dy (suc n) (x ∷ []) = let e : 2 * suc n ≡ suc (suc (2 * n)) = omega arith in rw e (none (2 * n))
-  where
-    none : (k : ℕ) → _≡_ {A = List ℤ} (drop k []) (moved dx dy (drop k []))
-    none zero = refl
-    none (suc k) = refl
+drop-moved dx dy (suc n) (x ∷ []) = let e : 2 * suc n ≡ suc (suc (2 * n)) = omega arith in rw e
 drop-moved dx dy (suc n) (x ∷ y ∷ s) = let e : 2 * suc n ≡ suc (suc (2 * n)) = omega arith in rw e (drop-moved dx dy n s)
 
 pub moved-append : (dx dy : ℤ) (n : ℕ) (a b : List ℤ) → length a ≡ 2 * n → moved dx dy (a ++ b) ≡ moved dx dy a ++ moved dx dy b
@@ -261,7 +257,7 @@ module _ (dx dy : ℤ) (t : Tables) (m : isMade t ≡ true) (st : rowStays dx dy
       rw (kind-w, row-cell dx dy (t .rows) (h .row) p (omega arith)) (cell-made dx dy (kindOf t) p (cellAt t p) here stay)))
 
   L-w : areLetters (countAt w lettersPlace) (lettersOf t) ≡ true
-  L-w = rw (count-w 9 (omega arith) (omega arith), ← count-f 9 (omega arith)) (and-right NF LF nl)
+  L-w = ap (λ (n : ℕ). areLetters n (lettersOf t)) (count-w 9 (omega arith) (omega arith) ∙ sym (count-f 9 (omega arith))) ∙ and-right NF LF nl
 
   C-t : areCounts (kindOf t) i v (islandsOf t) ≡ true
   C-t = rw (count-f 0 (omega arith), count-f 10 (omega arith), count-f 11 (omega arith)) at (and-right (NF && LF) CF nlc)
@@ -270,7 +266,7 @@ module _ (dx dy : ℤ) (t : Tables) (m : isMade t ≡ true) (st : rowStays dx dy
   C-w = rw (kind-w, count-w 10 (omega arith) (omega arith), count-w 11 (omega arith) (omega arith)) C-t
 
   P-t : arePoints (kindOf t) v (islandsOf t) (pointsOf t) ≡ true
-  P-t = rw (islands-first t, count-f 0 (omega arith), count-f 11 (omega arith)) at (and-right (NF && LF && CF) PF all-f)
+  P-t = rw (ap (λ (x : Tables). x .islands) (first-first t), count-f 0 (omega arith), count-f 11 (omega arith)) at (and-right (NF && LF && CF) PF all-f)
 
   points-long : length (pointsOf t) ≡ 2 * v
   points-long = length-take-le (2 * v) (t .points) (h .points)

@@ -149,6 +149,10 @@ module _ (dx dy : ℤ) (x : Tables) (r : Held x) where
   unfolding movedTables
   y-points = rw (y-used, length-moved dx dy (pointsOf x), drop-length (pointsOf x), append-nil (moved dx dy (pointsOf x)))
 
+  own-cells : take ownWidth (movedRow dx dy (x .rows)) ≡ movedCells dx dy (kindOf x) 0 a
+  unfolding movedRow
+  own-cells = cells-take dx dy (kindOf x) 0 ownWidth (take rowWidth (x .rows)) ∙ ap (movedCells dx dy (kindOf x) 0) (take-take ownWidth rowWidth (x .rows) (omega arith))
+
   pub alone-first : (u : Tables) → aloneOf (movedFirst dx dy x then u) ≡ movedTables dx dy 1 y
   unfolding movedTables
   alone-first u =
@@ -157,10 +161,6 @@ module _ (dx dy : ℤ) (x : Tables) (r : Held x) where
       let w : length (movedRow dx dy (x .rows)) ≡ rowWidth = length-row dx dy (x .rows) (r .row) in
       let rows-as : take ownWidth (o .rows) ≡ movedCells dx dy (kindOf x) 0 a = take-append-le ownWidth (movedRow dx dy (x .rows)) (u .rows) (omega (arith, w)) ∙ own-cells in
       rw (rows-as, ap (λ (v : Tables). v .letters) f, ap (λ (v : Tables). v .islands) f, ap (λ (v : Tables). v .points) f, y-rows, y-points)
-    where
-      own-cells : take ownWidth (movedRow dx dy (x .rows)) ≡ movedCells dx dy (kindOf x) 0 a
-      unfolding movedRow
-      own-cells = cells-take dx dy (kindOf x) 0 ownWidth (take rowWidth (x .rows)) ∙ ap (movedCells dx dy (kindOf x) 0) (take-take ownWidth rowWidth (x .rows) (omega arith))
 
 pub alone-moved : (h : Header) (n : ℕ) (t : Tables) (dx dy : ℤ) (k : ℕ) → judgeOf Loose h n t ≡ Fine → k < n → rowAlone k (movedTables dx dy n t) ≡ movedTables dx dy 1 (rowAlone k t)
 alone-moved h n t dx dy k e l =
