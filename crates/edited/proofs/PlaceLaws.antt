@@ -38,6 +38,7 @@ use Rattle.area.specs.declared.RingAnswer.the-variants as Ring
 use Rattle.area.specs.Questions.{answerOf, ringOfRow, netAreaOf, ringFound, ringAt, areaFound, ringAreaAt, netFound, netAreaAt}
 use Rattle.area.proofs.AreaLaws.{areas-moved}
 use Rattle.area.proofs.UsedLaws.{area-alone, net-alone}
+use Rattle.classes.specs.Classes.{classOf}
 use Rattle.border.specs.Borders.{borderOf}
 use Rattle.ring.specs.RingCheck.{checkedOf, checkFound, ringCheckAt}
 use Rattle.ring.proofs.UsedLaws.{check-alone}
@@ -85,17 +86,21 @@ module _ (dx dy : ℤ) where
       let z : n - k ≡ suc (n - suc k) = omega arith in
       rest-moved-at k n noneBefore t e (omega arith) ∙ ap (λ (j : ℕ). movedTables dx dy j (restAt k t)) z ∙ moved-step dx dy (n - suc k) (restAt k t) (made-held (restAt k t) (made-rest n k noneBefore t e h))
 
+class-same : (h : Header) (x y : Tables) → lettersOf x ≡ lettersOf y → borderOf h x .class ≡ borderOf h y .class
+unfolding borderOf
+class-same h x y e = ap (classOf (h .kind) (h .name)) e
+
 -- **the class of every border is the same**
 pub class-moved : (h : Header) (n : ℕ) (t : Tables) (dx dy : ℤ) (k : ℕ) → judgeOf Loose h n t ≡ Fine → k < n
     → borderOf h (leftAt (movedTables dx dy n t) (standOf k (movedTables dx dy n t .rows))) .class ≡ borderOf h (leftAt t (standOf k (t .rows))) .class
-unfolding borderOf
 class-moved h n t dx dy k e l =
     let j = fine-rows h n t e in
     let x = restAt k t in
     let u = movedTables dx dy (n - suc k) (restOf x) in
     let r = made-held x (made-rest n k noneBefore t j l) in
     let same : lettersOf (movedFirst dx dy x then u) ≡ lettersOf x = ap (λ (y : Tables). y .letters) (moved-first dx dy x r u) in
-    rw (left-rest k (movedTables dx dy n t), left-rest k t, row-moved-at dx dy k n t j l, same)
+    ap (λ (y : Tables). borderOf h y .class) (left-rest k (movedTables dx dy n t) ∙ row-moved-at dx dy k n t j l) ∙ class-same h (movedFirst dx dy x then u) x same
+    ∙ sym (ap (λ (y : Tables). borderOf h y .class) (left-rest k t))
 
 -- ---- the row alone
 
