@@ -151,6 +151,43 @@ not-or : (a b : Bool) → (a ≡ true → b ≡ true) → (not a || b) ≡ true
 not-or true b f = f refl
 not-or false b f = refl
 
+numbers : (t : Tables) → isMade t ≡ true → areNumbers (t .rows) ≡ true
+unfolding isMade
+numbers t m =
+    let N = areNumbers (t .rows) in
+    let L = areLetters (countAt t 9) (t .letters) in
+    let C = areCounts (kindOf t) (countAt t 10) (countAt t 11) (t .islands) in
+    let P = arePoints (kindOf t) (countAt t 11) (islandsOf t) (t .points) in
+    and-left N L (and-left (N && L) C (and-left (N && L && C) P m))
+
+low-place : (kind p : ℕ) → isMoved kind p ≡ true → p < ownWidth
+unfolding isMoved
+low-place kind p e = let h = leb-true p 8 (and-right (leb 5 p) (leb p 8) (and-left (leb 5 p && leb p 8) (hasField kind p) e)) in omega arith
+
+was-real : (t : Tables) → isMade t ≡ true → (p : ℕ) → isMoved (kindOf t) p ≡ true → isReal (cellAt t p) ≡ true
+unfolding areNumbers
+was-real t m p e =
+    real-cell (kindOf t) p (cellAt t p)
+    (below-at ownWidth (cellTest (t .rows)) p (and-right (leb rowWidth (length (t .rows))) (below ownWidth (cellTest (t .rows))) (numbers t m)) (low-place (kindOf t) p e)) e
+
+cell-real : (dx dy : ℤ) (kind p : ℕ) (z : ℤ) → isMoved kind p ≡ true → isReal z ≡ true → isReal (movedCell dx dy kind p z +ℤ partAt (negℤ dx) (negℤ dy) p) ≡ true
+unfolding movedCell partAt
+cell-real dx dy kind p z e f = rw e (go (eqb p 5 || eqb p 7))
+  where
+    go : (b : Bool) → isReal ((z +ℤ cond b dx dy) +ℤ cond b (negℤ dx) (negℤ dy)) ≡ true
+    go true = rw (there-back z dx) f
+    go false = rw (there-back z dy) f
+
+own-real : (t : Tables) → isMade t ≡ true → areReals (pointsOf t) ≡ true
+unfolding isMade arePoints
+own-real t m =
+    let v = countAt t verticesPlace in
+    let A = leb (2 * v) (length (t .points)) in
+    let B = areReals (take (2 * v) (t .points)) in
+    let C = not (eqb (kindOf t) 1) || areClosed (ringSizes v (islandsOf t)) (t .points) in
+    let F = areNumbers (t .rows) && areLetters (countAt t 9) (t .letters) && areCounts (kindOf t) (countAt t 10) v (t .islands) in
+    and-right A B (and-left (A && B) C (and-right F (A && B && C) m))
+
 module _ (dx dy : ℤ) where
   -- of a row that is well made
   row-stays-back : (t : Tables) (u : List ℤ) → isMade t ≡ true → rowStays (negℤ dx) (negℤ dy) (movedRow dx dy (t .rows) ++ u) ≡ true
@@ -160,31 +197,7 @@ module _ (dx dy : ℤ) where
       below-all rowWidth (cellStays (negℤ dx) (negℤ dy) (movedRow dx dy (t .rows) ++ u)) (λ p l.
       let k = length-row dx dy (t .rows) (r .row) in
       let at : getD (movedRow dx dy (t .rows) ++ u) p (pos 0) ≡ movedCell dx dy (kindOf t) p (cellAt t p) = List·getD-append (movedRow dx dy (t .rows)) u (pos 0) p (omega (arith, k)) ∙ row-cell dx dy (t .rows) (r .row) p l in
-      rw (kind-kept dx dy (t .rows) u (r .row), at) (not-or (isMoved (kindOf t) p) _ (λ e. cell-real t m p e)))
-    where
-      numbers : (t : Tables) → isMade t ≡ true → areNumbers (t .rows) ≡ true
-      unfolding isMade
-      numbers t m =
-          let N = areNumbers (t .rows) in
-          let L = areLetters (countAt t 9) (t .letters) in
-          let C = areCounts (kindOf t) (countAt t 10) (countAt t 11) (t .islands) in
-          let P = arePoints (kindOf t) (countAt t 11) (islandsOf t) (t .points) in
-          and-left N L (and-left (N && L) C (and-left (N && L && C) P m))
-
-      cell-real : (t : Tables) → isMade t ≡ true → (p : ℕ) → isMoved (kindOf t) p ≡ true → isReal (movedCell dx dy (kindOf t) p (cellAt t p) +ℤ partAt (negℤ dx) (negℤ dy) p) ≡ true
-      unfolding areNumbers movedCell partAt
-      cell-real t m p e =
-          let high : p < ownWidth = low-place (kindOf t) p e in
-          let c : isCell (kindOf t) p (cellAt t p) ≡ true = below-at ownWidth (cellTest (t .rows)) p (and-right (leb rowWidth (length (t .rows))) (below ownWidth (cellTest (t .rows))) (numbers t m)) high in
-          rw e (go (eqb p 5 || eqb p 7) (real-cell (kindOf t) p (cellAt t p) c e))
-        where
-          low-place : (kind p : ℕ) → isMoved kind p ≡ true → p < ownWidth
-          unfolding isMoved
-          low-place kind p e = let h = leb-true p 8 (and-right (leb 5 p) (leb p 8) (and-left (leb 5 p && leb p 8) (hasField kind p) e)) in omega arith
-
-          go : (b : Bool) → isReal (cellAt t p) ≡ true → isReal ((cellAt t p +ℤ cond b dx dy) +ℤ cond b (negℤ dx) (negℤ dy)) ≡ true
-          go true f = rw (there-back (cellAt t p) dx) f
-          go false f = rw (there-back (cellAt t p) dy) f
+      rw (kind-kept dx dy (t .rows) u (r .row), at) (not-or (isMoved (kindOf t) p) _ (λ e. cell-real dx dy (kindOf t) p (cellAt t p) e (was-real t m p e))))
 
   rows-stay-back : (n : ℕ) (b : Before) (t : Tables) → judgeRows Loose n b t ≡ Fine → rowsStay (negℤ dx) (negℤ dy) n (movedRows dx dy n (t .rows)) ≡ true
   unfolding everyRow eachRow
@@ -203,15 +216,6 @@ used-real zero b t e = refl
 used-real (suc n) b t e =
     let g = fine-on Loose n b t e in
     reals-append (pointsOf t) (usedOf n (restOf t) .points) ∙ and-both (areReals (pointsOf t)) (areReals (usedOf n (restOf t) .points)) (own-real t (g .0)) (used-real n (pastRow b t) (restOf t) (g .1))
-  where
-    own-real : (t : Tables) → isMade t ≡ true → areReals (pointsOf t) ≡ true
-    unfolding isMade arePoints
-    own-real t m =
-        let v = countAt t verticesPlace in
-        let A = leb (2 * v) (length (t .points)) in
-        let B = areReals (take (2 * v) (t .points)) in
-        let C = not (eqb (kindOf t) 1) || areClosed (ringSizes v (islandsOf t)) (t .points) in
-        and-right A B (and-left (A && B) C (and-right (areNumbers (t .rows) && areLetters (countAt t 9) (t .letters) && areCounts (kindOf t) (countAt t 10) v (t .islands)) _ m))
 
 -- **an accepted move followed by its opposite** is accepted, and gives the sheet as it stood
 module _ (h : Header) (n : ℕ) (t : Tables) (dx dy : ℤ) (a : moveOf h n t dx dy ≡ Done n) where

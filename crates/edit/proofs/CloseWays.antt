@@ -61,3 +61,9 @@ module _ {A : Type 0} (at n end : ℕ) (s₀ : List A) (h : at + n ≤ end) (l :
             to = omega arith;
             is = rw (e ∙ read) (ap (λ (x : List A). set x i (getD whole i d)) (c .is) ∙ over-next whole s₀ i d (omega (arith, length-whole)) (omega (arith, length-whole)));
           }
+
+-- it is as long as it was
+pub length-closed : {A : Type 0} (at n end : ℕ) (s : List A) → (at + n ≤ end) × (end ≤ length s) → length (closedUp at n end s) ≡ length s
+length-closed at n end s h =
+    length-over (take (end - n) (take at s ++ drop (at + n) s)) s
+    (omega (arith, h .0, h .1, length-take-le (end - n) (take at s ++ drop (at + n) s) (omega (arith, h .0, h .1, length-append (take at s) (drop (at + n) s), length-take-le at s (omega (arith, h .0, h .1)), length-drop (at + n) s))))

@@ -64,6 +64,24 @@ module _ (s : Starts) (t : Tables) where
 cancel : (z : ℤ) (a b : ℕ) → z +ℤ pos a ≡ pos (a + b) → z ≡ pos b
 cancel z a b e = sym (more-less z (pos a)) ∙ ap (λ (x : ℤ). x -ℤ pos a) e ∙ eq-parts (pos (a + b) -ℤ pos a) (pos b) (omega (arith, num (pos (a + b)), diff (pos (a + b)) (pos a)))
 
+-- the starts and what is passed, before and behind
+started : (s : Starts) (t : Tables) (b : Starts) → rowWidth ≤ length (t .rows) → Starting (s plus b) (movedOn s (t .rows)) → Starting b (t .rows)
+unfolding moveAt
+started s t b l r =
+    record {
+      letters = cancel (getD (t .rows) firstLetterPlace (pos 0)) (s .letters) (b .letters) (sym (moved-at s (t .rows) firstLetterPlace (pos 0) (omega arith)) ∙ r .letters);
+      islands = cancel (getD (t .rows) firstIslandPlace (pos 0)) (s .islands) (b .islands) (sym (moved-at s (t .rows) firstIslandPlace (pos 0) (omega arith)) ∙ r .islands);
+      points = cancel (getD (t .rows) firstPointPlace (pos 0)) (s .points) (b .points) (sym (moved-at s (t .rows) firstPointPlace (pos 0) (omega arith)) ∙ r .points);
+    }
+
+past-on : (s : Starts) (b c : Before) (t : Tables) → c .starts ≡ s plus b .starts → pastRow c (startingAt s t) .starts ≡ s plus pastRow b t .starts
+past-on s b c t q =
+    let own = moved-own s (t .rows) in
+    let x : s .letters + b .starts .letters + countAt t lettersPlace ≡ s .letters + (b .starts .letters + countAt t lettersPlace) = omega arith in
+    let y : s .islands + b .starts .islands + countAt t islandsPlace ≡ s .islands + (b .starts .islands + countAt t islandsPlace) = omega arith in
+    let z : s .points + b .starts .points + countAt t verticesPlace ≡ s .points + (b .starts .points + countAt t verticesPlace) = omega arith in
+    rw (q, own lettersPlace (pos 0) (omega arith), own islandsPlace (pos 0) (omega arith), own verticesPlace (pos 0) (omega arith), x, y, z)
+
 -- **rows that come to stand behind fewer are fine there**, whatever the number of the first
 pub fine-back : (mode : Mode) (s : Starts) (n : ℕ) (b c : Before) (t : Tables) → c .starts ≡ s plus b .starts → judgeRows mode n c (startingAt s t) ≡ Fine → judgeRows mode n b t ≡ Fine
 unfolding judgeRows
@@ -78,23 +96,6 @@ fine-back mode s (suc n) b c t q e =
     let code : isCoded mode (kindOf t) (countAt t codePlace) ≡ true = rw (own 0 (pos 0) (omega arith), own codePlace (pos 0) (omega arith)) at (f .3) in
     let past : pastRow c (startingAt s t) .starts ≡ s plus pastRow b t .starts = past-on s b c t q in
     fine-before mode n b t m starts code (fine-back mode s n (pastRow b t) (pastRow c (startingAt s t)) (restOf t) past (ap (judgeRows mode n (pastRow c (startingAt s t))) (sym (rest-moved s t)) ∙ f .1))
-  where
-    started : (s : Starts) (t : Tables) (b : Starts) → rowWidth ≤ length (t .rows) → Starting (s plus b) (movedOn s (t .rows)) → Starting b (t .rows)
-    unfolding moveAt
-    started s t b l r =
-        record {
-          letters = cancel (getD (t .rows) firstLetterPlace (pos 0)) (s .letters) (b .letters) (sym (moved-at s (t .rows) firstLetterPlace (pos 0) (omega arith)) ∙ r .letters);
-          islands = cancel (getD (t .rows) firstIslandPlace (pos 0)) (s .islands) (b .islands) (sym (moved-at s (t .rows) firstIslandPlace (pos 0) (omega arith)) ∙ r .islands);
-          points = cancel (getD (t .rows) firstPointPlace (pos 0)) (s .points) (b .points) (sym (moved-at s (t .rows) firstPointPlace (pos 0) (omega arith)) ∙ r .points);
-        }
-
-    past-on : (s : Starts) (b c : Before) (t : Tables) → c .starts ≡ s plus b .starts → pastRow c (startingAt s t) .starts ≡ s plus pastRow b t .starts
-    past-on s b c t q =
-        let own = moved-own s (t .rows) in
-        let x : s .letters + b .starts .letters + countAt t lettersPlace ≡ s .letters + (b .starts .letters + countAt t lettersPlace) = omega arith in
-        let y : s .islands + b .starts .islands + countAt t islandsPlace ≡ s .islands + (b .starts .islands + countAt t islandsPlace) = omega arith in
-        let z : s .points + b .starts .points + countAt t verticesPlace ≡ s .points + (b .starts .points + countAt t verticesPlace) = omega arith in
-        rw (q, own lettersPlace (pos 0) (omega arith), own islandsPlace (pos 0) (omega arith), own verticesPlace (pos 0) (omega arith), x, y, z)
 
 -- ---- rows that fall one after the other fall together
 
@@ -120,12 +121,8 @@ fall-take s p (suc n) [] = refl
 fall-take s p (suc n) (z ∷ zs) = ap (λ (l : List ℤ). (z -ℤ pos (moveAt s (p % rowWidth))) ∷ l) (fall-take s (suc p) n zs)
 
 pub each-fallen : (s : Starts) (n : ℕ) (rows : List ℤ) → rowWidth * n ≤ length rows → eachRow (fallenRow s) n rows ≡ fallFrom s 0 (take (rowWidth * n) rows) ++ drop (rowWidth * n) rows
-unfolding eachRow fallenRow
-each-fallen s zero rows l = none s
-  where
-    none : (s : Starts) → rows ≡ fallFrom s 0 [] ++ rows
-    unfolding fallFrom
-    none s = refl
+unfolding eachRow fallenRow fallFrom
+each-fallen s zero rows l = refl
 each-fallen s (suc n) rows l =
     let z : rowWidth * suc n ≡ rowWidth + rowWidth * n = omega arith in
     let m = length-take-le rowWidth rows (omega arith) in

@@ -1,11 +1,15 @@
 -- The laws of `edit` and the ways through its code; `pub mod` lets other crates cite a file.
 mod PartWays
 mod PlaceWays
-mod RowMoves
+pub mod RowMoves
 mod RowLoops
 mod PointMoves
 mod SheetMoves
 mod CloseWays
 mod LowerWays
 mod FallLaws
-mod ColumnLaws
+pub mod ColumnLaws
+mod RemoveWays
+pub mod MoveLaws
+pub mod BackLaws
+pub mod RemoveLaws

@@ -113,8 +113,10 @@ module _ (rows : List ℤ) (l : rowWidth ≤ length rows) (u : isUp rows ≡ tru
       pub third-up : (14 < length w) × (leZ (pos 0) (getD w 14 (pos 0)) ≡ true)
       unfolding isUp
       third-up =
-          rw (f, e) (omega (arith, length-lowered 13 k (lowered 12 n rows), length-lowered 12 n rows),
-          rw (kept 13 14 k (lowered 12 n rows) (λ z. omega arith), kept 12 14 n rows (λ z. omega arith)) (and-right B C (and-right A (B && C) u)))
+          rw (f, e) (
+            omega (arith, length-lowered 13 k (lowered 12 n rows), length-lowered 12 n rows),
+            rw (kept 13 14 k (lowered 12 n rows) (λ z. omega arith), kept 12 14 n rows (λ z. omega arith)) (and-right B C (and-right A (B && C) u)),
+          )
 
       pub row-lowered : (j : ℕ) (x : List ℤ) → x ≡ lowered 14 j w → x ≡ eachRow (fallenRow (startsAt n k j)) 1 rows
       row-lowered j x g = g ∙ rw (f, e) (three-fallen (startsAt n k j) rows l)

@@ -27,7 +27,7 @@ use Rattle.sheet.specs.Tables.{Tables, _then_, Starts}
 use Rattle.made.specs.declared.Verdict.the-variants.{Fine, BadHeader}
 use Rattle.made.specs.Made.{tablesOf, natOf, cellAt, countAt, kindOf, lettersOf, islandsOf, pointsOf, firstOf, ownOf, restOf, hasField, inRange, isCell, isCellAt, cellTest, areNumbers, areLetters, sum as total-of, areCounts, areReals, isClosed, areClosed, ringSizes, arePoints, isMade, areStarts, countsOf, Before, noneBefore, pastRow, isCoded, judgeRows, judgeOf, usedOf}
 use Rattle.made.proofs.RowWays.{Held, made-held, border-outer}
-use Rattle.made.proofs.OwnLaws.{cell-first, made-first, made-same, first-then, rest-then, islands-first}
+use Rattle.made.proofs.OwnLaws.{first-first, cell-first, made-first, first-then, rest-then}
 use Rattle.made.proofs.UsedLaws.{fine-on, fine-before}
 use Rattle.edit.specs.Rows.{everyRow, eachRow}
 use Rattle.edit.specs.Moves.{isPart, isMoved, partAt, movedCell, movedCells, movedRow, movedRows, cellStays, rowStays, rowsStay, movedTables, isMove}
@@ -68,12 +68,7 @@ drop-moved : (dx dy : ℤ) (n : ℕ) (s : List ℤ) → drop (2 * n) (moved dx d
 unfolding moved
 drop-moved dx dy zero s = refl
 drop-moved dx dy (suc n) [] = let e : 2 * suc n ≡ suc (suc (2 * n)) = omega arith in rw e
-drop-moved dx dy (suc n) (x ∷ []) = let e : 2 * suc n ≡ suc (suc (2 * n)) = omega arith in rw e (none (2 * n))
-  where
-    none : (k : ℕ) → _≡_ {A = List ℤ} (drop k []) (moved dx dy (drop k []))
-    unfolding moved
-    none zero = refl
-    none (suc k) = refl
+drop-moved dx dy (suc n) (x ∷ []) = let e : 2 * suc n ≡ suc (suc (2 * n)) = omega arith in rw e
 drop-moved dx dy (suc n) (x ∷ y ∷ s) = let e : 2 * suc n ≡ suc (suc (2 * n)) = omega arith in rw e (drop-moved dx dy n s)
 
 pub moved-append : (dx dy : ℤ) (n : ℕ) (a b : List ℤ) → length a ≡ 2 * n → moved dx dy (a ++ b) ≡ moved dx dy a ++ moved dx dy b
@@ -94,7 +89,7 @@ reals-append (z ∷ a) b = ap (λ (x : Bool). isReal z && x) (reals-append a b) 
     nest false y w = refl
 
 -- equal numbers stay equal, others do not become so
-same-shift : (a b d : ℤ) → eqZ (a +ℤ d) (b +ℤ d) ≡ eqZ a b
+pub same-shift : (a b d : ℤ) → eqZ (a +ℤ d) (b +ℤ d) ≡ eqZ a b
 same-shift a b d = go (eqZ a b) refl
   where
     go : (t : Bool) → eqZ a b ≡ t → eqZ (a +ℤ d) (b +ℤ d) ≡ t
@@ -185,20 +180,20 @@ module _ (dx dy : ℤ) (t : Tables) (r : Held t) where
 
 -- ---- it is well made
 
+moved-cell-made : (kind p : ℕ) (z : ℤ) → isMoved kind p ≡ true → isReal z ≡ true → isCell kind p z ≡ true
+unfolding isMoved isCell inRange wantAt
+moved-cell-made kind p z e f =
+    let low = leb-true 5 p (and-left (leb 5 p) (leb p 8) (and-left (leb 5 p && leb p 8) (hasField kind p) e)) in
+    let high = leb-true p 8 (and-right (leb 5 p) (leb p 8) (and-left (leb 5 p && leb p 8) (hasField kind p) e)) in
+    rw (ne-eqb p 0 (λ q. omega arith), ne-eqb p 1 (λ q. omega arith), and-right (leb 5 p && leb p 8) (hasField kind p) e, ne-eqb p 9 (λ q. omega arith), le-leb 4 p (omega arith), le-leb p 8 high) f
+
 -- a number that moves is a real before and behind, another stays
 cell-made : (dx dy : ℤ) (kind p : ℕ) (z : ℤ) → isCell kind p z ≡ true → (not (isMoved kind p) || isReal (z +ℤ partAt dx dy p)) ≡ true → isCell kind p (movedCell dx dy kind p z) ≡ true
 unfolding movedCell
 cell-made dx dy kind p z c s = go (isMoved kind p) refl s
   where
-    here : isMoved kind p ≡ true → isReal (z +ℤ partAt dx dy p) ≡ true → isCell kind p (z +ℤ partAt dx dy p) ≡ true
-    unfolding isMoved isCell inRange wantAt
-    here e f =
-        let low = leb-true 5 p (and-left (leb 5 p) (leb p 8) (and-left (leb 5 p && leb p 8) (hasField kind p) e)) in
-        let high = leb-true p 8 (and-right (leb 5 p) (leb p 8) (and-left (leb 5 p && leb p 8) (hasField kind p) e)) in
-        rw (ne-eqb p 0 (λ q. omega arith), ne-eqb p 1 (λ q. omega arith), and-right (leb 5 p && leb p 8) (hasField kind p) e, ne-eqb p 9 (λ q. omega arith), le-leb 4 p (omega arith), le-leb p 8 high) f
-
     go : (b : Bool) → isMoved kind p ≡ b → (not b || isReal (z +ℤ partAt dx dy p)) ≡ true → isCell kind p (cond b (z +ℤ partAt dx dy p) z) ≡ true
-    go true e f = here e f
+    go true e f = moved-cell-made kind p (z +ℤ partAt dx dy p) e f
     go false e f = c
 
 module _ (dx dy : ℤ) (t : Tables) (m : isMade t ≡ true) (st : rowStays dx dy (t .rows) ≡ true) (rs : areReals (moved dx dy (pointsOf t)) ≡ true) where
@@ -262,7 +257,7 @@ module _ (dx dy : ℤ) (t : Tables) (m : isMade t ≡ true) (st : rowStays dx dy
       rw (kind-w, row-cell dx dy (t .rows) (h .row) p (omega arith)) (cell-made dx dy (kindOf t) p (cellAt t p) here stay)))
 
   L-w : areLetters (countAt w lettersPlace) (lettersOf t) ≡ true
-  L-w = rw (count-w 9 (omega arith) (omega arith), ← count-f 9 (omega arith)) (and-right NF LF nl)
+  L-w = ap (λ (n : ℕ). areLetters n (lettersOf t)) (count-w 9 (omega arith) (omega arith) ∙ sym (count-f 9 (omega arith))) ∙ and-right NF LF nl
 
   C-t : areCounts (kindOf t) i v (islandsOf t) ≡ true
   C-t = rw (count-f 0 (omega arith), count-f 10 (omega arith), count-f 11 (omega arith)) at (and-right (NF && LF) CF nlc)
@@ -271,7 +266,7 @@ module _ (dx dy : ℤ) (t : Tables) (m : isMade t ≡ true) (st : rowStays dx dy
   C-w = rw (kind-w, count-w 10 (omega arith) (omega arith), count-w 11 (omega arith) (omega arith)) C-t
 
   P-t : arePoints (kindOf t) v (islandsOf t) (pointsOf t) ≡ true
-  P-t = rw (islands-first t, count-f 0 (omega arith), count-f 11 (omega arith)) at (and-right (NF && LF && CF) PF all-f)
+  P-t = rw (ap (λ (x : Tables). x .islands) (first-first t), count-f 0 (omega arith), count-f 11 (omega arith)) at (and-right (NF && LF && CF) PF all-f)
 
   points-long : length (pointsOf t) ≡ 2 * v
   points-long = length-take-le (2 * v) (t .points) (h .points)
@@ -308,6 +303,11 @@ module _ (dx dy : ℤ) (t : Tables) (m : isMade t ≡ true) (st : rowStays dx dy
   moved-made =
       and-both (areNumbers (w .rows) && areLetters (countAt w lettersPlace) (lettersOf t) && areCounts (kindOf w) (countAt w islandsPlace) (countAt w verticesPlace) (islandsOf t)) _
       (and-both (areNumbers (w .rows) && areLetters (countAt w lettersPlace) (lettersOf t)) _ (and-both (areNumbers (w .rows)) _ N-w L-w) C-w) P-w
+
+same-starts : (s : Starts) (a c : Tables) → cellAt a firstLetterPlace ≡ cellAt c firstLetterPlace → cellAt a firstIslandPlace ≡ cellAt c firstIslandPlace → cellAt a firstPointPlace ≡ cellAt c firstPointPlace
+    → areStarts s (a .rows) ≡ areStarts s (c .rows)
+unfolding areStarts
+same-starts s a c x y z = rw (x, y, z)
 
 -- ---- row by row
 
@@ -362,11 +362,6 @@ module _ (dx dy : ℤ) where
       ap (judgeRows mode (suc n) b) (moved-step n t r)
       ∙ fine-before mode n b (x then u) made starts code
       (ap₂ (judgeRows mode n) past (moved-rest dx dy t r u) ∙ rows-moved-fine mode n (pastRow b t) (restOf t) (g .1) (and-right (rowStays dx dy (t .rows)) (rowsStay dx dy n (drop rowWidth (t .rows))) s) (q .1))
-    where
-      same-starts : (s : Starts) (a c : Tables) → cellAt a firstLetterPlace ≡ cellAt c firstLetterPlace → cellAt a firstIslandPlace ≡ cellAt c firstIslandPlace → cellAt a firstPointPlace ≡ cellAt c firstPointPlace
-          → areStarts s (a .rows) ≡ areStarts s (c .rows)
-      unfolding areStarts
-      same-starts s a c x y z = rw (x, y, z)
 
 -- **a well made sheet that is moved is well made**, in either mode
 module _ (mode : Mode) (h : Header) (n : ℕ) (t : Tables) (dx dy : ℤ) (e : judgeOf mode h n t ≡ Fine) (m : isMove dx dy n t ≡ true) where

@@ -20,7 +20,7 @@ use Rattle.sheet.specs.Tables.{Tables, Starts}
 use Rattle.made.specs.declared.Verdict.{Verdict}
 use Rattle.made.specs.declared.Verdict.the-variants.{Fine}
 use Rattle.made.specs.Made.{natOf, countAt, firstOf, restOf, startsAt, countsOf, noneBefore, judgeRows, usedOf}
-use Rattle.made.proofs.UsedLaws.{total, used-front, fine-long}
+use Rattle.made.proofs.UsedLaws.{total, used-front, Long, fine-long}
 use Rattle.made.proofs.StartLaws.{Starting, starts-are, starts-total, pastRows}
 use Rattle.row.specs.declared.Stand.{Stand}
 use Rattle.row.specs.declared.Sought.{Sought}
@@ -93,24 +93,36 @@ module _ (n : ℕ) (t : Tables) (e : judgeRows Loose n noneBefore t ≡ Fine) wh
     pub end-asks : length (t .rows) ≤ wordMost → length (t .letters) ≤ wordMost → length (t .islands) ≤ wordMost → length (t .points) ≤ wordMost
         → (1 ≤ n) × (rowWidth * n ≤ length (t .rows)) × Stands wordMost wordMost wordMost wordMost (endStand n (t .rows))
     end-asks a b c d =
-        let l = fine-long Loose n noneBefore t e in
-        (h, l .rows-in,
-        record {
-          row-in = omega (arith, l .rows-in, end-r);
-          letters-in = omega (arith, l .letters-in, end-l);
-          islands-in = omega (arith, l .islands-in, end-i);
-          points-in = omega (arith, l .points-in, end-p);
-        })
+        let l = fine-long Loose n noneBefore t e in (
+          h,
+          l .rows-in,
+          record {
+            row-in = omega (arith, l .rows-in, end-r);
+            letters-in = omega (arith, l .letters-in, end-l);
+            islands-in = omega (arith, l .islands-in, end-i);
+            points-in = omega (arith, l .points-in, end-p);
+          },
+        )
 
 -- ---- the row that is taken out
 
-module _ (m k : ℕ) (t : Tables) (e : judgeRows Loose (suc m) noneBefore t ≡ Fine) (h : k ≤ m) (d : Stand) (q : d ≡ standOf k (t .rows)) where
+module _ (n k : ℕ) (t : Tables) (e : judgeRows Loose n noneBefore t ≡ Fine) (h : k < n) (d : Stand) (q : d ≡ standOf k (t .rows)) where
+  abbrev m : ℕ
+  m = n - 1
+
+  all-rows : suc m ≡ n
+  all-rows = omega arith
+
+  fine-all : judgeRows Loose (suc m) noneBefore t ≡ Fine
+  fine-all = ap (λ (j : ℕ). judgeRows Loose j noneBefore t) all-rows ∙ e
+
   d-is : d ≡ record { row = rowWidth * k; letters = total lettersPlace k t; islands = total islandsPlace k t; points = 2 * total verticesPlace k t }
   d-is =
-      let f = first-at (suc m) t e k (omega arith) in
-      q ∙ walk-own (walk-to Loose t (suc m) e k (omega arith)) (omega arith) ∙ rw (f .0, f .1, f .2)
+      let f = first-at n t e k h in
+      q ∙ walk-own (walk-to Loose t n e k (omega arith)) h ∙ rw (f .0, f .1, f .2)
 
-  long = fine-long Loose (suc m) noneBefore t e
+  long : Long n t
+  long = fine-long Loose n noneBefore t e
 
   d-row : d .row ≡ rowWidth * k
   d-row = ap (λ (x : Stand). x .row) d-is
@@ -121,48 +133,45 @@ module _ (m k : ℕ) (t : Tables) (e : judgeRows Loose (suc m) noneBefore t ≡ 
   own-count : (p c : ℕ) → c ≡ natOf (getD (t .rows) (d .row + p) (pos 0)) → c ≡ countAt (restAt k t) p
   own-count p c f = f ∙ ap (λ (j : ℕ). natOf (getD (t .rows) (j + p) (pos 0))) d-row ∙ ap natOf (sym (getD-drop (rowWidth * k) (t .rows) p (pos 0))) ∙ sym (count-rest k t p)
 
-  module _ (x : Stand) (ex : x ≡ endStand (suc m) (t .rows)) where
-    x-l : x .letters ≡ total lettersPlace (suc m) t
-    x-l = ap (λ (y : Stand). y .letters) ex ∙ end-l (suc m) t e (omega arith)
+  module _ (x : Stand) (ex : x ≡ endStand n (t .rows)) where
+    x-l : x .letters ≡ total lettersPlace n t
+    x-l = ap (λ (y : Stand). y .letters) ex ∙ end-l n t e (omega arith)
 
-    x-i : x .islands ≡ total islandsPlace (suc m) t
-    x-i = ap (λ (y : Stand). y .islands) ex ∙ end-i (suc m) t e (omega arith)
+    x-i : x .islands ≡ total islandsPlace n t
+    x-i = ap (λ (y : Stand). y .islands) ex ∙ end-i n t e (omega arith)
 
-    x-p : x .points ≡ 2 * total verticesPlace (suc m) t
-    x-p = ap (λ (y : Stand). y .points) ex ∙ end-p (suc m) t e (omega arith)
+    x-p : x .points ≡ 2 * total verticesPlace n t
+    x-p = ap (λ (y : Stand). y .points) ex ∙ end-p n t e (omega arith)
 
-    x-r : x .row ≡ rowWidth * suc m
-    x-r = ap (λ (y : Stand). y .row) ex ∙ end-r (suc m) t e (omega arith)
+    x-r : x .row ≡ rowWidth * n
+    x-r = ap (λ (y : Stand). y .row) ex ∙ end-r n t e (omega arith)
 
     module _ (c : ℕ) (f : c ≡ natOf (getD (t .rows) (d .row + 9) (pos 0))) where
       pub letters-asks : (d .letters + c ≤ x .letters) × (x .letters ≤ length (t .letters))
       letters-asks =
-          (omega (arith, ap (λ (y : Stand). y .letters) d-is, own-count 9 c f, x-l, tot-upto lettersColumn (suc m) k t (omega arith)), omega (arith, x-l, long .letters-in))
+          (omega (arith, ap (λ (y : Stand). y .letters) d-is, own-count 9 c f, x-l, tot-upto lettersColumn n k t h), omega (arith, x-l, long .letters-in))
 
-      pub letters-done : (u : List ℕ) → u ≡ closedUp (d .letters) c (x .letters) (t .letters) → u ≡ removedTables (suc m) k t .letters
+      pub letters-done : (u : List ℕ) → u ≡ closedUp (d .letters) c (x .letters) (t .letters) → u ≡ removedTables n k t .letters
       letters-done u g =
-          let z : suc m - 1 ≡ m = omega arith in
-          g ∙ rw (ap (λ (y : Stand). y .letters) d-is, own-count 9 c f, x-l, z) (closed lettersColumn Loose m k noneBefore t e h)
+          g ∙ rw (ap (λ (y : Stand). y .letters) d-is, own-count 9 c f, x-l) (ap (λ (j : ℕ). closedUp (total lettersPlace k t) (countAt (restAt k t) lettersPlace) (total lettersPlace j t) (t .letters)) (sym all-rows) ∙ closed lettersColumn Loose m k noneBefore t fine-all (omega arith))
 
     module _ (c : ℕ) (f : c ≡ natOf (getD (t .rows) (d .row + 10) (pos 0))) where
       pub islands-asks : (d .islands + c ≤ x .islands) × (x .islands ≤ length (t .islands))
       islands-asks =
-          (omega (arith, ap (λ (y : Stand). y .islands) d-is, own-count 10 c f, x-i, tot-upto islandsColumn (suc m) k t (omega arith)), omega (arith, x-i, long .islands-in))
+          (omega (arith, ap (λ (y : Stand). y .islands) d-is, own-count 10 c f, x-i, tot-upto islandsColumn n k t h), omega (arith, x-i, long .islands-in))
 
-      pub islands-done : (u : List ℕ) → u ≡ closedUp (d .islands) c (x .islands) (t .islands) → u ≡ removedTables (suc m) k t .islands
+      pub islands-done : (u : List ℕ) → u ≡ closedUp (d .islands) c (x .islands) (t .islands) → u ≡ removedTables n k t .islands
       islands-done u g =
-          let z : suc m - 1 ≡ m = omega arith in
-          g ∙ rw (ap (λ (y : Stand). y .islands) d-is, own-count 10 c f, x-i, z) (closed islandsColumn Loose m k noneBefore t e h)
+          g ∙ rw (ap (λ (y : Stand). y .islands) d-is, own-count 10 c f, x-i) (ap (λ (j : ℕ). closedUp (total islandsPlace k t) (countAt (restAt k t) islandsPlace) (total islandsPlace j t) (t .islands)) (sym all-rows) ∙ closed islandsColumn Loose m k noneBefore t fine-all (omega arith))
 
     module _ (c : ℕ) (f : c ≡ natOf (getD (t .rows) (d .row + 11) (pos 0))) where
       pub points-asks : (d .points + 2 * c ≤ x .points) × (x .points ≤ length (t .points))
       points-asks =
-          (omega (arith, ap (λ (y : Stand). y .points) d-is, own-count 11 c f, x-p, tot-upto pointsColumn (suc m) k t (omega arith)), omega (arith, x-p, long .points-in))
+          (omega (arith, ap (λ (y : Stand). y .points) d-is, own-count 11 c f, x-p, tot-upto pointsColumn n k t h), omega (arith, x-p, long .points-in))
 
-      pub points-done : (u : List ℤ) → u ≡ closedUp (d .points) (2 * c) (x .points) (t .points) → u ≡ removedTables (suc m) k t .points
+      pub points-done : (u : List ℤ) → u ≡ closedUp (d .points) (2 * c) (x .points) (t .points) → u ≡ removedTables n k t .points
       points-done u g =
-          let z : suc m - 1 ≡ m = omega arith in
-          g ∙ rw (ap (λ (y : Stand). y .points) d-is, own-count 11 c f, x-p, z) (closed pointsColumn Loose m k noneBefore t e h)
+          g ∙ rw (ap (λ (y : Stand). y .points) d-is, own-count 11 c f, x-p) (ap (λ (j : ℕ). closedUp (2 * total verticesPlace k t) (2 * countAt (restAt k t) verticesPlace) (2 * total verticesPlace j t) (t .points)) (sym all-rows) ∙ closed pointsColumn Loose m k noneBefore t fine-all (omega arith))
 
     pub rows-asks : (d .row + 15 ≤ x .row) × (x .row ≤ length (t .rows))
     rows-asks = (omega (arith, d-row, x-r), omega (arith, x-r, long .rows-in))
@@ -214,7 +223,7 @@ module _ (m k : ℕ) (t : Tables) (e : judgeRows Loose (suc m) noneBefore t ≡ 
       row-up : (j : ℕ) → j < m - k → isUp (drop (rowWidth * j) (X ++ Y)) ≡ true
       unfolding isUp
       row-up j g =
-          let s = starting (suc m) t e (suc k + j) (omega arith) in
+          let s = starting n t e (suc k + j) (omega arith) in
           and-both (leZ (pos 0) (getD (drop (rowWidth * j) (X ++ Y)) 12 (pos 0)))
           (leZ (pos 0) (getD (drop (rowWidth * j) (X ++ Y)) 13 (pos 0)) && leZ (pos 0) (getD (drop (rowWidth * j) (X ++ Y)) 14 (pos 0)))
           (up-at (getD (drop (rowWidth * j) (X ++ Y)) 12 (pos 0)) _ (cell-behind j 12 g (omega arith) ∙ s .letters))
@@ -222,14 +231,11 @@ module _ (m k : ℕ) (t : Tables) (e : judgeRows Loose (suc m) noneBefore t ≡ 
           (up-at (getD (drop (rowWidth * j) (X ++ Y)) 13 (pos 0)) _ (cell-behind j 13 g (omega arith) ∙ s .islands))
           (up-at (getD (drop (rowWidth * j) (X ++ Y)) 14 (pos 0)) _ (cell-behind j 14 g (omega arith) ∙ s .points)))
 
-      less-rows : suc m - 1 - k ≡ m - k
-      less-rows = omega arith
-
-      pub lower-asks : (rowWidth * (suc m - 1 - k) ≤ length (tail v (d .row))) × (everyRow isUp (suc m - 1 - k) (tail v (d .row)) ≡ true)
-      lower-asks = rw (behind-is, less-rows) (omega (arith, length-append X Y, X-long), every-all isUp (m - k) (X ++ Y) row-up)
+      pub lower-asks : (rowWidth * (n - 1 - k) ≤ length (tail v (d .row))) × (everyRow isUp (n - 1 - k) (tail v (d .row)) ≡ true)
+      lower-asks = rw behind-is (omega (arith, length-append X Y, X-long), every-all isUp (m - k) (X ++ Y) row-up)
 
       module _ (l i p : ℕ) (fl : l ≡ natOf (getD R (d .row + 9) (pos 0))) (fi : i ≡ natOf (getD R (d .row + 10) (pos 0))) (fp : p ≡ natOf (getD R (d .row + 11) (pos 0)))
-          (u : List ℤ) (eu : u ≡ eachRow (fallenRow (startsAt l i p)) (suc m - 1 - k) (tail v (d .row))) where
+          (u : List ℤ) (eu : u ≡ eachRow (fallenRow (startsAt l i p)) (n - 1 - k) (tail v (d .row))) where
         abbrev s : Starts
         s = countsOf (restAt k t)
 
@@ -238,7 +244,7 @@ module _ (m k : ℕ) (t : Tables) (e : judgeRows Loose (suc m) noneBefore t ≡ 
 
         u-is : u ≡ fallFrom s 0 X ++ Y
         u-is =
-            eu ∙ rw (s-is, less-rows, behind-is)
+            eu ∙ rw (s-is, behind-is)
             (each-fallen s (m - k) (X ++ Y) (omega (arith, length-append X Y, X-long))
             ∙ ap₂ (λ (a b : List ℤ). fallFrom s 0 a ++ b) (take-at X Y (rowWidth * (m - k)) X-long) (drop-at X Y (rowWidth * (m - k)) X-long))
 
@@ -253,16 +259,15 @@ module _ (m k : ℕ) (t : Tables) (e : judgeRows Loose (suc m) noneBefore t ≡ 
         used-long : length (take (rowWidth * k) R ++ fallFrom s 0 X) ≡ rowWidth * m
         used-long = omega (arith, length-append (take (rowWidth * k) R) (fallFrom s 0 X), front-long, length-fall s 0 X, X-long)
 
-        pub rows-done : take (d .row) v ++ (u ++ drop (length v - d .row) (drop (d .row) v)) ≡ removedTables (suc m) k t .rows
+        pub rows-done : take (d .row) v ++ (u ++ drop (length v - d .row) (drop (d .row) v)) ≡ removedTables n k t .rows
         rows-done =
-            let z : suc m - 1 ≡ m = omega arith in
             let none : drop (length v - d .row) (drop (d .row) v) ≡ [] = left-none (drop (d .row) v) (length v - d .row) (omega (arith, length-drop (d .row) v)) in
             let f : take (d .row) v ≡ take (rowWidth * k) R = rw (v-is, d-row) (take-at (take (rowWidth * k) R) (X ++ Y) (rowWidth * k) front-long) in
-            rw (none, append-nil u, f, u-is, z, used-rows, used-long) (sym (append-assoc (take (rowWidth * k) R) (fallFrom s 0 X) Y))
+            rw (none, append-nil u, f, u-is, used-rows, used-long) (sym (append-assoc (take (rowWidth * k) R) (fallFrom s 0 X) Y))
 
         pub rows-length : length (take (d .row) v ++ (u ++ drop (length v - d .row) (drop (d .row) v))) ≡ length R
         rows-length =
-            rw rows-done (let z : suc m - 1 ≡ m = omega arith in rw (z, used-rows)
+            rw rows-done (rw used-rows
             (length-over (take (rowWidth * k) R ++ fallFrom s 0 X) R (omega (arith, used-long, long .rows-in))))
 
 -- ---- a sheet

@@ -95,14 +95,13 @@ module _ (f : List ℤ → List ℤ) (w : Wide f) where
       let m = w rows (omega arith) in
       let z : rowWidth * suc n ≡ length (f rows) + rowWidth * n = omega arith in
       let x : rowWidth + rowWidth * n ≡ rowWidth * suc n = omega arith in
-      let y = drop-drop (rowWidth * n) rowWidth rows ∙ ap (λ (j : ℕ). drop j rows) x in
-      (
+      let y = drop-drop (rowWidth * n) rowWidth rows ∙ ap (λ (j : ℕ). drop j rows) x in (
         ap (λ (j : ℕ). drop j (f rows ++ eachRow f n (drop rowWidth rows))) z ∙ drop-append-add (f rows) (eachRow f n (drop rowWidth rows)) (rowWidth * n) ∙ i .0 ∙ y,
         ap (λ (x : List ℤ). f rows ++ x) (i .1)
-        ∙ ap (λ (x : List ℤ). f rows ++ (take (rowWidth * n) (eachRow f n (drop rowWidth rows)) ++ eachRow f 1 x)) y
-        ∙ sym (append-assoc (f rows) (take (rowWidth * n) (eachRow f n (drop rowWidth rows))) (eachRow f 1 (drop (rowWidth * suc n) rows)))
-        ∙ ap (λ (x : List ℤ). x ++ eachRow f 1 (drop (rowWidth * suc n) rows))
-        (sym (ap (λ (j : ℕ). take j (f rows ++ eachRow f n (drop rowWidth rows))) z ∙ take-append-add (f rows) (eachRow f n (drop rowWidth rows)) (rowWidth * n))),
+            ∙ ap (λ (x : List ℤ). f rows ++ (take (rowWidth * n) (eachRow f n (drop rowWidth rows)) ++ eachRow f 1 x)) y
+            ∙ sym (append-assoc (f rows) (take (rowWidth * n) (eachRow f n (drop rowWidth rows))) (eachRow f 1 (drop (rowWidth * suc n) rows)))
+            ∙ ap (λ (x : List ℤ). x ++ eachRow f 1 (drop (rowWidth * suc n) rows))
+            (sym (ap (λ (j : ℕ). take j (f rows ++ eachRow f n (drop rowWidth rows))) z ∙ take-append-add (f rows) (eachRow f n (drop rowWidth rows)) (rowWidth * n))),
       )
 
 -- the rows before the k-th are changed

@@ -60,9 +60,10 @@ module _ (dx dy : ℤ) (s : List ℤ) (p : ℕ) (fx : SFits w64 dx) (fy : SFits 
 
     pub pair-y-real : (p + 1 < length u) × (isReal (getD u (p + 1) (pos 0) +ℤ bits dy) ≡ true)
     unfolding pairStays
-    pair-y-real =
-        (rw u-is (omega (arith, length-set s p (getD s p (pos 0) +ℤ dx))),
-        rw (toZ-ofZ fy, y-kept) (and-right (isReal (getD s p (pos 0) +ℤ dx)) (isReal (getD s (p + 1) (pos 0) +ℤ dy)) st))
+    pair-y-real = (
+      rw u-is (omega (arith, length-set s p (getD s p (pos 0) +ℤ dx))),
+      rw (toZ-ofZ fy, y-kept) (and-right (isReal (getD s p (pos 0) +ℤ dx)) (isReal (getD s (p + 1) (pos 0) +ℤ dy)) st),
+    )
 
     pub pair-done : (v : List ℤ) → v ≡ set u (p + 1) (getD u (p + 1) (pos 0) +ℤ bits dy) → v ≡ pairShifted dx dy s p
     unfolding pairShifted
@@ -128,7 +129,7 @@ pub ruleset row-ways = (row-unplaced, row-first-off, row-single, row-second)
 -- ---- a row that is moved
 
 -- behind the second y nothing moves
-cells-late : (dx dy : ℤ) (kind p : ℕ) (s : List ℤ) → 9 ≤ p → movedCells dx dy kind p s ≡ s
+pub cells-late : (dx dy : ℤ) (kind p : ℕ) (s : List ℤ) → 9 ≤ p → movedCells dx dy kind p s ≡ s
 unfolding movedCells movedCell isMoved
 cells-late dx dy kind p [] h = refl
 cells-late dx dy kind p (z ∷ s) h = rw (lt-leb p 8 h, and-false (leb 5 p), cells-late dx dy kind (suc p) s (omega arith))
@@ -203,9 +204,11 @@ module _ (dx dy : ℤ) (rows : List ℤ) (l : rowWidth ≤ length rows) (st : ro
     yes = x-field ∙ not-false a t
 
     pub first-asks : (5 + 1 < length rows) × (pairStays (bits dx) (bits dy) rows 5 ≡ true)
-    first-asks =
-        (omega arith, rw (toZ-ofZ fx, toZ-ofZ fy) (or-right (hasField kind₁ xPlace) (pairStays dx dy rows xPlace) yes
-        (and-left (not (hasField kind₁ xPlace) || pairStays dx dy rows xPlace) (not (hasField kind₁ x2Place) || pairStays dx dy rows x2Place) both-stay)))
+    first-asks = (
+      omega arith,
+      rw (toZ-ofZ fx, toZ-ofZ fy) (or-right (hasField kind₁ xPlace) (pairStays dx dy rows xPlace) yes
+          (and-left (not (hasField kind₁ xPlace) || pairStays dx dy rows xPlace) (not (hasField kind₁ x2Place) || pairStays dx dy rows x2Place) both-stay)),
+    )
 
     module _ (u : List ℤ) (eu : u ≡ pairShifted (bits dx) (bits dy) rows 5) (b : Bool) (es : b ≡ hasField k x2Place) where
       u-shifted : u ≡ pairShifted dx dy rows xPlace
@@ -219,10 +222,11 @@ module _ (dx dy : ℤ) (rows : List ℤ) (l : rowWidth ≤ length rows) (st : ro
 
       module _ (w : not b ≡ false) where
         pub second-asks : (7 + 1 < length u) × (pairStays (bits dx) (bits dy) u 7 ≡ true)
-        second-asks =
-            (rw u-shifted (omega (arith, length-shifted dx dy rows xPlace)),
-            rw (toZ-ofZ fx, toZ-ofZ fy, u-shifted) (second-kept dx dy dx dy rows (omega arith) ∙ or-right (hasField kind₁ x2Place) (pairStays dx dy rows x2Place) (x2-field ∙ not-false b w)
-            (and-right (not (hasField kind₁ xPlace) || pairStays dx dy rows xPlace) (not (hasField kind₁ x2Place) || pairStays dx dy rows x2Place) both-stay)))
+        second-asks = (
+          rw u-shifted (omega (arith, length-shifted dx dy rows xPlace)),
+          rw (toZ-ofZ fx, toZ-ofZ fy, u-shifted) (second-kept dx dy dx dy rows (omega arith) ∙ or-right (hasField kind₁ x2Place) (pairStays dx dy rows x2Place) (x2-field ∙ not-false b w)
+              (and-right (not (hasField kind₁ xPlace) || pairStays dx dy rows xPlace) (not (hasField kind₁ x2Place) || pairStays dx dy rows x2Place) both-stay)),
+        )
 
         pub move-both : (v : List ℤ) → v ≡ pairShifted (bits dx) (bits dy) u 7 → v ≡ movedRows dx dy 1 rows
         move-both v ev = (rw (toZ-ofZ fx, toZ-ofZ fy, u-shifted) at ev) ∙ moved-two dx dy rows (omega arith) yes (x2-field ∙ not-false b w)

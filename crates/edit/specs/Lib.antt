@@ -4,6 +4,7 @@ pub mod Rows
 pub mod Moves
 pub mod MoveExamples
 pub mod Removals
+pub mod RemoveExamples
 pub mod Elements
 -- For private contracts alone:
 pub mod Used

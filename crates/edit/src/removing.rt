@@ -8,7 +8,7 @@ ghost use lib.Signed.{leZ};
 ghost use Rattle.record.specs.declared.Mode.the-variants.{Loose};
 ghost use Rattle.kinds.specs.Kinds.{rowWidth};
 ghost use Rattle.made.specs.declared.Verdict.the-variants.{Fine};
-ghost use Rattle.made.specs.Made.{tablesOf, startsAt, noneBefore, judgeRows};
+ghost use Rattle.made.specs.Made.{tablesOf, natOf, startsAt, noneBefore, judgeRows};
 ghost use Rattle.row.specs.Walk.{wordMost, standOf, Stands};
 ghost use Rattle.edit.specs.Answers.{tablesAt};
 ghost use Rattle.edit.specs.Rows.{everyRow, eachRow};
@@ -21,6 +21,7 @@ use kinds::FIRST_LETTER_PLACE;
 use kinds::FIRST_POINT_PLACE;
 use kinds::ROW_WIDTH;
 use made::count_at;
+use made::count_of;
 use row::Sought;
 use row::Stand;
 use row::seek;
@@ -114,6 +115,14 @@ fn end_of(count: usize, rows: &[i64]) -> Stand
     }
 }
 
+// A count of a row, by its place in the table.
+fn counted(rows: &[i64], at: usize) -> usize
+    requires { ⌜ at < length (now rows) ⌝ }
+    ensures { λ r. ⌜ (r ≡ natOf (getD (now (rows .entry)) at (pos 0))) × (r ≤ startMost) ⌝ }
+{
+    count_of(rows[at])
+}
+
 // Takes out the row that stands at d, of a sheet that was judged. The rows are closed up before the starts fall: the freed row keeps what it held.
 fn remove_at(
     count: usize,
@@ -131,9 +140,9 @@ fn remove_at(
     ensures { λ _. ⌜ now (points .exit) ≡ removedTables count row (tablesOf (now (rows .entry)) (now (letters .entry)) (now (islands .entry)) (now (points .entry))) .points ⌝ }
 {
     let r = d.row;
-    let l = count_at(&rows[r..], LETTERS_PLACE);
-    let i = count_at(&rows[r..], ISLANDS_PLACE);
-    let v = count_at(&rows[r..], VERTICES_PLACE);
+    let l = counted(rows, r + LETTERS_PLACE);
+    let i = counted(rows, r + ISLANDS_PLACE);
+    let v = counted(rows, r + VERTICES_PLACE);
     let end = end_of(count, rows);
     let letters_end = end.letters;
     let islands_end = end.islands;

@@ -9,7 +9,7 @@ mod TokenSays
 mod Tails
 mod RingTails
 mod FieldTails
-mod TextLaws
+pub mod TextLaws
 mod MadeRows
 mod PassRows
 pub mod ReadMade
