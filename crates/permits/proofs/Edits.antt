@@ -115,12 +115,11 @@ module _ (κs : Lfts 4) (a : ArgsD remove-row.signature κs) (r : ResD remove-ro
 
   removes : {h : Header} {count : ℕ} {t : Tables} {k : ℕ} {x : Edited × Tables} → removal h count t k ≡ x → Removes h count t k x
   removes {h} {count} {t} {k} q p d n post =
-      let y : r ≡ removeOf h count t k = post .0 ∙ rw (p, d .count-is, d .rows-are, d .letters-are, d .islands-are, d .points-are, n) refl in
-      (
+      let y : r ≡ removeOf h count t k = post .0 ∙ rw (p, d .count-is, d .rows-are, d .letters-are, d .islands-are, d .points-are, n) refl in (
         y ∙ ap (λ (z : Edited × Tables). z .0) q,
         four (post .1 .0 ∙ rw (y, d .count-is, d .rows-are, d .letters-are, d .islands-are, d .points-are, n) refl) (post .1 .1 .0 ∙ rw (y, d .count-is, d .rows-are, d .letters-are, d .islands-are, d .points-are, n) refl)
-        (post .1 .1 .1 .0 ∙ rw (y, d .count-is, d .rows-are, d .letters-are, d .islands-are, d .points-are, n) refl) (post .1 .1 .1 .1 ∙ rw (y, d .count-is, d .rows-are, d .letters-are, d .islands-are, d .points-are, n) refl)
-        ∙ ap (λ (z : Edited × Tables). z .1) q,
+            (post .1 .1 .1 .0 ∙ rw (y, d .count-is, d .rows-are, d .letters-are, d .islands-are, d .points-are, n) refl) (post .1 .1 .1 .1 ∙ rw (y, d .count-is, d .rows-are, d .letters-are, d .islands-are, d .points-are, n) refl)
+            ∙ ap (λ (z : Edited × Tables). z .1) q,
       )
 
   pub remove-parcel : Removes header 4 small 1 (Done 3, noParcel)
@@ -168,15 +167,14 @@ module _ (κs : Lfts 5) (a : ArgsD cxf-remove.signature κs) (r : ResD cxf-remov
 
   cxf-removes : {h h′ : Header} {count : ℕ} {t : Tables} {k : ℕ} {x : Edited × Tables} → headerOf (h .kind) (h .name) (h .scale) ≡ h′ → removal h′ count t k ≡ x
       → CxfRemoves h count t k (editTold (x .0), x .1)
-  cxf-removes p q kind name scale d n post =
-      (
-        post .0 ∙ rw (kind, name, scale, d .count-is, d .rows-are, d .letters-are, d .islands-are, d .points-are, n, p) (ap (λ (z : Edited × Tables). editTold (z .0)) q),
-        four (post .1 .0 ∙ rw (kind, name, scale, d .count-is, d .rows-are, d .letters-are, d .islands-are, d .points-are, n, p) refl)
+  cxf-removes p q kind name scale d n post = (
+    post .0 ∙ rw (kind, name, scale, d .count-is, d .rows-are, d .letters-are, d .islands-are, d .points-are, n, p) (ap (λ (z : Edited × Tables). editTold (z .0)) q),
+    four (post .1 .0 ∙ rw (kind, name, scale, d .count-is, d .rows-are, d .letters-are, d .islands-are, d .points-are, n, p) refl)
         (post .1 .1 .0 ∙ rw (kind, name, scale, d .count-is, d .rows-are, d .letters-are, d .islands-are, d .points-are, n, p) refl)
         (post .1 .1 .1 .0 ∙ rw (kind, name, scale, d .count-is, d .rows-are, d .letters-are, d .islands-are, d .points-are, n, p) refl)
         (post .1 .1 .1 .1 ∙ rw (kind, name, scale, d .count-is, d .rows-are, d .letters-are, d .islands-are, d .points-are, n, p) refl)
         ∙ ap (λ (z : Edited × Tables). z .1) q,
-      )
+  )
 
   pub cxf-remove-parcel : CxfRemoves header 4 small 1 (editLaid 0 0 3, noParcel)
   cxf-remove-parcel = cxf-removes in-C parcel-out
@@ -273,8 +271,7 @@ module _ (κs : Lfts 4) (a : ArgsD move-sheet.signature κs) (r : ResD move-shee
 
   moves : {h : Header} {count : ℕ} {t : Tables} {dx dy : ℤ} {x : Edited × Tables} → move h count t dx dy ≡ x → Moves h count t dx dy x
   moves {h} {count} {t} {dx} {dy} q p d u v post =
-      let y : r ≡ moveOf h count t dx dy = post .0 ∙ rw (p, d .count-is, d .rows-are, d .letters-are, d .islands-are, d .points-are, u, v) refl in
-      (
+      let y : r ≡ moveOf h count t dx dy = post .0 ∙ rw (p, d .count-is, d .rows-are, d .letters-are, d .islands-are, d .points-are, u, v) refl in (
         y ∙ ap (λ (z : Edited × Tables). z .0) q,
         post .1 .0 ∙ rw (y, d .count-is, d .rows-are, d .letters-are, d .islands-are, d .points-are, u, v) (ap (λ (z : Edited × Tables). z .1 .rows) q),
         post .1 .1 ∙ rw (y, d .count-is, d .rows-are, d .letters-are, d .islands-are, d .points-are, u, v) (ap (λ (z : Edited × Tables). z .1 .points) q),
@@ -329,13 +326,12 @@ module _ (κs : Lfts 5) (a : ArgsD cxf-move.signature κs) (r : ResD cxf-move.si
   -- letters and island counts are those of the sheet
   cxf-moves : {h h′ : Header} {count : ℕ} {t u : Tables} {dx dy : ℤ} {x : Edited} → headerOf (h .kind) (h .name) (h .scale) ≡ h′ → move h′ count t dx dy ≡ (x, u) → t .letters ≡ u .letters
       → t .islands ≡ u .islands → CxfMoves h count t dx dy (editTold x, u)
-  cxf-moves p q l i kind name scale d v w post =
-      (
-        post .0 ∙ rw (kind, name, scale, d .count-is, d .rows-are, d .letters-are, d .islands-are, d .points-are, v, w, p) (ap (λ (z : Edited × Tables). editTold (z .0)) q),
-        four (post .1 .0 ∙ rw (kind, name, scale, d .count-is, d .rows-are, d .letters-are, d .islands-are, d .points-are, v, w, p) (ap (λ (z : Edited × Tables). z .1 .rows) q))
+  cxf-moves p q l i kind name scale d v w post = (
+    post .0 ∙ rw (kind, name, scale, d .count-is, d .rows-are, d .letters-are, d .islands-are, d .points-are, v, w, p) (ap (λ (z : Edited × Tables). editTold (z .0)) q),
+    four (post .1 .0 ∙ rw (kind, name, scale, d .count-is, d .rows-are, d .letters-are, d .islands-are, d .points-are, v, w, p) (ap (λ (z : Edited × Tables). z .1 .rows) q))
         (post .1 .1 .0 ∙ d .letters-are ∙ l) (post .1 .1 .1 .0 ∙ d .islands-are ∙ i)
         (post .1 .1 .1 .1 ∙ rw (kind, name, scale, d .count-is, d .rows-are, d .letters-are, d .islands-are, d .points-are, v, w, p) (ap (λ (z : Edited × Tables). z .1 .points) q)),
-      )
+  )
 
   pub cxf-move-both : CxfMoves header 2 (sheetOf (pos 3000) (negsuc 4) (pos 0)) (pos 1000) (negsuc 1) (editLaid 0 0 2, textAndLine (pos 4000) (negsuc 6) (pos 1000 ∷ negsuc 1 ∷ pos 1009 ∷ negsuc 1 ∷ pos 5 ∷ []))
   cxf-move-both = cxf-moves in-C both-moved refl refl

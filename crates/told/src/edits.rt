@@ -17,11 +17,7 @@ pub struct CxfEdited {
 fn edit_laid(number: usize, row: usize, count: usize) -> CxfEdited
     ensures { λ r. ⌜ r ≡ editLaid number row count ⌝ }
 {
-    CxfEdited {
-        number,
-        row,
-        count,
-    }
+    CxfEdited { number, row, count }
 }
 
 pub fn edit_told(a: Edited) -> CxfEdited
