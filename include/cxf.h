@@ -274,7 +274,7 @@ typedef struct {
 
 /* Writes a sheet in the layout of the exact mode to the start of out. After the header (6) the rows are judged in order, each for
    15 and then for its code (10), so a 10 in row 0 comes before a 15 in row 1; then whether the file would be too long (1), then
-   the room (14). Past the text out is not altered. Stack: 1,280 bytes. */
+   the room (14). Past the text out is not altered. Stack: 1,264 bytes. */
 cxf_written cxf_write(CXF_SHEET, uint8_t *out, size_t out_len);
 
 /* ---- borders and texts ----------------------------------------------------------------------------------------------- */
@@ -289,7 +289,7 @@ typedef struct {
     uint64_t letters, islands, vertices;
 } cxf_border;
 
-/* A row that is a border, and its class. A row that is none is refused 19. Stack: 1,064 bytes. */
+/* A row that is a border, and its class. A row that is none is refused 19. Stack: 784 bytes. */
 cxf_border cxf_border_at(CXF_SHEET, uint64_t row);
 
 typedef struct {
@@ -298,7 +298,7 @@ typedef struct {
     uint64_t centroid;      /* 1 where it is a TESTO of size 0: a raster parcel's centroid. A row may be both */
 } cxf_text;
 
-/* Of any row: one that is no TESTO answers 0 and 0, and is not refused. Stack: 936 bytes. */
+/* Of any row: one that is no TESTO answers 0 and 0, and is not refused. Stack: 720 bytes. */
 cxf_text cxf_text_at(CXF_SHEET, uint64_t row);
 
 /* ---- areas ----------------------------------------------------------------------------------------------------------- */
@@ -309,10 +309,10 @@ typedef struct {
 } cxf_area;
 
 /* One ring of a border, judged alone: ring 0 is the outer one, ring i is island i. 17, or 19 where there is no such ring.
-   Stack: 1,128 bytes. */
+   Stack: 928 bytes. */
 cxf_area cxf_ring_area(CXF_SHEET, uint64_t row, uint64_t ring);
 
-/* The outer ring less the islands: below 0 where the islands are larger. Stack: 1,016 bytes. */
+/* The outer ring less the islands: below 0 where the islands are larger. Stack: 736 bytes. */
 cxf_area cxf_net_area(CXF_SHEET, uint64_t row);
 
 /* ---- tallies --------------------------------------------------------------------------------------------------------- */
@@ -324,12 +324,12 @@ typedef struct {
     int64_t figures[CXF_FIGURES];
 } cxf_tally;
 
-/* All borders of a sheet. Refused 17 or 18 it names the row; refused at all, its figures are 0. Stack: 1,816 bytes. */
+/* All borders of a sheet. Refused 17 or 18 it names the row; refused at all, its figures are 0. Stack: 1,808 bytes. */
 cxf_tally cxf_tally_sheet(CXF_SHEET);
 
 /* A running tally by value: the tally with the border of a row taken, or as it was and the refusal. Begin with 24 zeros. The
    tally handed in is judged after 6, 15 and 19: a figure that is negative or too large, or a figures_len other than 24 (the
-   answer's figures are then 0), is refused 18; then come 17, and 18 of the border. Stack: 1,624 bytes. */
+   answer's figures are then 0), is refused 18; then come 17, and 18 of the border. Stack: 1,312 bytes. */
 cxf_tally cxf_tally_take(const int64_t *figures, size_t figures_len, CXF_SHEET, uint64_t row);
 
 /* ---- SUP files ------------------------------------------------------------------------------------------------------- */
@@ -357,7 +357,7 @@ typedef struct {
 } cxf_ring;
 
 /* Whether no edge of a ring has equal ends, neighbours share only their vertex, and other edges share no point.
-   Stack: 1,272 bytes. */
+   Stack: 1,072 bytes. */
 cxf_ring cxf_ring_check(CXF_SHEET, uint64_t row, uint64_t ring);
 
 /* ---- tile points ----------------------------------------------------------------------------------------------------- */
@@ -383,7 +383,7 @@ typedef struct {
    where an odd number of edges have one end north of it and the other not, and cross its height strictly east of it. Refused are,
    in this order: the header (6), the rows (15), a row that is no border (19), the side (26), a ring that is too wide (17), and then,
    with 20, a grid whose corners are not all within the real range, or a vertex of the border more than CXF_MASK_REACH from the
-   corner. Refused, all rows and covered are 0. Stack: 4,816 bytes. */
+   corner. Refused, all rows and covered are 0. Stack: 4,176 bytes. */
 cxf_mask cxf_mask_of(CXF_SHEET, uint64_t row, int64_t corner_x, int64_t corner_y, int64_t cell);
 
 /* ---- altering a sheet ------------------------------------------------------------------------------------------------ */
@@ -441,7 +441,7 @@ typedef struct {
 /* What the listing program writes for this input: the header, six lines of figures, the number of rows. A text that says
    REFUSED, with the refusal's number, its record (or the tally's row), offset and column, is an answer as well: number is 0 whenever
    the text stands in out. No text is longer than CXF_LISTING_MOST. The tables are on the stack.
-   Stack: 161,336 bytes. */
+   Stack: 65,336 bytes. */
 cxf_listed cxf_listing(const uint8_t *src, size_t src_len, uint8_t *out, size_t out_len);
 
 #ifdef __cplusplus

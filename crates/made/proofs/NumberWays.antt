@@ -1,5 +1,5 @@
 -- The ways through the functions that judge a row's own numbers, each with what the code has in hand there. Assumes nothing.
-use mathlib.Core.Path.{_≡_, refl, sym, _∙_}
+use mathlib.Core.Path.{_≡_, refl, sym, _∙_, ap}
 use mathlib.Core.List.{List}
 use mathlib.Core.Bool.{Bool, true, false, not, _&&_}
 use Prim.Native.Nat.{ℕ, _-_, _^_, _≤_, _<_}
@@ -11,12 +11,13 @@ use lib.Signed.{mag, ltZ, leZ, nonNeg}
 use mir.Syntax.{w64}
 use mir.Val.{Fits, SFits, toZ, ofZ}
 use mir.Facts.{toZ-ofZ}
+use mir.ValLaws.{toZ-pos, ofZ-toZ}
 use borrow.Author.Tests.{eq-eqb, ne-eqb, le-leb, lt-leb, leb-true, ltb-true, not-true, not-false}
 use Rattle.laws.specs.Lists.{below}
 use Rattle.laws.specs.Whole.{eqZ}
 use Rattle.laws.proofs.Choice.{true≢false, and-left, and-right}
 use Rattle.laws.proofs.Parts.{le-not-lt}
-use Rattle.laws.proofs.Bits.{back, bits-yes, bits-no}
+use Rattle.laws.proofs.Bits.{back, eqZ-yes, eqZ-no, bits-yes, bits-no}
 use Rattle.laws.proofs.ListLaws.{below-at, below-on}
 use Rattle.number.specs.Number.{isReal}
 use Rattle.token.specs.declared.Want.{Want}
@@ -251,29 +252,14 @@ pub ruleset number-ways = (numbers-short, numbers-kind, numbers-none, numbers-pa
 
 -- ---- the starts of the first row
 
-module _ (z : ℤ) (f : SFits w64 z) (n : ℕ) where
-  pub count-below : ltZ (bits z) (pos 0) ≡ true → false ≡ eqZ z (pos n)
-  count-below t = go z (rw (toZ-ofZ f) at t)
-    where
-      go : (y : ℤ) → ltZ y (pos 0) ≡ true → false ≡ eqZ y (pos n)
-      go (pos m) e = absurd (omega (arith, ltb-true m 0 e))
-      go (negsuc m) e = refl
+module _ (z : ℤ) (f : SFits w64 z) (n : ℕ) (h : n < 2 ^ 63) where
+  pub count-same : ofZ w64 z ≡ n → true ≡ eqZ z (pos n)
+  count-same e = sym (eqZ-yes z (pos n) (sym (toZ-ofZ f) ∙ ap (toZ w64) e ∙ toZ-pos w64 n h))
 
-  module _ (t : ltZ (bits z) (pos 0) ≡ false) where
-    by-size : eqZ z (pos n) ≡ eqb (natAbs (bits z)) n
-    by-size = rw (toZ-ofZ f) (go z (rw (toZ-ofZ f) at t))
-      where
-        go : (y : ℤ) → ltZ y (pos 0) ≡ false → eqZ y (pos n) ≡ eqb (natAbs y) n
-        go (pos m) e = refl
-        go (negsuc m) e = absurd (true≢false e)
+  pub count-other : (ofZ w64 z ≡ n → ⊥) → false ≡ eqZ z (pos n)
+  count-other e = sym (eqZ-no z (pos n) (λ q. e (ap (ofZ w64) (q ∙ sym (toZ-pos w64 n h)) ∙ ofZ-toZ w64 n (record { fits = omega arith }))))
 
-    pub count-same : natAbs (bits z) ≡ n → true ≡ eqZ z (pos n)
-    count-same e = sym (by-size ∙ eq-eqb (natAbs (bits z)) n e)
-
-    pub count-other : (natAbs (bits z) ≡ n → ⊥) → false ≡ eqZ z (pos n)
-    count-other e = sym (by-size ∙ ne-eqb (natAbs (bits z)) n e)
-
-pub ruleset is-count-ways = (count-below, count-same, count-other)
+pub ruleset is-count-ways = (count-same, count-other)
 
 module _ (l i p : ℕ) (rows : List ℤ) where
   abbrev cell : ℕ → ℤ

@@ -5,7 +5,7 @@ mod numbers;
 mod rings;
 
 ghost use mathlib.Core.Path.{_≡_};
-ghost use Prim.Native.Nat.{_-_};
+ghost use Prim.Native.Nat.{_-_, _^_, _<_};
 ghost use lib.ListN.{getD};
 ghost use lib.IntN.{pos};
 ghost use Rattle.made.specs.Made.{tablesOf, startsAt, noneBefore, natOf, areLetters, sum, isMade, isCoded, judgeRows, judgeOf, faultOf};
@@ -165,6 +165,7 @@ fn judge_row(
     islands: &[u16],
     points: &[i64],
 ) -> RowJudged
+    requires { ⌜ (l < 2 ^ 63) × (i < 2 ^ 63) × (p < 2 ^ 63) ⌝ }
     ensures { λ r. ⌜ r ≡ rowTurn mode (startsAt l i p) (tablesOf (now (rows .entry)) (now (letters .entry)) (now (islands .entry)) (now (points .entry))) ⌝ }
 {
     if !is_made(rows, letters, islands, points) {

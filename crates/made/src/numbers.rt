@@ -2,7 +2,7 @@
 // section leaves it; and its starts (document 02, T-07).
 ghost use mathlib.Core.Path.{_≡_};
 ghost use mathlib.Core.Bool.{_&&_, _||_};
-ghost use Prim.Native.Nat.{_≤_, _<_};
+ghost use Prim.Native.Nat.{_^_, _≤_, _<_};
 ghost use lib.ListN.{length};
 ghost use lib.Dec.{eqb};
 ghost use lib.IntN.{pos};
@@ -182,17 +182,15 @@ pub(crate) fn are_numbers(rows: &[i64]) -> bool
 
 // A number of a row is this count.
 fn is_count(z: i64, n: usize) -> bool
+    requires { ⌜ n < 2 ^ 63 ⌝ }
     ensures { λ r. ⌜ r ≡ eqZ z (pos n) ⌝ }
 {
-    if z < 0 {
-        return false;
-    }
-    if z as usize == n { true } else { false }
+    if z == n as i64 { true } else { false }
 }
 
 // The first row's letters, island counts and points begin there.
 pub(crate) fn are_starts(letters: usize, islands: usize, points: usize, rows: &[i64]) -> bool
-    requires { ⌜ rowWidth ≤ length (now rows) ⌝ }
+    requires { ⌜ (letters < 2 ^ 63) × (islands < 2 ^ 63) × (points < 2 ^ 63) × (rowWidth ≤ length (now rows)) ⌝ }
     ensures { λ r. ⌜ r ≡ areStarts (startsAt letters islands points) (now (rows .entry)) ⌝ }
 {
     if !is_count(rows[FIRST_LETTER_PLACE], letters) {

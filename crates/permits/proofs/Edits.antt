@@ -22,10 +22,10 @@ use Rattle.edit.specs.Removals.{removedTables, removeOf}
 use Rattle.edit.specs.RemoveExamples.{computed as computedRemoval}
 use Rattle.edit.specs.Moves.{movedTables, moveOf}
 use Rattle.edit.specs.MoveExamples.{row, sheetOf, computed as computedMove}
-use Rattle.edit.proofs.remove_row as remove-row
-use Rattle.edit.proofs.remove_row.Reads as remove-reads
-use Rattle.edit.proofs.move_sheet as move-sheet
-use Rattle.edit.proofs.move_sheet.Reads as move-reads
+use Rattle.edit.proofs.removing.remove_row as remove-row
+use Rattle.edit.proofs.removing.remove_row.Reads as remove-reads
+use Rattle.edit.proofs.moving.move_sheet as move-sheet
+use Rattle.edit.proofs.moving.move_sheet.Reads as move-reads
 use Rattle.told.specs.declared.edits.CxfEdited.{CxfEdited}
 use Rattle.told.specs.Asked.{headerOf}
 use Rattle.told.specs.Edits.{editLaid, editTold}

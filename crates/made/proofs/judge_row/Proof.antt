@@ -11,7 +11,9 @@ returns : tie.Need-returns
 returns c = search (turn-ways, needs)
 
 are-starts-requires : tie.Need-are-starts-requires
-are-starts-requires c κs = turn-held _ _ (c .before .is-made .ensures) (c .if1 .left)
+are-starts-requires c κs =
+    let p = c .before .before .before .before .pre in
+    (p .0, p .1, p .2, turn-held _ _ (c .before .is-made .ensures) (c .if1 .left))
 
 returns-2 : tie.Need-returns-2
 returns-2 c = search (turn-ways, needs)
