@@ -400,12 +400,12 @@ typedef struct {
 } cxf_edited;
 
 /* Takes a row out: the rows behind it, and their letters, island counts and points, close up in their order, and their starts stay true.
-   What is freed at the end of the used part, and all that stands behind it, keeps what it held. 6, 15, then 19 for no such row. Stack: STACK-T08 bytes. */
+   What is freed at the end of the used part, and all that stands behind it, keeps what it held. 6, 15, then 19 for no such row. Stack: 784 bytes. */
 cxf_edited cxf_remove(CXF_TABLES, uint64_t row);
 
 /* Adds a pair of whole millimetres to every vertex, position, inner point and label point. 6, 15, then 24 where either part is beyond
    CXF_MOVE_MOST either way or some coordinate would leave the real range; that is judged before anything is stored. The opposite move gives the
-   sheet as it stood. Stack: STACK-T08 bytes. */
+   sheet as it stood. Stack: 720 bytes. */
 cxf_edited cxf_move(CXF_TABLES, int64_t by_x, int64_t by_y);
 
 /* ---- records and numbers --------------------------------------------------------------------------------------------- */
