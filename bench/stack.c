@@ -166,6 +166,11 @@ static uint64_t call_mask(work *w) { return cxf_mask_of(CXF_SPREAD(w->sheet), 0,
 static uint64_t call_remove(work *w) { return cxf_remove(TABLES(w), 0).number; }
 static uint64_t call_move(work *w) { return cxf_move(TABLES(w), 1, -1).number; }
 
+static uint64_t call_convert(work *w)
+{
+    return cxf_convert((const uint8_t *)w->listed.at, w->listed.len, w->out, w->out_len).number;
+}
+
 static const struct { const char *name; uint64_t (*call)(work *); } FUNCTIONS[] = {
     { "cxf_interface", call_interface },
     { "cxf_read", call_read },
@@ -186,6 +191,7 @@ static const struct { const char *name; uint64_t (*call)(work *); } FUNCTIONS[] 
     { "cxf_mask_of", call_mask },
     { "cxf_remove", call_remove },
     { "cxf_move", call_move },
+    { "cxf_convert", call_convert },
 };
 
 /* ---- the painted stack ---- */

@@ -30,7 +30,7 @@ extern "C" {
 /* It rises whenever a struct, a width or a meaning changes. A program that was compiled with one number, or a binding that was
    written for one, is to refuse a library that answers another, rather than read rows wrongly:
        if (cxf_interface() != CXF_INTERFACE) .. */
-#define CXF_INTERFACE 3
+#define CXF_INTERFACE 4
 
 /* The library's number. Stack: 24 bytes. */
 uint64_t cxf_interface(void);
@@ -131,8 +131,9 @@ static inline const char *cxf_refusal_text(uint64_t number)
 
 /* ---- modes ----------------------------------------------------------------------------------------------------------- */
 
-/* Loose takes what is met in practice, exact only the layout of the specification. Any mode but 0 is exact. */
-enum { CXF_LOOSE = 0, CXF_EXACT = 1 };
+/* Loose takes what is met in practice, exact only the layout of the specification. The former reading is the loose one with notes behind
+   numbers, as hand-made files of the first year have them: for the conversion of such files. Any mode but 0 and 2 is exact. */
+enum { CXF_LOOSE = 0, CXF_EXACT = 1, CXF_FORMER = 2 };
 
 /* ---- reading a file -------------------------------------------------------------------------------------------------- */
 
@@ -443,6 +444,13 @@ typedef struct {
    the text stands in out. No text is longer than CXF_LISTING_MOST. The tables are on the stack.
    Stack: 65,336 bytes. */
 cxf_listed cxf_listing(const uint8_t *src, size_t src_len, uint8_t *out, size_t out_len);
+
+/* ---- conversion ------------------------------------------------------------------------------------------------------ */
+
+/* What the conversion program writes for this input, at most 8,192 bytes in the former reading: the clean file, as cxf_write writes it, or
+   a line as the listing has it, REFUSED with number, record, offset and column; an unlisted code is REFUSED 10 with the row, 0 and 0,
+   and a longer input REFUSED 1 0 0 0. Number is 0 whenever the text stands in out, else 14. The clean file may be longer than the input. */
+cxf_listed cxf_convert(const uint8_t *src, size_t src_len, uint8_t *out, size_t out_len);
 
 #ifdef __cplusplus
 }

@@ -19,23 +19,23 @@
 
 typedef enum {
     READ, WRITE, BORDER_AT, TEXT_AT, RING_AREA, NET_AREA, TALLY_SHEET, TALLY_TAKE, RING_CHECK, TILE_POINT, RECORD_AT, INTEGER, REAL,
-    LISTING, SUP_WRITE, MASK_OF, REMOVE, MOVE, ENTRIES
+    LISTING, SUP_WRITE, MASK_OF, REMOVE, MOVE, CONVERT, ENTRIES
 } entry;
 
 static const char *const NAMES[ENTRIES] = {
     "read", "write", "border_at", "text_at", "ring_area", "net_area", "tally_sheet", "tally_take", "ring_check", "tile_point",
-    "record_at", "integer", "real", "listing", "sup_write", "mask_of", "remove", "move",
+    "record_at", "integer", "real", "listing", "sup_write", "mask_of", "remove", "move", "convert",
 };
 
 /* How often the reference gave each number, so that thin coverage shows. */
 #define NUMBERS 27
-static uint64_t given[ENTRIES][2][NUMBERS]; /* by mode where there is one: 0 loose, 1 exact */
-static uint64_t listing_says[NUMBERS];
+static uint64_t given[ENTRIES][3][NUMBERS]; /* by mode where there is one: 0 loose, 1 exact, 2 former */
+static uint64_t listing_says[NUMBERS], convert_says[NUMBERS], converted, former_alone;
 static uint64_t classes[7], eleven[2][7], rings_simple, pairs_self, pairs_next, pairs_ends, pairs_other, rights, centroids, both_texts, lists_whole;
 static uint64_t whole_files, rewritten;
 static uint64_t sup_kinds[4], sup_listed_most, sup_equal_codes, sup_minus, sup_wide[9], sup_wide_listed, sup_past[2];
 #define COLUMNS 16
-static uint64_t columns[2][2][COLUMNS]; /* of integers and reals, loose and exact; the last holds all further ones */
+static uint64_t columns[2][3][COLUMNS]; /* of integers and reals, by mode; the last holds all further ones */
 static uint64_t kinds_read[LAST_KIND + 1], joined_files, joined_tallies;
 static uint64_t masks_empty, masks_full, masks_part, masks_through, masks_level, masks_flat;
 static uint64_t removed[LAST_KIND + 1][4], moved_back; /* by the row's kind; only row, first, last, between */
@@ -46,7 +46,7 @@ static uint64_t answers, differences, shown_most = 1;
 static struct {
     uint64_t seed, which;
     entry asked;
-    int mode;                    /* for the count: 1 is exact */
+    int mode;                    /* for the count: 0 loose, 1 exact, 2 former */
     const uint8_t *src;          /* the bytes handed in, or null */
     size_t src_len;
     const tables *sheet;         /* the sheet handed in, or null */
@@ -62,6 +62,8 @@ static void ask(entry e) {
     now.sheet = NULL;
     now.arg_count = 0;
 }
+
+static int mode_counted(uint64_t mode) { return mode == 0 ? 0 : mode == 2 ? 2 : 1; }
 
 static void arg(const char *name, uint64_t value) {
     now.args[now.arg_count].name = name;
@@ -360,7 +362,7 @@ typedef struct { size_t rows, letters, islands, points; } rooms;
 /* The reading that both gave; the tables are left in the reference's copies. */
 static cxf_reading try_read(rng *g, const bytes *src, uint64_t mode, rooms r) {
     ask(READ);
-    now.mode = mode != 0;
+    now.mode = mode_counted(mode);
     now.src = src->at;
     now.src_len = src->len;
     arg("mode", mode);
@@ -400,7 +402,7 @@ static cxf_reading try_read(rng *g, const bytes *src, uint64_t mode, rooms r) {
 
 static void try_record(rng *g, const bytes *src, uint64_t at, uint64_t mode, uint64_t due) {
     ask(RECORD_AT);
-    now.mode = mode != 0;
+    now.mode = mode_counted(mode);
     now.src = src->at;
     now.src_len = src->len;
     arg("at", at);
@@ -414,7 +416,7 @@ static void try_record(rng *g, const bytes *src, uint64_t at, uint64_t mode, uin
 
 static void try_number(rng *g, const bytes *content, uint64_t mode, bool real) {
     ask(real ? REAL : INTEGER);
-    now.mode = mode != 0;
+    now.mode = mode_counted(mode);
     now.src = content->at;
     now.src_len = content->len;
     arg("mode", mode);
@@ -422,7 +424,7 @@ static void try_number(rng *g, const bytes *content, uint64_t mode, bool real) {
     const cxf_number theirs = real ? cxf_real(lent, content->len, mode) : cxf_integer(lent, content->len, mode);
     const cxf_number mine = real ? ref_real(content->at, content->len, mode) : ref_integer(content->at, content->len, mode);
     judge(of_number(theirs), of_number(mine), holds(&SRC, content->at) ? NULL : "the input was altered, or what lies around it");
-    if (mine.number != 0) columns[real][mode != 0][mine.column < COLUMNS ? mine.column : COLUMNS - 1]++;
+    if (mine.number != 0) columns[real][now.mode][mine.column < COLUMNS ? mine.column : COLUMNS - 1]++;
 }
 
 static void try_tile(int64_t corner_x, int64_t corner_y, int64_t x, int64_t y) {
@@ -432,6 +434,13 @@ static void try_tile(int64_t corner_x, int64_t corner_y, int64_t x, int64_t y) {
     arg("x", (uint64_t)x);
     arg("y", (uint64_t)y);
     judge(of_tile(cxf_tile_point(corner_x, corner_y, x, y)), of_tile(ref_tile_point(corner_x, corner_y, x, y)), NULL);
+}
+
+/* The number in a line that says REFUSED. */
+static unsigned refusal_said(const uint8_t *text) {
+    unsigned says = 0;
+    for (size_t i = 8; text[i] >= '0' && text[i] <= '9'; i++) says = 10 * says + (text[i] - '0');
+    return says < NUMBERS ? says : 0;
 }
 
 static void try_listing(rng *g, const bytes *src) {
@@ -458,14 +467,35 @@ static void try_listing(rng *g, const bytes *src) {
     }
     judge(of_listed(theirs), of_listed(mine), lent);
     if (mine.number == 0) {
-        unsigned says = 0;
-        if (mine_out[0] == 'R') {
-            for (size_t i = 8; mine_out[i] >= '0' && mine_out[i] <= '9'; i++) says = 10 * says + (mine_out[i] - '0');
-            if (says < NUMBERS) listing_says[says]++;
-        } else {
-            lists_whole++;
-        }
+        if (mine_out[0] == 'R') listing_says[refusal_said(mine_out)]++;
+        else lists_whole++;
     }
+}
+
+/* The answer that both gave; the text is left in the reference's copy of the output. */
+static cxf_listed try_convert(rng *g, const bytes *src) {
+    ask(CONVERT);
+    now.src = src->at;
+    now.src_len = src->len;
+    size_t out_len = (size_t)ref_convert(src->at, src->len, NULL, 0).length;
+    if (one_in(g, 4)) out_len = one_in(g, 2) ? out_len - 1 : below(g, out_len);
+    else if (one_in(g, 2)) out_len += below(g, 40);
+    arg("out_len", out_len);
+    const uint8_t *lent_src = lend_copy(&SRC, g, src->at, src->len, 1);
+    uint8_t *out = lend(&OUT, g, out_len, 1);
+    memset(OUT.at, (int)below(g, 256), OUT.len);
+    uint8_t *mine_out = copied(&out_copy, &OUT);
+    const cxf_listed theirs = cxf_convert(lent_src, src->len, out, out_len);
+    const cxf_listed mine = ref_convert(src->at, src->len, mine_out, out_len);
+    const char *lent = NULL;
+    if (!holds(&SRC, src->at)) lent = "the input was altered, or what lies around it";
+    else if (!holds(&OUT, mine_out)) lent = "the text, or what lies around it, differs";
+    judge(of_listed(theirs), of_listed(mine), lent);
+    if (mine.number == 0) {
+        if (mine_out[0] == 'R') convert_says[refusal_said(mine_out)]++;
+        else converted++;
+    }
+    return mine;
 }
 
 /* The sheet as it is lent to the library, and as the reference has it. */
@@ -730,7 +760,11 @@ static cxf_reading needs_of(const bytes *src, uint64_t mode) {
     return ref_read(src->at, src->len, mode, NULL, 0, NULL, 0, NULL, 0, NULL, 0);
 }
 
-static uint64_t some_mode(rng *g, bool exact) { return !exact ? 0 : one_in(g, 4) ? any(g) | 1 : one_in(g, 4) ? 1ull << below(g, 64) : 1; }
+/* Not 2: that is the former reading. */
+static uint64_t some_mode(rng *g, bool exact) { return !exact ? 0 : one_in(g, 4) ? any(g) | 1 : one_in(g, 4) ? 4ull << below(g, 62) : 1; }
+
+/* Loose, exact or former. */
+static uint64_t any_mode(rng *g) { return one_in(g, 3) ? 2 : some_mode(g, one_in(g, 2)); }
 
 enum { BORDO = 1, TESTO = 2 };
 
@@ -1033,39 +1067,108 @@ static bool same_tables(const tables *a, const tables *b) {
            memcmp(a->points, b->points, a->points_len * sizeof a->points[0]) == 0;
 }
 
-/* A file in both modes with rooms of all sizes, its records, its listing, and what was read handed in again. The sheet is
+static rooms room_for(const cxf_reading *need) {
+    return (rooms){(size_t)need->rows * ROW_WIDTH, (size_t)need->letters, (size_t)need->islands, (size_t)need->points * 2};
+}
+
+/* "the former reading agrees with the new one wherever the new one accepts": both accept the file, and read the same sheet. */
+static void look_at_former(rng *g, const bytes *src, const cxf_reading *need) {
+    static tables kept;
+    const cxf_reading loose = try_read(g, src, 0, room_for(need));
+    const tables t = as_tables(&loose);
+    kept.kind = t.kind, kept.scale = t.scale, kept.count = t.count;
+    memcpy(kept.name, t.name, sizeof kept.name);
+#define KEEP(table)                                                                                                                \
+    kept.table = realloc(kept.table, (t.table##_len + 1) * sizeof t.table[0]), kept.table##_len = t.table##_len;                   \
+    if (kept.table == NULL) exit(2);                                                                                               \
+    memcpy(kept.table, t.table, t.table##_len * sizeof t.table[0])
+    KEEP(rows);
+    KEEP(letters);
+    KEEP(islands);
+    KEEP(points);
+#undef KEEP
+    const cxf_reading former = try_read(g, src, 2, room_for(need));
+    const tables f = as_tables(&former);
+    if (former.number != 0 || !same_tables(&kept, &f)) own_fault("the former reading does not agree with the loose one");
+}
+
+/* A file that the former reading alone takes: 8 at a record whose number loose mode takes too, but for what follows the blanks. */
+static void look_at_tail(const bytes *src, const cxf_reading *loose) {
+    const uint8_t *content = src->at + loose->offset;
+    const size_t before = (size_t)loose->column - 1;
+    if (loose->number != 8 || loose->column < 3 || content[before] == ' ' || content[before - 1] != ' ')
+        own_fault("a tail is not refused at its first letter");
+    if (ref_integer(content, before, 0).number != 0 && ref_real(content, before, 0).number != 0)
+        own_fault("a tail is refused behind no number");
+    former_alone++;
+}
+
+/* The conversion: what the former reading refused, or what the writer does, or a file that exact mode takes and that says the same. */
+static void look_at_converted(rng *g, const bytes *src, const cxf_reading *former) {
+    char line[100];
+    const cxf_listed c = try_convert(g, src);
+    if (c.number != 0) return;
+    const uint8_t *text = out_copy.at;
+    const bool taken = src->len <= 8192 && (former->number == 0 || former->number == 14);
+    if (src->len > 8192) sprintf(line, "REFUSED 1 0 0 0\n");
+    else sprintf(line, "REFUSED %llu %llu %llu %llu\n", (unsigned long long)former->number, (unsigned long long)former->record,
+                 (unsigned long long)former->offset, (unsigned long long)former->column);
+    if (!taken && (c.length != strlen(line) || memcmp(text, line, c.length) != 0)) own_fault("a conversion does not say what the reading refuses");
+    if (!taken) return;
+    if (text[0] == 'R') {
+        if (refusal_said(text) != 10) own_fault("a conversion refuses what the former reading takes");
+        return;
+    }
+    other.len = 0;
+    add_bytes(&other, text, (size_t)c.length);
+    const cxf_reading clean = needs_of(&other, 1);
+    if ((clean.number != 0 && clean.number != 14) || clean.rows != former->rows || clean.letters != former->letters ||
+        clean.islands != former->islands || clean.points != former->points)
+        own_fault("a clean file is not one that exact mode takes, or says something else");
+    const cxf_listed again = ref_convert(other.at, other.len, NULL, 0);
+    if (other.len <= 8192 && again.length != other.len) own_fault("a clean file is converted again");
+}
+
+/* A file in all modes with rooms of all sizes, its records, its listing, and what was read handed in again. The sheet is
    `whole` where it is well made. */
 static void file_case(rng *g, bool whole_sheet) {
     const int faults = whole_sheet || one_in(g, 4) ? some_faults(g) : 0;
-    make_file(g, &sheet, faults, &file);
+    const bool with_notes = make_file(g, &sheet, faults, &file);
     if (one_in(g, 100)) /* bytes after EOF up to the listing's limit, and past it */
         for (size_t n = 8191 + below(g, 3); file.len < n;) add_byte(&file, ' ');
-    cxf_reading need[2];
-    for (int exact = 0; exact < 2; exact++) {
-        need[exact] = needs_of(&file, (uint64_t)exact);
-        const bool sound = need[exact].number == 0 || need[exact].number == 14;
-        try_read(g, &file, some_mode(g, exact), some_rooms(g, &need[exact]));
-        if (!sound && one_in(g, 2)) { /* tables that a refusal is to leave alone */
+    cxf_reading need[3];
+    bool sound[3];
+    for (int mode = 0; mode < MODES; mode++) {
+        need[mode] = needs_of(&file, (uint64_t)mode);
+        sound[mode] = need[mode].number == 0 || need[mode].number == 14;
+        const uint64_t asked = mode == 2 ? 2 : some_mode(g, mode == 1);
+        try_read(g, &file, asked, some_rooms(g, &need[mode]));
+        if (!sound[mode] && one_in(g, 2)) { /* tables that a refusal is to leave alone */
             const rooms r = {below(g, 60), below(g, 60), below(g, 10), below(g, 40)};
-            try_read(g, &file, some_mode(g, exact), r);
+            try_read(g, &file, asked, r);
         }
-        if (one_in(g, 8)) try_read(g, &file, some_mode(g, exact), NO_TABLES);
+        if (one_in(g, 8)) try_read(g, &file, asked, NO_TABLES);
     }
     try_listing(g, &file);
-    for (int i = 0; i < 2; i++)
-        try_record(g, &file, below(g, file.len + 2), some_mode(g, one_in(g, 2)), one_in(g, 2) ? 0 : some_mode(g, true));
+    for (int i = 0; i < 2; i++) try_record(g, &file, below(g, file.len + 2), any_mode(g), one_in(g, 2) ? 0 : some_mode(g, true));
 
-    const bool loose = need[0].number == 0 || need[0].number == 14, strict = need[1].number == 0 || need[1].number == 14;
-    if (faults == 0 && whole_sheet && !loose && file.at[file.len - 1] != ' ') own_fault("a file with no fault is refused in loose mode");
+    const bool loose = sound[0], strict = sound[1];
+    if (faults == 0 && whole_sheet && !with_notes && !loose && file.at[file.len - 1] != ' ')
+        own_fault("a file with no fault is refused in loose mode");
     if (strict && !loose) own_fault("the exact mode takes what the loose mode refuses");
-    if (!loose) return;
-    const rooms enough = {(size_t)need[0].rows * ROW_WIDTH, (size_t)need[0].letters, (size_t)need[0].islands, (size_t)need[0].points * 2};
-    const cxf_reading whole = try_read(g, &file, 0, enough);
+    if (faults == 0 && whole_sheet && !sound[2] && file.at[file.len - 1] != ' ')
+        own_fault("a file with no fault is refused by the former reading");
+    if (loose && !sound[2]) own_fault("loose mode takes what the former reading refuses");
+    if (loose) look_at_former(g, &file, &need[0]);
+    else if (sound[2]) look_at_tail(&file, &need[0]);
+    look_at_converted(g, &file, &need[2]);
+    if (!sound[2]) return;
+    const cxf_reading whole = try_read(g, &file, 2, room_for(&need[2])); /* the mode that takes most */
     tables t = as_tables(&whole);
     for (uint64_t row = 0; row < t.count; row++) kinds_read[t.rows[ROW_WIDTH * row]]++;
     if (faults == 0) {
         whole_files++;
-        if (!same_tables(&t, &sheet)) own_fault("the loose mode reads another sheet than the one the file was made from");
+        if (!same_tables(&t, &sheet)) own_fault("another sheet is read than the one the file was made from");
     }
     if (strict) { /* "Writing what the exact mode accepted, given room, gives its very bytes." */
         lend_sheet(g, &t);
@@ -1124,8 +1227,8 @@ static void joined_case(rng *g) {
     memcpy(second.name, sheet.name, sizeof second.name);
     if (!join_texts(&sheet, &second, &file)) return;
     const cxf_reading need = needs_of(&file, 1);
-    const rooms enough = {(size_t)need.rows * ROW_WIDTH, (size_t)need.letters, (size_t)need.islands, (size_t)need.points * 2};
-    for (uint64_t mode = 0; mode < 2; mode++) {
+    const rooms enough = room_for(&need);
+    for (uint64_t mode = 0; mode < MODES; mode++) {
         const cxf_reading r = try_read(g, &file, mode, enough);
         const tables t = as_tables(&r);
         if (r.number != 0 || !joined_so(&t, &sheet, &second)) own_fault("two maps joined are not the first followed by the second");
@@ -1217,6 +1320,7 @@ static void number_case(rng *g) {
         file.len = 0;
         make_number(g, &file);
         for (int k = 0; k < 4; k++) try_number(g, &file, some_mode(g, k & 1), k & 2);
+        for (int real = 0; real < 2; real++) try_number(g, &file, 2, real);
     }
 }
 
@@ -1225,17 +1329,18 @@ static void record_case(rng *g) {
     make_records(g, &file);
     for (int i = 0; i < 6; i++) {
         const uint64_t at = one_in(g, 3) ? 0 : one_in(g, 6) ? far_from(g, below(g, file.len + 1)) : below(g, file.len + 2);
-        try_record(g, &file, at, some_mode(g, one_in(g, 2)), one_in(g, 3) ? 0 : some_mode(g, true));
+        try_record(g, &file, at, any_mode(g), one_in(g, 3) ? 0 : some_mode(g, true));
     }
     /* raw bytes are also a file; one in three is said to begin well */
     if (one_in(g, 3)) {
         other.len = 0;
         add_bytes(&other, "MAPPA\r\nZ999_000100\r\n    1000.000\r\n", 34);
         add_bytes(&other, file.at, file.len);
-        try_read(g, &other, some_mode(g, one_in(g, 2)), NO_TABLES);
+        try_read(g, &other, any_mode(g), NO_TABLES);
         try_listing(g, &other);
+        try_convert(g, &other);
     } else {
-        try_read(g, &file, some_mode(g, one_in(g, 2)), NO_TABLES);
+        try_read(g, &file, any_mode(g), NO_TABLES);
     }
 }
 
@@ -1274,8 +1379,7 @@ static void big_case(rng *g) {
     const bool exact = one_in(g, 2);
     const cxf_reading r = needs_of(&file, exact);
     if (r.number == 14) {
-        const rooms enough = {(size_t)r.rows * ROW_WIDTH, (size_t)r.letters, (size_t)r.islands, (size_t)r.points * 2};
-        try_read(g, &file, exact, enough);
+        try_read(g, &file, exact, room_for(&r));
     }
     try_read(g, &file, !exact, NO_TABLES);
     try_record(g, &file, below(g, file.len), exact, 0);
@@ -1321,12 +1425,12 @@ static void one_case(rng *g) {
     else tile_case(g);
 }
 
-/* Every byte value at every place of an exact number, and behind it, in both modes. */
+/* Every byte value at every place of an exact number, and behind it, in all modes. */
 static void every_byte(rng *g, const char *number, bool real) {
     const size_t n = strlen(number);
     for (size_t place = 0; place <= n; place++)
         for (int byte = 0; byte < 256; byte++)
-            for (uint64_t mode = 0; mode < 2; mode++) {
+            for (uint64_t mode = 0; mode < MODES; mode++) {
                 file.len = 0;
                 add_bytes(&file, number, n);
                 if (place == n) add_byte(&file, (uint8_t)byte);
@@ -1343,15 +1447,17 @@ static void every_byte_of_numbers(void) {
     for (size_t i = 0; i < sizeof reals / sizeof reals[0]; i++) every_byte(&g, reals[i], true);
 }
 
+static const char *const MODE_NAMES[] = {"loose", "exact", "former"};
+
 static void print_counts(void) {
     printf("\nhow often the reference gave each number (0: answered)\n");
     for (int e = 0; e < ENTRIES; e++)
-        for (int mode = 0; mode < 2; mode++) {
+        for (int mode = 0; mode < MODES; mode++) {
             uint64_t all = 0;
             for (int n = 0; n < NUMBERS; n++) all += given[e][mode][n];
             if (all == 0) continue;
             const bool has_mode = e == READ || e == RECORD_AT || e == INTEGER || e == REAL;
-            printf("  %-12s%-6s", NAMES[e], !has_mode ? "" : mode ? "exact" : "loose");
+            printf("  %-12s%-7s", NAMES[e], !has_mode ? "" : MODE_NAMES[mode]);
             for (int n = 0; n < NUMBERS; n++)
                 if (given[e][mode][n] > 0) printf("  %d:%llu", n, (unsigned long long)given[e][mode][n]);
             printf("\n");
@@ -1378,9 +1484,9 @@ static void print_counts(void) {
     for (int i = 1; i <= 7; i++) printf(" %llu", (unsigned long long)sup_wide[i]);
     printf("; TOTALE past the limit %llu, below zero %llu\n", (unsigned long long)sup_past[0], (unsigned long long)sup_past[1]);
     for (int real = 0; real < 2; real++)
-        for (int exact = 0; exact < 2; exact++) {
-            printf("  columns of %s %s, 1 to %d and further:", exact ? "exact" : "loose", real ? "reals" : "integers", COLUMNS - 2);
-            for (int c = 1; c < COLUMNS; c++) printf(" %llu", (unsigned long long)columns[real][exact][c]);
+        for (int mode = 0; mode < MODES; mode++) {
+            printf("  columns of %s %s, 1 to %d and further:", MODE_NAMES[mode], real ? "reals" : "integers", COLUMNS - 2);
+            for (int c = 1; c < COLUMNS; c++) printf(" %llu", (unsigned long long)columns[real][mode][c]);
             printf("\n");
         }
     printf("  masks: empty %llu, full %llu, in part %llu; with a centre on an edge %llu, a vertex at a centre's height %llu, a level edge there %llu\n",
@@ -1393,6 +1499,10 @@ static void print_counts(void) {
     for (int k = 1; k <= LAST_KIND; k++)
         for (int i = 0; i < 4; i++) printf("%s%llu", i == 0 ? "  " : " ", (unsigned long long)removed[k][i]);
     printf("; moved and moved back %llu\n", (unsigned long long)moved_back);
+    printf("  conversions: clean files %llu, REFUSED", (unsigned long long)converted);
+    for (int n = 0; n < NUMBERS; n++)
+        if (convert_says[n] > 0) printf("  %d:%llu", n, (unsigned long long)convert_says[n]);
+    printf("; files that the former reading alone takes %llu\n", (unsigned long long)former_alone);
     printf("  files with no fault read as they were made %llu, written again as they stood %llu\n", (unsigned long long)whole_files,
            (unsigned long long)rewritten);
 }

@@ -27,6 +27,7 @@ typedef struct {
     cxf_mask (*mask_of)(CXF_SHEET, uint64_t, int64_t, int64_t, int64_t);
     cxf_edited (*remove)(CXF_TABLES, uint64_t);
     cxf_edited (*move)(CXF_TABLES, int64_t, int64_t);
+    cxf_listed (*convert)(const uint8_t *, size_t, uint8_t *, size_t);
 } interface;
 
 static uint64_t wrong;
@@ -36,6 +37,9 @@ static void expect(const interface *i, const char *what, int good) {
     wrong++;
     printf("EXAMPLE: the %s's answer to %s is not the papers'\n", i->side, what);
 }
+
+/* The reading that takes notes behind numbers (T-09). */
+enum { NOTED = 2 };
 
 /* ---- Numbers ---- */
 
@@ -116,10 +120,10 @@ static void numbers(const interface *i) {
     both_modes(i, 0, "   0", 0, 0);
     number(i, 0, " 018", 0, 0, 18);
     number(i, 0, " 018", 1, 8, 0);
-    number(i, 0, "   1          numero isole", 0, 0, 1);
+    number(i, 0, "   1          numero isole", NOTED, 0, 1);
     number(i, 0, "00018", 0, 8, 0);
     number(i, 0, "18x", 0, 8, 0);
-    number(i, 0, "1 234", 0, 0, 1);
+    number(i, 0, "1 234", NOTED, 0, 1);
     number(i, 1, "-00000000.001", 0, 8, 0);
     number(i, 1, "+10000000.000", 0, 8, 0);
     both_modes(i, 1, "          .5", 8, 0);
@@ -340,7 +344,8 @@ static void scanned(const interface *i) {
     w = i->write(THE_SHEET(&h), out, sizeof out);
     expect(i, "kind 7 with an unlisted type", w.number == 10 && w.row == 1 && i->text_at(THE_SHEET(&h), 1).number == 0);
 
-    read_into(i, HEAD "RIFERIMENTO_RASTER, a.tif ,1.000,2.000,3.000,4.000,5.000,6.000,7.000,-0.000 note,LIBRETTO,0,2,2,0.000,0.000,0.000,0.000,EOF", 0, &h);
+    read_into(i, HEAD "RIFERIMENTO_RASTER, a.tif ,1.000,2.000,3.000,4.000,5.000,6.000,7.000,-0.000 note,LIBRETTO,0,2,2,0.000,0.000,0.000,0.000,EOF",
+              NOTED, &h);
     expect(i, "a scanned sheet, loose", h.r.number == 0 && h.r.rows == 2 && h.r.letters == 6 && memcmp(h.letters, "a.tif0", 6) == 0 &&
                                             h.points[0] == 1000 && h.points[6] == 7000 && h.points[7] == 0 && h.rows[ROW_WIDTH + 2] == 2);
 }
@@ -619,6 +624,129 @@ static void listing(const interface *i) {
     listing_too_long(i);
 }
 
+/* ---- T-09 ---- */
+
+/* A number with a tail: the former reading has its value, loose mode refuses it at the tail's first letter. */
+static void tail(const interface *i, int real, const char *text, uint64_t at, int64_t value) {
+    number(i, real, text, 2, 0, value);
+    column(i, real, text, 0, at);
+}
+
+static void tails(const interface *i) {
+    char text[400];
+    tail(i, 0, "   1          numero isole", 15, 1);
+    tail(i, 0, "1 234", 3, 1);
+    tail(i, 0, "0 0", 3, 0);
+    tail(i, 0, "9999 \t", 6, 9999);
+    tail(i, 1, "1.000 x", 7, 1000);
+    tail(i, 1, "    -0.005 -0.005", 12, -5);
+    tail(i, 1, "-0.000 \xff", 8, 0);
+    tail(i, 1, "99999999.999    .", 17, 99999999999);
+    /* blanks or none */
+    for (uint64_t mode = 0; mode < 3; mode += 2) {
+        number(i, 0, "18", mode, 0, 18);
+        number(i, 0, " 18 ", mode, 0, 18);
+        number(i, 1, "+1.000      ", mode, 0, 1000);
+        column(i, 0, "18x", mode, 3);
+        column(i, 0, "18\t", mode, 3);
+        column(i, 1, "1.000x", mode, 6);
+        column(i, 1, "1.00 ", mode, 5);
+        column(i, 0, "- 1", mode, 1);
+    }
+    memset(text, ' ', sizeof text);
+    memcpy(text, "18", 2);
+    for (size_t n = 2; n < 300; n++) {
+        const cxf_number loose = i->integer((const uint8_t *)text, n, 0), former = i->integer((const uint8_t *)text, n, 2);
+        expect(i, "18 and blanks", loose.number == 0 && loose.value == 18 && former.number == 0 && former.value == 18);
+    }
+    text[299] = '7';
+    const cxf_number loose = i->integer((const uint8_t *)text, 300, 0), former = i->integer((const uint8_t *)text, 300, 2);
+    expect(i, "18, blanks and a 7", loose.number == 8 && loose.column == 300 && former.number == 0);
+    number(i, 0, " 018", 2, 0, 18);
+    number(i, 1, "      -0.000", 2, 0, 0);
+}
+
+static void convert_says(const interface *i, const char *records, const char *records_after) {
+    static uint8_t src[20000], text[40000], out[40000];
+    const size_t n = file_of(records, src), m = records_after[0] == 'R' ? strlen(records_after) : file_of(records_after, text);
+    if (records_after[0] == 'R') memcpy(text, records_after, m);
+    memset(out, '#', sizeof out);
+    cxf_listed l = i->convert(src, n, out, sizeof out);
+    expect(i, records, l.number == 0 && l.length == m && memcmp(out, text, m) == 0 && out[m] == '#');
+    memset(out, '#', sizeof out);
+    l = i->convert(src, n, out, m - 1);
+    expect(i, records, l.number == 14 && l.length == m && out[0] == '#');
+    l = i->convert(src, n, out, m);
+    expect(i, records, l.number == 0 && l.length == m && out[m] == '#');
+}
+
+/* A file of the first year, with a note behind each of its numbers, as the specification prints its examples. */
+#define FIRST_YEAR                                                                                                                   \
+    "MAPPA,D458_021200,2000.000 scala,BORDO,A019_004100,18 dimensione,0.000 angolo,-14364.252 x,49599.871 y,-14397.849 x int,"          \
+    "49578.550 y int,   1          numero isole,8 numero totale di vertici,4 vertici isola,"                                            \
+    "0.000 x1,0.000 y1,0.001 x2,0.000 y2,0.000 x3,0.001 y3,0.000 x4,0.000 y4,0.000 5,0.000 6,0.001 7,0.000 8,0.000 9,0.001 10,"          \
+    "0.000 EOF,0.000 \\,TESTO,Corricioni,40 40,0.000 0,-13763.925 1,49312.319 2,SIMBOLO,14 x,4.673 x,-14497.567 x,49620.796 x,"          \
+    "FIDUCIALE,5,20 x,15951.230 x,-30505.861 x,15959.230 x,-30497.861 x,LINEA,6 x,2 x,1.000 x,2.000 x,3.000 x,-0.000 x,"                   \
+    "RIFERIMENTO_RASTER,a,1.000 x,1.000 x,1.000 x,1.000 x,1.000 x,1.000 x,1.000 x,1.000 x,LIBRETTO,0,1 x,2 x,1.000 x,1.000 x,1.000 x,1.000 x,EOF"
+#define ONES(n) n n n n n n n n
+#define ITS_CLEAN_FILE                                                                                                               \
+    "MAPPA,D458_021200,    2000.000,BORDO,A019_004100,  18,       0.000,  -14364.252,   49599.871,  -14397.849,   49578.550,   1,   8,   4," \
+    RING_OF_4 RING_OF_4 "TESTO,Corricioni,  40,       0.000,  -13763.925,   49312.319,SIMBOLO,  14,       4.673,  -14497.567,   49620.796,"  \
+    "FIDUCIALE,5,  20,   15951.230,  -30505.861,   15959.230,  -30497.861,LINEA,   6,   2,       1.000,       2.000,       3.000,       0.000," \
+    "RIFERIMENTO_RASTER,a," ONES("       1.000,") "LIBRETTO,0,   1,   2,       1.000,       1.000,       1.000,       1.000,EOF,"
+
+static void converting(const interface *i) {
+    static uint8_t src[8193], out[40000];
+    held h;
+    convert_says(i, ITS_CLEAN_FILE, ITS_CLEAN_FILE);
+    convert_says(i, FIRST_YEAR, ITS_CLEAN_FILE);
+    refused_number(i, "a file of the first year in loose mode", FIRST_YEAR, 0, 3, 20, 10);
+    read_into(i, FIRST_YEAR, 2, &h);
+    expect(i, "a file of the first year, as it was read",
+           h.r.number == 0 && h.r.rows == 7 && h.r.points == 16 && h.points[18] == 3000 && h.points[19] == 0);
+    /* the first tail alone counts, and only where the record itself is good */
+    refused_number(i, "a tail that is a number", HEAD "LINEA,1,2,0.000,1.000 2.000,3.000 x,0.000,EOF,", 0, 8, 54, 7);
+    for (size_t n = 255; n <= 256; n++) { /* blanks behind a number to the end of the longest record, and one more */
+        size_t at = file_of(HEAD "TESTO,a,", src);
+        memset(src + at, ' ', n);
+        src[at] = '1';
+        at += n + file_of(",0.000,0.000,0.000,EOF,", src + at + n);
+        const cxf_reading r = i->read(src, at, 0, h.rows, 20 * ROW_WIDTH, h.letters, 200, h.islands, 20, h.points, 200);
+        expect(i, "blanks behind a number",
+               n == 255 ? r.number == 0 && r.rows == 1 : r.number == 4 && r.record == 6 && r.offset == 44 && r.column == 0);
+    }
+    convert_says(i, HEAD "EOF", HEAD "EOF,");
+    convert_says(i, " MAPPA ,Z999_000100 , 1000.000 , TESTO\\ , a b ,+1.000,EOF", "REFUSED 8 6 52 1\n");
+    convert_says(i, HEAD "TESTO,a,1x,", "REFUSED 8 6 44 2\n");
+    convert_says(i, "", "REFUSED 2 1 0 0\n");
+    convert_says(i, "MAPPO,", "REFUSED 6 1 0 0\n");
+    convert_says(i, HEAD "TESTI,", "REFUSED 7 4 34 0\n");
+    convert_says(i, HEAD "TESTO, ,", "REFUSED 9 5 41 0\n");
+    convert_says(i, HEAD "LINEA,1,1 x,", "REFUSED 11 6 44 0\n");
+    convert_says(i, HEAD "BORDO,7,18 x," PLACE "0,4,0.000,0.000,0.000,0.000,0.000,0.000,0.000,0.001,EOF,", "REFUSED 12 21 175 0\n");
+    convert_says(i, HEAD "LINEA,1,2,0.000,0.000,0.000,0.000,LINEA,99 x,2,0.000,0.000,0.000,0.000,EOF,", "REFUSED 10 1 0 0\n");
+    convert_says(i, HEAD "LINEA,0,2,0.000,0.000,0.000,0.000,EOF,", "REFUSED 10 0 0 0\n");
+    /* a ring too wide is no matter: there is no tally */
+    convert_says(i, HEAD "BORDO,7,  18," PLACE "   0,   4,0.000 x,0.000,99999999.999,0.000,0.000,0.000,0.000,0.000,EOF,",
+                 HEAD "BORDO,7,  18," PLACE "   0,   4,       0.000,       0.000,99999999.999,       0.000,"
+                      "       0.000,       0.000,       0.000,       0.000,EOF,");
+    /* 8,192 bytes, most of them behind EOF; one more is too many */
+    const size_t n = file_of(HEAD "EOF,", src);
+    memset(src + n, 0, sizeof src - n);
+    cxf_listed l = i->convert(src, 8192, out, sizeof out);
+    expect(i, "a conversion of 8,192 bytes", l.number == 0 && l.length == n && memcmp(out, src, n) == 0);
+    l = i->convert(src, 8193, out, sizeof out);
+    expect(i, "a conversion of 8,193 bytes", l.number == 0 && l.length == 16 && memcmp(out, "REFUSED 1 0 0 0\n", 16) == 0);
+    /* the clean file is longer than 8,192 bytes: 600 vertices of 2 * 6 bytes, which become 2 * 14 */
+    size_t at = file_of("MAPPA,Z999_000100,1.000,LINEA,1,600,", src); /* header 34 bytes when clean, the line's counts 19 */
+    for (int k = 0; k < 1200; k++) memcpy(src + at, "0.000\n", 6), at += 6;
+    memcpy(src + at, "EOF", 3), at += 3;
+    l = i->convert(src, at, out, sizeof out);
+    expect(i, "a clean file that is longer than 8,192 bytes", at <= 8192 && l.number == 0 && l.length == 34 + 19 + 1200 * 14 + 5);
+    /* the listing takes the new loose mode */
+    listing_says(i, HEAD "TESTO,a,18 note,", "REFUSED 8 6 44 4\n");
+}
+
 /* T-02: "OTHER holds only for header kind 3. In kinds 1 and 2 such letters go on to the later rules." Sides of 1 m, 2 m and
    3 m: doubled areas 2,000,000, 8,000,000 and 18,000,000. */
 #define BORDER(letters, side) \
@@ -667,7 +795,7 @@ static void records(const interface *i) {
 #define SIDE(name, P)                                                                                                              \
     {name, P##_read, P##_write, P##_border_at, P##_text_at, P##_ring_area, P##_net_area, P##_tally_sheet, P##_tally_take,          \
      P##_ring_check, P##_tile_point, P##_record_at, P##_integer, P##_real, P##_listing, P##_sup_write, P##_mask_of, \
-     P##_remove, P##_move}
+     P##_remove, P##_move, P##_convert}
 
 uint64_t examples(void) {
     static const interface sides[2] = {SIDE("library", cxf), SIDE("reference", ref)};
@@ -682,6 +810,8 @@ uint64_t examples(void) {
         removing(&sides[k]);
         moving(&sides[k]);
         listing(&sides[k]);
+        tails(&sides[k]);
+        converting(&sides[k]);
         eleven_letters(&sides[k]);
         tiles(&sides[k]);
         records(&sides[k]);

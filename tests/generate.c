@@ -1241,19 +1241,29 @@ static void blanks(rng *g, bytes *out, size_t most) {
     for (size_t n = below(g, most + 1); n > 0; n--) add_byte(out, ' ');
 }
 
-static void tail(rng *g, bytes *out) {
+/* Whether numbers may have notes behind them, and whether one has. */
+static bool notes, noted;
+
+/* Behind a number that began at `from`: blanks, up to the 255 of a record, or a note. */
+static void tail(rng *g, bytes *out, size_t from) {
     static const char *const tails[] = {
-        " ", "  ", " numero di isole", "          numero totale di vertici", " 7", " -1.000", " \\", "     \t", " EOF", " x",
+        " ", "  ", " numero di isole", "          numero totale di vertici", " 7", " -1.000", " \\", "     ", " EOF", " x",
     };
-    if (one_in(g, 3)) {
-        const char *text = PICK(g, tails);
-        for (; *text != 0; text++)
-            if (*text != '\t') add_byte(out, (uint8_t)*text);
+    if (one_in(g, 60))
+        while (out->len - from < 255) add_byte(out, ' ');
+    if (out->len - from > 200 || !one_in(g, 3)) return;
+    if (!notes) {
+        blanks(g, out, 3);
+        return;
     }
+    const char *text = PICK(g, tails);
+    if (strspn(text, " ") < strlen(text)) noted = true;
+    add_text(out, text);
 }
 
 static void integer_text(rng *g, int64_t value, bool loose, bytes *out) {
     char text[40];
+    const size_t from = out->len;
     if (!loose) {
         snprintf(text, sizeof text, "%4lld", (long long)value);
         add_text(out, text);
@@ -1262,11 +1272,12 @@ static void integer_text(rng *g, int64_t value, bool loose, bytes *out) {
     blanks(g, out, one_in(g, 2) ? 0 : 6);
     snprintf(text, sizeof text, "%0*lld", (int)(one_in(g, 2) ? 1 : 1 + below(g, 4)), (long long)value);
     add_text(out, text);
-    tail(g, out);
+    tail(g, out, from);
 }
 
 static void real_text(rng *g, int64_t value, bool loose, bytes *out) {
     char token[48], text[64], padded[80];
+    const size_t from = out->len;
     const bool minus = value < 0 || (loose && value == 0 && one_in(g, 3));
     const uint64_t size = value < 0 ? 0 - (uint64_t)value : (uint64_t)value;
     int width = 1;
@@ -1281,7 +1292,7 @@ static void real_text(rng *g, int64_t value, bool loose, bytes *out) {
     }
     blanks(g, out, one_in(g, 2) ? 0 : 14);
     add_text(out, text);
-    tail(g, out);
+    tail(g, out, from);
 }
 
 static void write_piece(rng *g, const piece *p, bytes *out) {
@@ -1531,8 +1542,10 @@ static void damage_bytes(rng *g, bytes *b) {
 
 int some_faults(rng *g) { return one_in(g, 2) ? 0 : one_in(g, 4) ? 2 + (int)below(g, 3) : 1; }
 
-void make_file(rng *g, const tables *t, int faults, bytes *out) {
+bool make_file(rng *g, const tables *t, int faults, bytes *out) {
     sheet_pieces(t);
+    noted = false;
+    notes = one_in(g, 3);
     const int style = (int)below(g, 12); /* 0 to 5: exact */
     for (size_t i = 0; i < piece_count; i++) {
         if (style == 6) pieces[i].loose = one_in(g, 8), pieces[i].end = one_in(g, 8) ? LF : CRLF;
@@ -1561,12 +1574,14 @@ void make_file(rng *g, const tables *t, int faults, bytes *out) {
         else add_text(out, text);
     }
     for (int k = 0; k < in_bytes; k++) damage_bytes(g, out);
+    return noted;
 }
 
 /* ---- Numbers and records ---- */
 
 void make_number(rng *g, bytes *out) {
     static const uint8_t alphabet[] = "   0011299.+-x";
+    notes = one_in(g, 2);
     const size_t from = out->len;
     int64_t value;
     if (one_in(g, 12)) { /* a sign before zeros, in a record of 11 to 13 characters */

@@ -79,8 +79,9 @@ void make_odd(rng *g, tables *t);
 void damage_sheet(rng *g, tables *t);
 
 /* A file made from a well made sheet, in exact or loose dress, with 0 or more faults. `faults` tells how many; with
-   none the loose mode reads the sheet. */
-void make_file(rng *g, const tables *t, int faults, bytes *out);
+   none the loose mode reads the sheet, unless a note stands behind some number: then the former reading alone does (T-09), and the
+   answer is true. */
+bool make_file(rng *g, const tables *t, int faults, bytes *out);
 /* How many faults a file is to have. */
 int some_faults(rng *g);
 

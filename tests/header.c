@@ -47,6 +47,7 @@ DECLARE_SUP(cxf)
 uint64_t cxf_interface(void);
 DECLARE_MASK(cxf)
 DECLARE_EDITS(cxf)
+DECLARE_CONVERT(cxf)
 
 /* ---- structs: the offset, the size and the type of each field ---- */
 
@@ -197,6 +198,7 @@ IS(CXF_BAD_SIDE, 26);
 
 IS(CXF_LOOSE, 0);
 IS(CXF_EXACT, 1);
+IS(CXF_FORMER, 2);
 
 IS(CXF_MAPPA, 1);
 IS(CXF_MAPPA_FONDIARIO, 2);

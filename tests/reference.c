@@ -1,4 +1,4 @@
-/* The reference: document 01's base, and T-01 to T-08 of document 02, in plain C, written from the papers for clarity, not for
+/* The reference: document 01's base, and T-01 to T-09 of document 02, in plain C, written from the papers for clarity, not for
    speed. It shares no line with the library. The sentences in comments are document 01's, or the interface paper's; those
    of the SUP file are T-01's, those of masks T-03's. */
 #include "reference.h"
@@ -75,6 +75,10 @@ static bool starts_true(const int64_t *n, spot at) {
 static bool is_digit(uint8_t b) { return b >= '0' && b <= '9'; }
 static bool is_capital(uint8_t b) { return b >= 'A' && b <= 'Z'; }
 
+enum { LOOSE = 0, FORMER = 2 };
+
+static bool is_exact(uint64_t mode) { return mode != LOOSE && mode != FORMER; }
+
 /* ---- Records ---- */
 
 /* "A record runs to the next LF. A CR directly before that LF belongs to the line end; exact mode demands it."
@@ -94,7 +98,7 @@ cxf_record ref_record_at(const uint8_t *src, size_t src_len, uint64_t at, uint64
     while (lf < src_len && src[lf] != 10) lf++;
     if (lf == src_len) {
         /* "where a keyword is due and the bytes left are exactly `EOF`, that is the EOF record", in loose mode */
-        if (mode == 0 && keyword_due != 0 && src_len - start == 3 && memcmp(src + start, "EOF", 3) == 0) {
+        if (!is_exact(mode) && keyword_due != 0 && src_len - start == 3 && memcmp(src + start, "EOF", 3) == 0) {
             answer.start = start;
             answer.length = 3;
             answer.next = src_len;
@@ -106,7 +110,7 @@ cxf_record ref_record_at(const uint8_t *src, size_t src_len, uint64_t at, uint64
     size_t end = lf;
     if (lf > start && src[lf - 1] == 13) {
         end = lf - 1;
-    } else if (mode != 0) {
+    } else if (is_exact(mode)) {
         answer.number = LINE_END;
         return answer;
     }
@@ -128,6 +132,15 @@ cxf_record ref_record_at(const uint8_t *src, size_t src_len, uint64_t at, uint64
 
 /* ---- Numbers ---- */
 
+/* What stands behind a number, exact mode apart. The former reading: "then the end, or a blank and any tail"; T-09: "Loose mode now
+   permits only blanks after a number." */
+static bool good_tail(const uint8_t *tail, size_t n, uint64_t mode) {
+    if (mode == FORMER) return n == 0 || tail[0] == ' ';
+    for (size_t i = 0; i < n; i++)
+        if (tail[i] != ' ') return false;
+    return true;
+}
+
 /* "Exact: 4 characters, right aligned with blanks, no zero in front except for 0 itself. Loose: any blanks, 1 to 4
    digits, then the end, or a blank and any tail" */
 static cxf_number integer_of(const uint8_t *content, size_t content_len, uint64_t mode) {
@@ -142,10 +155,10 @@ static cxf_number integer_of(const uint8_t *content, size_t content_len, uint64_
         i++;
     }
     if (i == first) return refused;
-    if (mode != 0) {
+    if (is_exact(mode)) {
         if (content_len != 4 || i != content_len) return refused;
         if (i - first > 1 && content[first] == '0') return refused;
-    } else if (i < content_len && content[i] != ' ') {
+    } else if (!good_tail(content + i, content_len - i, mode)) {
         return refused;
     }
     return (cxf_number){0, 0, value};
@@ -182,11 +195,11 @@ static cxf_number real_of(const uint8_t *content, size_t content_len, uint64_t m
         i++;
     }
     if (i - token > 12) return refused;
-    if (mode != 0) {
+    if (is_exact(mode)) {
         if (content_len != 12 || i != content_len) return refused;
         if (plus || (minus && value == 0)) return refused;
         if (whole > 1 && content[first] == '0') return refused;
-    } else if (i < content_len && content[i] != ' ') {
+    } else if (!good_tail(content + i, content_len - i, mode)) {
         return refused;
     }
     /* The sign is the token's, not the whole part's: -0.005 is -5. */
@@ -325,7 +338,7 @@ static bool take(pass *p, bool keyword_due) {
 /* "Keyword, first word, letters, name. Loose mode drops blanks (32) at both ends. Exact mode permits none at either end."
    What is left after this is compared as it stands, so in exact mode an end blank makes a word wrong. */
 static void drop_blanks(pass *p) {
-    if (p->mode != 0) return;
+    if (is_exact(p->mode)) return;
     while (p->length > 0 && p->text[0] == ' ') {
         p->text++;
         p->length--;
@@ -434,7 +447,7 @@ static bool take_section(pass *p, int64_t kind, bool outside) {
     if (SECTIONS[kind].letters && !take_letters(p, &row[LETTERS])) return false;
     if (SECTIONS[kind].code) {
         if (!take_integer(p, &row[CODE_AT])) return false;
-        if (p->mode != 0 && !listed(kind, row[CODE_AT])) return refuse(p, CODE);
+        if (is_exact(p->mode) && !listed(kind, row[CODE_AT])) return refuse(p, CODE);
     }
     if (SECTIONS[kind].size && !take_integer(p, &row[SIZE])) return false;
     if (SECTIONS[kind].angle && !take_real(p, &row[ANGLE])) return false;
@@ -494,7 +507,7 @@ static bool take_file(pass *p) {
         if (!take_section(p, kind, outside)) return false;
     }
     /* "What follows the EOF record is ignored in loose mode and refused (13) in exact mode, located at the next record." */
-    if (p->mode != 0 && p->place < p->len) {
+    if (is_exact(p->mode) && p->place < p->len) {
         p->answer.number = AFTER_EOF;
         p->answer.record = p->taken + 1;
         p->answer.offset = p->place;
@@ -1364,4 +1377,35 @@ cxf_edited ref_move(CXF_TABLES, int64_t by_x, int64_t by_y) {
     if (!each_coordinate(&s, rows, points, would_stay, by_x, by_y)) return (cxf_edited){MOVED_OFF, 0, 0};
     each_coordinate(&s, rows, points, moved, by_x, by_y);
     return (cxf_edited){0, 0, count};
+}
+
+/* ---- Conversion ---- */
+
+/* T-09: a program "which reads standard input up to 8,192 bytes and prints the clean file, or the refusal line as the listing program has
+   it (the writer's 10 gives the row, 0 and 0)". No piece of such a file is written in more than three times its bytes. */
+enum { CONVERTED_MOST = 4 * LISTING_LIMIT };
+
+static size_t conversion_text(const uint8_t *src, size_t src_len, uint8_t *text) {
+    static int64_t rows[LISTING_LIMIT / 2 * ROW_WIDTH], points[LISTING_LIMIT];
+    static uint8_t letters[LISTING_LIMIT];
+    static uint16_t islands[LISTING_LIMIT / 2];
+    if (src_len > LISTING_LIMIT) return (size_t)sprintf((char *)text, "REFUSED 1 0 0 0\n");
+    const cxf_reading r = ref_read(src, src_len, FORMER, rows, LISTING_LIMIT / 2 * ROW_WIDTH, letters, LISTING_LIMIT, islands,
+                                   LISTING_LIMIT / 2, points, LISTING_LIMIT);
+    if (r.number != 0)
+        return (size_t)sprintf((char *)text, "REFUSED %llu %llu %llu %llu\n", (unsigned long long)r.number, (unsigned long long)r.record,
+                               (unsigned long long)r.offset, (unsigned long long)r.column);
+    const cxf_written w = ref_write(r.kind, r.name, NAME_LENGTH, r.scale, r.rows, rows, (size_t)r.rows * ROW_WIDTH, letters, (size_t)r.letters,
+                                    islands, (size_t)r.islands, points, (size_t)r.points * 2, text, CONVERTED_MOST);
+    if (w.number != 0)
+        return (size_t)sprintf((char *)text, "REFUSED %llu %llu 0 0\n", (unsigned long long)w.number, (unsigned long long)w.row);
+    return (size_t)w.length;
+}
+
+cxf_listed ref_convert(const uint8_t *src, size_t src_len, uint8_t *out, size_t out_len) {
+    static uint8_t text[CONVERTED_MOST];
+    const size_t n = conversion_text(src, src_len, text);
+    if (n > out_len) return (cxf_listed){NO_ROOM, n};
+    memcpy(out, text, n);
+    return (cxf_listed){0, n};
 }

@@ -94,6 +94,16 @@ DECLARE_EDITS(cxf)
 DECLARE_EDITS(ref)
 #endif
 
+/* The modes: 0 is loose, 1 (or anything else) exact; T-09: "mode 2 is the former reading". */
+enum { MODES = 3 };
+
+#define DECLARE_CONVERT(P) cxf_listed P##_convert(const uint8_t *src, size_t src_len, uint8_t *out, size_t out_len);
+
+#ifndef STRUCTS_ALONE
+DECLARE_CONVERT(cxf)
+DECLARE_CONVERT(ref)
+#endif
+
 #define DECLARE_MASK(P) cxf_mask P##_mask_of(CXF_SHEET, uint64_t row, int64_t corner_x, int64_t corner_y, int64_t cell);
 
 #ifndef STRUCTS_ALONE

@@ -23,6 +23,7 @@ ghost use Rattle.edit.specs.Removals.{removedTables, removeOf};
 ghost use Rattle.edit.specs.Moves.{movedTables, moveOf};
 ghost use Rattle.listing.specs.Listing.{listingOf};
 ghost use Rattle.listing.specs.Listed.{listedOf, listedIn};
+ghost use Rattle.conversion.specs.Conversion.{conversionOf};
 ghost use Rattle.told.specs.Asked.{modeOf, isKeywordDue, headerOf};
 ghost use Rattle.told.specs.Told.{interfaceNumber, readTold, writeTold, recordTold, integerTold, realTold, tileTold, listedTold};
 ghost use Rattle.told.specs.Answers.{borderTold, textTold, areaTold, ringTold};
@@ -38,6 +39,7 @@ use column::PlacedInteger;
 use column::PlacedReal;
 use column::placed_integer;
 use column::placed_real;
+use conversion::convert_text;
 use edit::moving::move_sheet;
 use edit::removing::remove_row;
 use listing::Listed;
@@ -246,6 +248,24 @@ pub extern "C" fn cxf_listing(src: &[u8], out: &mut [u8]) -> CxfListed
     ensures { λ r. ⌜ now (out .exit) ≡ listedIn (listedOf (listingOf (now (src .entry))) (length (now (out .entry)))) (listingOf (now (src .entry))) (now (out .entry)) ⌝ }
 {
     match list_text(src, out) {
+        Listed::Wrote(used) => CxfListed {
+            number: 0,
+            length: used,
+        },
+        Listed::NoRoom(needed) => CxfListed {
+            number: NO_ROOM,
+            length: needed,
+        },
+    }
+}
+
+// What the conversion program writes for an input.
+#[no_mangle]
+pub extern "C" fn cxf_convert(src: &[u8], out: &mut [u8]) -> CxfListed
+    ensures { λ r. ⌜ r ≡ listedTold (listedOf (conversionOf (now (src .entry))) (length (now (out .entry)))) ⌝ }
+    ensures { λ r. ⌜ now (out .exit) ≡ listedIn (listedOf (conversionOf (now (src .entry))) (length (now (out .entry)))) (conversionOf (now (src .entry))) (now (out .entry)) ⌝ }
+{
+    match convert_text(src, out) {
         Listed::Wrote(used) => CxfListed {
             number: 0,
             length: used,

@@ -59,12 +59,6 @@ sign-not b k h e = go (eqb b 43) refl e
     go true f e = ne-eqb b k (λ q. absurd (omega (arith, eqb-true b 43 f)))
     go false f e = ne-eqb b k (λ q. absurd (omega (arith, eqb-true b 45 e)))
 
-pub and-comm : (a b : Bool) → (a && b) ≡ (b && a)
-and-comm true true = refl
-and-comm true false = refl
-and-comm false true = refl
-and-comm false false = refl
-
 pub four : (a b c d : Bool) → (a && b && c && d) ≡ true → (a ≡ true) × (b ≡ true) × (c ≡ true) × (d ≡ true)
 four true true true true e = (refl, refl, refl, refl)
 four true true true false e = (refl, refl, refl, e)

@@ -6,8 +6,9 @@ use mathlib.Core.Bool.{Bool, true, false}
 use native.Mathlib.Omega.{arith}
 use lib.ListN.{length, take, drop}
 use Rattle.laws.proofs.Choice.{true≢false, false≢true, cond-elim}
+use Rattle.record.specs.declared.Mode.{Mode}
 use Rattle.column.specs.Column.{Beginning, IsColumn}
-use Rattle.column.specs.Spots.{spotAfter, mayEnd, isStuck, takes, stretch}
+use Rattle.column.specs.Spots.{spotAfter, isFree, spotIn, mayEnd, isStuck, takes, stretch}
 use Rattle.column.specs.declared.Spot.{Spot}
 use Rattle.column.specs.declared.Spot.the-variants.{Stuck, IntegerPad, LastDigits, RealPad, Negative, ToPoint, NegativeZero, NotAllZero, LooseInteger, AtMost, LooseReal, AfterSign, UpToPoint, Decimals, Tail}
 
@@ -45,10 +46,10 @@ column-alike L M s c e p =
 
 -- ---- how far the spots go
 
-pub stuck-never : (s : List ℕ) → takes Stuck s ≡ false
-unfolding takes spotAfter mayEnd
-stuck-never [] = refl
-stuck-never (b ∷ s) = stuck-never s
+pub stuck-never : (mode : Mode) (s : List ℕ) → takes mode Stuck s ≡ false
+unfolding takes spotIn isFree spotAfter mayEnd
+stuck-never mode [] = refl
+stuck-never mode (b ∷ s) = stuck-never mode s
 
 stuck-is : (at : Spot) → isStuck at ≡ true → at ≡ Stuck
 unfolding isStuck
@@ -90,43 +91,43 @@ finish (UpToPoint k) = 46 ∷ ones 3 []
 finish (Decimals k) = ones (suc k) []
 finish Tail = []
 
-figures-end : (k : ℕ) → takes (LastDigits k) (ones k []) ≡ true
-unfolding takes spotAfter mayEnd ones
-figures-end zero = refl
-figures-end (suc k) = figures-end k
+figures-end : (mode : Mode) (k : ℕ) → takes mode (LastDigits k) (ones k []) ≡ true
+unfolding takes spotIn isFree spotAfter mayEnd ones
+figures-end mode zero = refl
+figures-end mode (suc k) = figures-end mode k
 
-whole-end : (k : ℕ) → takes (ToPoint k) (ones k (46 ∷ ones 3 [])) ≡ true
-unfolding takes spotAfter mayEnd ones
-whole-end zero = refl
-whole-end (suc k) = whole-end k
+whole-end : (mode : Mode) (k : ℕ) → takes mode (ToPoint k) (ones k (46 ∷ ones 3 [])) ≡ true
+unfolding takes spotIn isFree spotAfter mayEnd ones
+whole-end mode zero = refl
+whole-end mode (suc k) = whole-end mode k
 
-fraction-end : (k : ℕ) → takes (Decimals k) (ones (suc k) []) ≡ true
-unfolding takes spotAfter mayEnd ones
-fraction-end zero = refl
-fraction-end (suc k) = fraction-end k
+fraction-end : (mode : Mode) (k : ℕ) → takes mode (Decimals k) (ones (suc k) []) ≡ true
+unfolding takes spotIn isFree spotAfter mayEnd ones
+fraction-end mode zero = refl
+fraction-end mode (suc k) = fraction-end mode k
 
-finish-ends : (at : Spot) → isStuck at ≡ false → takes at (finish at) ≡ true
-unfolding takes spotAfter mayEnd ones finish isStuck
-finish-ends Stuck e = absurd (true≢false e)
-finish-ends (IntegerPad zero) e = refl
-finish-ends (IntegerPad (suc k)) e = figures-end (suc k)
-finish-ends (LastDigits k) e = figures-end k
-finish-ends (RealPad zero) e = refl
-finish-ends (RealPad (suc k)) e = whole-end (suc k)
-finish-ends (Negative zero) e = refl
-finish-ends (Negative (suc k)) e = whole-end (suc k)
-finish-ends (ToPoint k) e = whole-end k
-finish-ends NegativeZero e = refl
-finish-ends (NotAllZero zero) e = refl
-finish-ends (NotAllZero (suc k)) e = figures-end (suc k)
-finish-ends LooseInteger e = refl
-finish-ends (AtMost k) e = refl
-finish-ends LooseReal e = refl
-finish-ends AfterSign e = refl
-finish-ends (UpToPoint zero) e = refl
-finish-ends (UpToPoint (suc k)) e = refl
-finish-ends (Decimals k) e = fraction-end k
-finish-ends Tail e = refl
+finish-ends : (mode : Mode) (at : Spot) → isStuck at ≡ false → takes mode at (finish at) ≡ true
+unfolding takes spotIn isFree spotAfter mayEnd ones finish isStuck
+finish-ends mode Stuck e = absurd (true≢false e)
+finish-ends mode (IntegerPad zero) e = refl
+finish-ends mode (IntegerPad (suc k)) e = figures-end mode (suc k)
+finish-ends mode (LastDigits k) e = figures-end mode k
+finish-ends mode (RealPad zero) e = refl
+finish-ends mode (RealPad (suc k)) e = whole-end mode (suc k)
+finish-ends mode (Negative zero) e = refl
+finish-ends mode (Negative (suc k)) e = whole-end mode (suc k)
+finish-ends mode (ToPoint k) e = whole-end mode k
+finish-ends mode NegativeZero e = refl
+finish-ends mode (NotAllZero zero) e = refl
+finish-ends mode (NotAllZero (suc k)) e = figures-end mode (suc k)
+finish-ends mode LooseInteger e = refl
+finish-ends mode (AtMost k) e = refl
+finish-ends mode LooseReal e = refl
+finish-ends mode AfterSign e = refl
+finish-ends mode (UpToPoint zero) e = refl
+finish-ends mode (UpToPoint (suc k)) e = refl
+finish-ends mode (Decimals k) e = fraction-end mode k
+finish-ends mode Tail e = refl
 
 -- the k bytes at the front go, and no more
 record Reach (L : List ℕ → Bool) (s : List ℕ) (k : ℕ) : Type 0 where
@@ -134,25 +135,25 @@ record Reach (L : List ℕ → Bool) (s : List ℕ) (k : ℕ) : Type 0 where
   goes : Beginning L (take k s)
   stops : k < length s → Beginning L (take (suc k) s) → ⊥
 
-here : (at : Spot) (s : List ℕ) → isStuck at ≡ false → Beginning (takes at) (take 0 s)
-here at s e = record { rest = finish at; accepted = finish-ends at e }
+here : (mode : Mode) (at : Spot) (s : List ℕ) → isStuck at ≡ false → Beginning (takes mode at) (take 0 s)
+here mode at s e = record { rest = finish at; accepted = finish-ends mode at e }
 
-reaches : (at : Spot) (s : List ℕ) → isStuck at ≡ false → Reach (takes at) s (stretch at s)
+reaches : (mode : Mode) (at : Spot) (s : List ℕ) → isStuck at ≡ false → Reach (takes mode at) s (stretch mode at s)
 unfolding takes stretch
-reaches at [] e = record { within = omega arith; goes = here at [] e; stops = λ h b. absurd (omega arith) }
-reaches at (b ∷ s) e =
-    cond-elim (Reach (takes at) (b ∷ s)) (isStuck (spotAfter at b)) 0 (suc (stretch (spotAfter at b) s))
-    (λ f. no at b s e (stuck-is (spotAfter at b) f)) (λ f. on at b s (stretch (spotAfter at b) s) (reaches (spotAfter at b) s f))
+reaches mode at [] e = record { within = omega arith; goes = here mode at [] e; stops = λ h b. absurd (omega arith) }
+reaches mode at (b ∷ s) e =
+    cond-elim (Reach (takes mode at) (b ∷ s)) (isStuck (spotIn mode at b)) 0 (suc (stretch mode (spotIn mode at b) s))
+    (λ f. no at b s e (stuck-is (spotIn mode at b) f)) (λ f. on at b s (stretch mode (spotIn mode at b) s) (reaches mode (spotIn mode at b) s f))
   where
-    no : (at : Spot) (b : ℕ) (s : List ℕ) → isStuck at ≡ false → spotAfter at b ≡ Stuck → Reach (takes at) (b ∷ s) 0
+    no : (at : Spot) (b : ℕ) (s : List ℕ) → isStuck at ≡ false → spotIn mode at b ≡ Stuck → Reach (takes mode at) (b ∷ s) 0
     no at b s e q =
         record {
           within = omega arith;
-          goes = here at (b ∷ s) e;
-          stops = λ h g. false≢true (sym (stuck-never (g .rest)) ∙ ap (λ x. takes x (g .rest)) (sym q) ∙ g .accepted);
+          goes = here mode at (b ∷ s) e;
+          stops = λ h g. false≢true (sym (stuck-never mode (g .rest)) ∙ ap (λ x. takes mode x (g .rest)) (sym q) ∙ g .accepted);
         }
 
-    on : (at : Spot) (b : ℕ) (s : List ℕ) (k : ℕ) → Reach (takes (spotAfter at b)) s k → Reach (takes at) (b ∷ s) (suc k)
+    on : (at : Spot) (b : ℕ) (s : List ℕ) (k : ℕ) → Reach (takes mode (spotIn mode at b)) s k → Reach (takes mode at) (b ∷ s) (suc k)
     on at b s k r =
         record {
           within = omega (arith, r .within);
@@ -160,10 +161,10 @@ reaches at (b ∷ s) e =
           stops = λ h g. r .stops (omega arith) (record { rest = g .rest; accepted = g .accepted });
         }
 
-pub stretch-column : (at : Spot) (s : List ℕ) → isStuck at ≡ false → IsColumn (takes at) s (suc (stretch at s))
-stretch-column at s e =
-    let r = reaches at s e in
-    let k = stretch at s in
+pub stretch-column : (mode : Mode) (at : Spot) (s : List ℕ) → isStuck at ≡ false → IsColumn (takes mode at) s (suc (stretch mode at s))
+stretch-column mode at s e =
+    let r = reaches mode at s e in
+    let k = stretch mode at s in
     let q : suc k - 1 ≡ k = omega arith in
     record {
       from = omega arith;

@@ -13,10 +13,9 @@ use borrow.Author.Tests.{ne-eqb}
 use Rattle.laws.specs.Lists.{tail}
 use Rattle.laws.proofs.ListLaws.{left, left-none, rest-is}
 use Rattle.record.specs.declared.Mode.{Mode}
-use Rattle.record.specs.declared.Mode.the-variants.{Loose, Exact}
 use Rattle.record.specs.declared.Line.{Line}
 use Rattle.record.specs.declared.Line.the-variants as Line
-use Rattle.record.specs.Record.{lineOf}
+use Rattle.record.specs.Record.{isExact, lineOf}
 use Rattle.record.proofs.RecordLaws.{line-none}
 use Rattle.number.specs.declared.Whole.{Whole}
 use Rattle.number.specs.declared.Whole.the-variants as Whole
@@ -25,7 +24,7 @@ use Rattle.number.specs.declared.Decimal.the-variants as Decimal
 use Rattle.number.specs.Number.{integerOf, realOf}
 use Rattle.token.specs.declared.Want.{Want}
 use Rattle.token.specs.declared.Want.the-variants.{Key, Text, Int, Real}
-use Rattle.column.specs.Spots.{spotAfter, isStuck, stretch, integerStart, realStart}
+use Rattle.column.specs.Spots.{spotIn, isStuck, stretch, integerStart, realStart}
 use Rattle.column.specs.Columns.{integerColumn, realColumn, contentColumn, recordColumn, refusalColumn, integerPlaced, realPlaced}
 use Rattle.column.specs.declared.Spot.{Spot}
 use Rattle.column.specs.declared.Spot.the-variants.{Stuck, IntegerPad, LastDigits, RealPad, Negative, ToPoint, NegativeZero, NotAllZero, LooseInteger, AtMost, LooseReal, AfterSign, UpToPoint, Decimals, Tail}
@@ -56,54 +55,54 @@ stuck-no (UpToPoint k) n = refl
 stuck-no (Decimals k) n = refl
 stuck-no Tail n = refl
 
-module _ (start at : Spot) (s : List ℕ) (i : ℕ) (q : stretch start s ≡ i + stretch at (drop i s)) where
-  pub stretch-end : length s ≤ i → i ≡ stretch start s
+module _ (mode : Mode) (start at : Spot) (s : List ℕ) (i : ℕ) (q : stretch mode start s ≡ i + stretch mode at (drop i s)) where
+  pub stretch-end : length s ≤ i → i ≡ stretch mode start s
   unfolding stretch
-  stretch-end h = omega (arith, q, ap (stretch at) (left-none s i h))
+  stretch-end h = omega (arith, q, ap (stretch mode at) (left-none s i h))
 
-  module _ (h : i < length s) (to : Spot) (e : to ≡ spotAfter at (getD s i 0)) (r : Bool) (f : r ≡ isStuck to) where
-    here : stretch at (drop i s) ≡ cond r 0 (suc (stretch to (drop (i + 1) s)))
+  module _ (h : i < length s) (to : Spot) (e : to ≡ spotIn mode at (getD s i 0)) (r : Bool) (f : r ≡ isStuck to) where
+    here : stretch mode at (drop i s) ≡ cond r 0 (suc (stretch mode to (drop (i + 1) s)))
     unfolding stretch
     here = rw (left s i 0 h, f, e)
 
-    pub stretch-stop : r ≡ true → i ≡ stretch start s
+    pub stretch-stop : r ≡ true → i ≡ stretch mode start s
     stretch-stop g = omega (arith, q, rw g at here)
 
-    pub stretch-on : r ≡ false → stretch start s ≡ i + 1 + stretch to (drop (i + 1) s)
+    pub stretch-on : r ≡ false → stretch mode start s ≡ i + 1 + stretch mode to (drop (i + 1) s)
     stretch-on g = omega (arith, q, rw g at here)
 
 pub ruleset stretch-ways = (stretch-end, stretch-stop, stretch-on)
 
 -- ---- a column
 
-stretch-le : (at : Spot) (s : List ℕ) → stretch at s ≤ length s
+stretch-le : (mode : Mode) (at : Spot) (s : List ℕ) → stretch mode at s ≤ length s
 unfolding stretch
-stretch-le at [] = omega arith
-stretch-le at (b ∷ s) = go (isStuck (spotAfter at b)) (stretch-le (spotAfter at b) s)
+stretch-le mode at [] = omega arith
+stretch-le mode at (b ∷ s) = go (isStuck (spotIn mode at b)) (stretch-le mode (spotIn mode at b) s)
   where
-    go : (x : Bool) → stretch (spotAfter at b) s ≤ length s → cond x 0 (suc (stretch (spotAfter at b) s)) ≤ suc (length s)
+    go : (x : Bool) → stretch mode (spotIn mode at b) s ≤ length s → cond x 0 (suc (stretch mode (spotIn mode at b) s)) ≤ suc (length s)
     go true h = omega arith
     go false h = omega arith
 
-pub stretch-fits : (at : Spot) (s : List ℕ) (r : ℕ) → r ≡ stretch at s → length s * 1 < 2 ^ 63 → Fits w64 (r + 1)
-stretch-fits at s r e h = record { fits = omega (arith, stretch-le at s) }
+pub stretch-fits : (mode : Mode) (at : Spot) (s : List ℕ) (r : ℕ) → r ≡ stretch mode at s → length s * 1 < 2 ^ 63 → Fits w64 (r + 1)
+stretch-fits mode at s r e h = record { fits = omega (arith, stretch-le mode at s) }
 
-module _ (mode : Mode) (s : List ℕ) (r : ℕ) where
-  pub integer-loosely : mode ≡ Loose → r ≡ stretch LooseInteger s → r + 1 ≡ integerColumn mode s
+module _ (mode : Mode) (s : List ℕ) (r : ℕ) (x : Bool) (y : x ≡ isExact mode) where
+  pub integer-loosely : x ≡ false → r ≡ stretch mode LooseInteger s → r + 1 ≡ integerColumn mode s
   unfolding integerColumn integerStart
-  integer-loosely m e = rw (add-one, m, e)
+  integer-loosely m e = rw (add-one, ← y, m, e)
 
-  pub integer-exactly : mode ≡ Exact → r ≡ stretch (IntegerPad 3) s → r + 1 ≡ integerColumn mode s
+  pub integer-exactly : x ≡ true → r ≡ stretch mode (IntegerPad 3) s → r + 1 ≡ integerColumn mode s
   unfolding integerColumn integerStart
-  integer-exactly m e = rw (add-one, m, e)
+  integer-exactly m e = rw (add-one, ← y, m, e)
 
-  pub real-loosely : mode ≡ Loose → r ≡ stretch LooseReal s → r + 1 ≡ realColumn mode s
+  pub real-loosely : x ≡ false → r ≡ stretch mode LooseReal s → r + 1 ≡ realColumn mode s
   unfolding realColumn realStart
-  real-loosely m e = rw (add-one, m, e)
+  real-loosely m e = rw (add-one, ← y, m, e)
 
-  pub real-exactly : mode ≡ Exact → r ≡ stretch (RealPad 7) s → r + 1 ≡ realColumn mode s
+  pub real-exactly : x ≡ true → r ≡ stretch mode (RealPad 7) s → r + 1 ≡ realColumn mode s
   unfolding realColumn realStart
-  real-exactly m e = rw (add-one, m, e)
+  real-exactly m e = rw (add-one, ← y, m, e)
 
 pub ruleset column-ways = (stretch-fits, integer-loosely, integer-exactly, real-loosely, real-exactly)
 

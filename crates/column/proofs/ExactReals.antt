@@ -10,17 +10,17 @@ use lib.Seq.{take-all}
 use lib.ListN.{length, getD, take, drop, length-drop}
 use lib.Dec.{eqb, leb, eqb·suc-suc, eqb·zero-suc}
 use borrow.Author.Tests.{eq-eqb, ne-eqb, le-leb, leb-true, eqb-true, eqb-false}
-use Rattle.laws.specs.Lists.{run}
+use Rattle.laws.specs.Lists.{run, all}
 use Rattle.laws.proofs.Choice.{and-left, and-false, false≢true}
 use Rattle.laws.proofs.ListLaws.{left-none}
 use Rattle.record.specs.declared.Mode.{Mode}
-use Rattle.record.specs.declared.Mode.the-variants.{Loose, Exact}
+use Rattle.record.specs.declared.Mode.the-variants.{Loose, Exact, Former}
 use Rattle.number.specs.Words.{blank, unled}
 use Rattle.number.specs.Number.{digit, value, ended, lean, signOf, signs, signed, thousandths, isToken, isNeat, realIs, realAt, realSigned, realOf}
 use Rattle.number.proofs.RealWays.{signs-within}
 use Rattle.number.proofs.IntegerWays.{digit-from}
 use Rattle.column.specs.Column.{IsColumn}
-use Rattle.column.specs.Spots.{spotAfter, mayEnd, isStuck, takes, stretch, realStart}
+use Rattle.column.specs.Spots.{spotAfter, isFree, spotIn, mayEnd, isStuck, takes, stretch, realStart}
 use Rattle.column.specs.declared.Spot.the-variants.{RealPad, Negative, ToPoint, NegativeZero, NotAllZero, LastDigits}
 use Rattle.column.proofs.ColumnLaws.{stuck-never, column-alike, stretch-column}
 use Rattle.column.specs.Columns.{acceptsReal, realColumn}
@@ -37,8 +37,8 @@ s4 n = suc (suc (suc (suc n)))
 whole : ℕ → ℕ → List ℕ → Bool
 whole k n u = eqb (length u) (s4 k) && eqb n k && eqb (getD u k 0) 46 && eqb (run digit (drop (suc k) u)) 3
 
-to-point-takes : (k : ℕ) (u : List ℕ) → takes (ToPoint k) u ≡ whole k (run digit u) u
-unfolding takes spotAfter mayEnd run whole
+to-point-takes : (k : ℕ) (u : List ℕ) → takes Exact (ToPoint k) u ≡ whole k (run digit u) u
+unfolding takes spotIn isFree spotAfter mayEnd run whole
 to-point-takes k [] = rw (eqb·zero-suc (suc (suc (suc k))))
 to-point-takes k (b ∷ u) = go k (digit b) refl (eqb b 46) refl (λ j. to-point-takes j u)
   where
@@ -53,15 +53,15 @@ to-point-takes k (b ∷ u) = go k (digit b) refl (eqb b 46) refl (λ j. to-point
     point-no-digit : (b : ℕ) → eqb b 46 ≡ true → digit b ≡ false
     point-no-digit b e = ap digit (eqb-true b 46 e)
 
-    go : (k : ℕ) (d : Bool) → digit b ≡ d → (w : Bool) → eqb b 46 ≡ w → ((j : ℕ) → takes (ToPoint j) u ≡ whole j (run digit u) u)
-        → takes (spotAfter (ToPoint k) b) u ≡ whole k (cond d (suc (run digit u)) 0) (b ∷ u)
+    go : (k : ℕ) (d : Bool) → digit b ≡ d → (w : Bool) → eqb b 46 ≡ w → ((j : ℕ) → takes Exact (ToPoint j) u ≡ whole j (run digit u) u)
+        → takes Exact (spotAfter (ToPoint k) b) u ≡ whole k (cond d (suc (run digit u)) 0) (b ∷ u)
     go zero true e true f ih = absurd (false≢true (sym (point-no-digit b f) ∙ e))
     go zero false e true f ih = rw (f, eqb·suc-suc (length u) 3) (digits-take 3 u ∙ three (length u) (run digit u))
-    go zero d e false f ih = rw f (stuck-never u ∙ sym (off (eqb (suc (length u)) 4) (eqb (cond d (suc (run digit u)) 0) 0) (eqb (run digit u) 3)))
+    go zero d e false f ih = rw f (stuck-never Exact u ∙ sym (off (eqb (suc (length u)) 4) (eqb (cond d (suc (run digit u)) 0) 0) (eqb (run digit u) 3)))
     go (suc k) true e w f ih = rw (e, eqb·suc-suc (length u) (s4 k), eqb·suc-suc (run digit u) k) (ih k)
     go (suc k) false e w f ih =
         rw (e, eqb·zero-suc k)
-        (stuck-never u ∙ sym (dead (eqb (suc (length u)) (suc (s4 k))) (eqb (getD u k 0) 46) (eqb (run digit (drop (suc k) u)) 3)))
+        (stuck-never Exact u ∙ sym (dead (eqb (suc (length u)) (suc (s4 k))) (eqb (getD u k 0) 46) (eqb (run digit (drop (suc k) u)) 3)))
 
 -- n digits, of which there is one at least, the point, three digits, and the end
 core : ℕ → List ℕ → Bool
@@ -116,7 +116,7 @@ unfolding zeros run value
 zeros-none [] = refl
 zeros-none (x ∷ t) = rw (ne-eqb (suc (suc (length t))) 1 (omega arith))
 
-zeros-digit : (k b : ℕ) (t : List ℕ) → digit b ≡ true → eqb b 48 ≡ false → takes (LastDigits k) t ≡ zeros k (b ∷ t)
+zeros-digit : (k b : ℕ) (t : List ℕ) → digit b ≡ true → eqb b 48 ≡ false → takes Exact (LastDigits k) t ≡ zeros k (b ∷ t)
 unfolding zeros
 zeros-digit k b t e f =
     rw (run-digit b t e, eqb·suc-suc (length t) k, eqb·suc-suc (run digit t) k, ne-eqb (value 0 (b ∷ t)) 0 (λ q. absurd (omega (arith, digit-some b t e f))))
@@ -133,18 +133,18 @@ zeros-other : (k b : ℕ) (t : List ℕ) → digit b ≡ false → zeros k (b �
 unfolding zeros
 zeros-other k b t e = rw (run-other b t e, eqb·zero-suc k, and-false (eqb (suc (length t)) (suc k)))
 
-not-all-zero-takes : (k : ℕ) (t : List ℕ) → takes (NotAllZero k) t ≡ zeros k t
-unfolding takes spotAfter mayEnd
+not-all-zero-takes : (k : ℕ) (t : List ℕ) → takes Exact (NotAllZero k) t ≡ zeros k t
+unfolding takes spotIn isFree spotAfter mayEnd
 not-all-zero-takes k [] = unfold zeros in rw (eqb·zero-suc k)
 not-all-zero-takes k (b ∷ t) = go k (eqb b 48) refl (digit b) refl (λ j. not-all-zero-takes j t)
   where
-    go : (k : ℕ) (z : Bool) → eqb b 48 ≡ z → (d : Bool) → digit b ≡ d → ((j : ℕ) → takes (NotAllZero j) t ≡ zeros j t) → takes (spotAfter (NotAllZero k) b) t ≡ zeros k (b ∷ t)
-    go zero true f d e ih = rw (eqb-true b 48 f) (stuck-never t ∙ sym (zeros-none t))
+    go : (k : ℕ) (z : Bool) → eqb b 48 ≡ z → (d : Bool) → digit b ≡ d → ((j : ℕ) → takes Exact (NotAllZero j) t ≡ zeros j t) → takes Exact (spotAfter (NotAllZero k) b) t ≡ zeros k (b ∷ t)
+    go zero true f d e ih = rw (eqb-true b 48 f) (stuck-never Exact t ∙ sym (zeros-none t))
     go (suc k) true f d e ih = rw (eqb-true b 48 f) (ih k ∙ sym (zeros-zero k t))
     go zero false f true e ih = rw (f, e) (zeros-digit 0 b t e f)
     go (suc k) false f true e ih = rw (f, e) (zeros-digit (suc k) b t e f)
-    go zero false f false e ih = rw (f, e) (stuck-never t ∙ sym (zeros-other 0 b t e))
-    go (suc k) false f false e ih = rw (f, e) (stuck-never t ∙ sym (zeros-other (suc k) b t e))
+    go zero false f false e ih = rw (f, e) (stuck-never Exact t ∙ sym (zeros-other 0 b t e))
+    go (suc k) false f false e ih = rw (f, e) (stuck-never Exact t ∙ sym (zeros-other (suc k) b t e))
 
 -- what a minus asks of what follows it
 minus : ℕ → ℕ → List ℕ → Bool
@@ -167,7 +167,7 @@ some-thousandths b c n e f =
     (λ q. absurd (omega (arith, digit-some b (take n c) e f)))
 
 -- no zero in front
-minus-some : (k b : ℕ) (c : List ℕ) → digit b ≡ true → eqb b 48 ≡ false → takes (ToPoint k) c ≡ minus k (run digit (b ∷ c)) (b ∷ c)
+minus-some : (k b : ℕ) (c : List ℕ) → digit b ≡ true → eqb b 48 ≡ false → takes Exact (ToPoint k) c ≡ minus k (run digit (b ∷ c)) (b ∷ c)
 minus-some k b c e f =
     rw (minus-digit k b c e, some-thousandths b c (run digit c) e f, f, or-true (eqb (suc (run digit c)) 1), and-true (whole k (run digit c) c), and-true (whole k (run digit c) c))
     (to-point-takes k c)
@@ -207,27 +207,27 @@ whole-pointless : (x n : ℕ) (d : List ℕ) → eqb x 46 ≡ false → whole 0 
 unfolding whole
 whole-pointless x n d f = rw f (off (eqb (suc (length d)) 4) (eqb n 0) (eqb (run digit d) 3))
 
-minus-zero : (c : List ℕ) → takes NegativeZero c ≡ minus 0 (run digit (48 ∷ c)) (48 ∷ c)
-unfolding takes spotAfter mayEnd
+minus-zero : (c : List ℕ) → takes Exact NegativeZero c ≡ minus 0 (run digit (48 ∷ c)) (48 ∷ c)
+unfolding takes spotIn isFree spotAfter mayEnd
 minus-zero [] = unfold minus in refl
 minus-zero (x ∷ d) = go (eqb x 46) refl
   where
-    go : (w : Bool) → eqb x 46 ≡ w → takes (spotAfter NegativeZero x) d ≡ minus 0 (run digit (48 ∷ x ∷ d)) (48 ∷ x ∷ d)
+    go : (w : Bool) → eqb x 46 ≡ w → takes Exact (spotAfter NegativeZero x) d ≡ minus 0 (run digit (48 ∷ x ∷ d)) (48 ∷ x ∷ d)
     go true f = rw (eqb-true x 46 f) (not-all-zero-takes 2 d ∙ minus-point d)
-    go false f = rw (f, minus-digit 0 48 (x ∷ d) refl, whole-pointless x (run digit (x ∷ d)) d f) (stuck-never d)
+    go false f = rw (f, minus-digit 0 48 (x ∷ d) refl, whole-pointless x (run digit (x ∷ d)) d f) (stuck-never Exact d)
 
-negative-takes : (k : ℕ) (u : List ℕ) → takes (Negative k) u ≡ minus k (run digit u) u
-unfolding takes spotAfter mayEnd
+negative-takes : (k : ℕ) (u : List ℕ) → takes Exact (Negative k) u ≡ minus k (run digit u) u
+unfolding takes spotIn isFree spotAfter mayEnd
 negative-takes k [] = unfold minus in rw (eqb·zero-suc (s4 k))
 negative-takes k (b ∷ c) = go k (eqb b 48) refl (digit b) refl
   where
-    go : (k : ℕ) (z : Bool) → eqb b 48 ≡ z → (d : Bool) → digit b ≡ d → takes (spotAfter (Negative k) b) c ≡ minus k (run digit (b ∷ c)) (b ∷ c)
+    go : (k : ℕ) (z : Bool) → eqb b 48 ≡ z → (d : Bool) → digit b ≡ d → takes Exact (spotAfter (Negative k) b) c ≡ minus k (run digit (b ∷ c)) (b ∷ c)
     go zero true f d e = rw (eqb-true b 48 f) (minus-zero c)
-    go (suc k) true f d e = rw (eqb-true b 48 f) (stuck-never c ∙ sym (minus-led k c))
+    go (suc k) true f d e = rw (eqb-true b 48 f) (stuck-never Exact c ∙ sym (minus-led k c))
     go zero false f true e = rw (f, e) (minus-some 0 b c e f)
     go (suc k) false f true e = rw (f, e) (minus-some (suc k) b c e f)
-    go zero false f false e = rw (f, e) (stuck-never c ∙ sym (minus-other 0 b c e))
-    go (suc k) false f false e = rw (f, e) (stuck-never c ∙ sym (minus-other (suc k) b c e))
+    go zero false f false e = rw (f, e) (stuck-never Exact c ∙ sym (minus-other 0 b c e))
+    go (suc k) false f false e = rw (f, e) (stuck-never Exact c ∙ sym (minus-other (suc k) b c e))
 
 -- ---- right aligned in k + 5 characters
 
@@ -285,33 +285,33 @@ lone n c z = go (whole 0 n c) refl
 rest-le : (c : List ℕ) → length (drop (signs (signOf (unled c))) (unled c)) ≤ length c
 rest-le c = rw (length-drop (signs (signOf (unled c))) (unled c)) (omega (arith, unled-le c))
 
-real-pad-takes : (k : ℕ) (c : List ℕ) → takes (RealPad k) c ≡ fullOf k (length c) (unled c)
-unfolding takes spotAfter mayEnd run unled
+real-pad-takes : (k : ℕ) (c : List ℕ) → takes Exact (RealPad k) c ≡ fullOf k (length c) (unled c)
+unfolding takes spotIn isFree spotAfter mayEnd run unled
 real-pad-takes k [] = unfold fullOf full in rw (eqb·zero-suc (s4 k))
 real-pad-takes k (b ∷ c) = go k (blank b) refl (eqb b 45) refl (eqb b 43) refl (digit b) refl (eqb b 48) refl (λ j. real-pad-takes j c)
   where
     go : (k : ℕ) (w : Bool) → blank b ≡ w → (m : Bool) → eqb b 45 ≡ m → (p : Bool) → eqb b 43 ≡ p → (d : Bool) → digit b ≡ d → (z : Bool) → eqb b 48 ≡ z
-        → ((j : ℕ) → takes (RealPad j) c ≡ fullOf j (length c) (unled c))
-        → takes (spotAfter (RealPad k) b) c ≡ fullOf k (suc (length c)) (drop (cond w (suc (run blank c)) 0) (b ∷ c))
+        → ((j : ℕ) → takes Exact (RealPad j) c ≡ fullOf j (length c) (unled c))
+        → takes Exact (spotAfter (RealPad k) b) c ≡ fullOf k (suc (length c)) (drop (cond w (suc (run blank c)) 0) (b ∷ c))
     go zero true f m fm p fp d e z g ih =
         rw (blank-no-digit b f)
-        (stuck-never c ∙
+        (stuck-never Exact c ∙
         sym (unfold fullOf in full-short (length c) (signOf (unled c)) (run digit (drop (signs (signOf (unled c))) (unled c))) (drop (signs (signOf (unled c))) (unled c)) (rest-le c)))
     go (suc k) true f m fm p fp d e z g ih = rw f (ih k ∙ sym (full-on k (length c) (unled c)))
     go zero false f true fm p fp d e z g ih =
-        rw (eqb-true b 45 fm) (stuck-never c ∙ sym (unfold fullOf signOf signs in full-short (length c) 45 (run digit c) c (omega arith)))
+        rw (eqb-true b 45 fm) (stuck-never Exact c ∙ sym (unfold fullOf signOf signs in full-short (length c) 45 (run digit c) c (omega arith)))
     go (suc k) false f true fm p fp d e z g ih = rw (eqb-true b 45 fm) (negative-takes k c ∙ sym (full-minus k c))
-    go zero false f false fm true fp d e z g ih = rw (eqb-true b 43 fp) (stuck-never c ∙ sym (full-plus 0 c))
-    go (suc k) false f false fm true fp d e z g ih = rw (eqb-true b 43 fp) (stuck-never c ∙ sym (full-plus (suc k) c))
+    go zero false f false fm true fp d e z g ih = rw (eqb-true b 43 fp) (stuck-never Exact c ∙ sym (full-plus 0 c))
+    go (suc k) false f false fm true fp d e z g ih = rw (eqb-true b 43 fp) (stuck-never Exact c ∙ sym (full-plus (suc k) c))
     go zero false f false fm false fp true e z g ih =
         rw (e, full-digit 0 b c fp fm e) (to-point-takes 0 c ∙ lone (run digit c) c (not (eqb b 48)))
     go (suc k) false f false fm false fp true e true g ih =
-        rw (full-digit (suc k) b c fp fm e, f, fm, g, or-false (eqb (suc (run digit c)) 1)) (stuck-never c ∙ sym (led-not k (run digit c) c))
+        rw (full-digit (suc k) b c fp fm e, f, fm, g, or-false (eqb (suc (run digit c)) 1)) (stuck-never Exact c ∙ sym (led-not k (run digit c) c))
     go (suc k) false f false fm false fp true e false g ih =
         rw (full-digit (suc k) b c fp fm e, f, fm, g, e, or-true (eqb (suc (run digit c)) 1), and-true (whole (suc k) (run digit c) c)) (to-point-takes (suc k) c)
-    go zero false f false fm false fp false e z g ih = rw (e, full-other 0 b c fp fm e) (stuck-never c)
-    go (suc k) false f false fm false fp false e true g ih = rw (full-other (suc k) b c fp fm e, f, fm, g) (stuck-never c)
-    go (suc k) false f false fm false fp false e false g ih = rw (full-other (suc k) b c fp fm e, f, fm, g, e) (stuck-never c)
+    go zero false f false fm false fp false e z g ih = rw (e, full-other 0 b c fp fm e) (stuck-never Exact c)
+    go (suc k) false f false fm false fp false e true g ih = rw (full-other (suc k) b c fp fm e, f, fm, g) (stuck-never Exact c)
+    go (suc k) false f false fm false fp false e false g ih = rw (full-other (suc k) b c fp fm e, f, fm, g, e) (stuck-never Exact c)
 
 -- the tests of the token that the length makes needless
 thirteen : (a b p t e r s l g m z : Bool) → (s && (a && l && p && t) && g && m && z) ≡ true → b ≡ true → e ≡ true → r ≡ true
@@ -336,51 +336,53 @@ module _ (size sign n : ℕ) (u : List ℕ) (h : signs sign + length u ≤ size)
       let y = four (leb 1 n) (eqb (length u) (s4 n)) (eqb (getD u n 0) 46) (eqb (run digit (drop (suc n) u)) 3) (x .1) in
       (eqb-true size 12 (x .0), eqb-true (length u) (s4 n) (y .1))
 
-  ended-all : length u ≡ s4 n → ended (drop (s4 n) u) ≡ true
-  unfolding ended
+  ended-all : length u ≡ s4 n → ended Exact (drop (s4 n) u) ≡ true
+  unfolding ended all
   ended-all e = rw (left-none u (s4 n) (omega arith))
 
-  exact-row : (isToken sign u n && isNeat size sign u n) ≡ full 7 size sign u n
+  exact-row : (isToken sign u n && ended Exact (drop (n + 4) u) && isNeat size sign u n) ≡ full 7 size sign u n
   unfolding isToken isNeat full core
   exact-row =
-      alike (isToken sign u n && isNeat size sign u n) (full 7 size sign u n)
-      (λ e. fewer (leb 1 n) (leb n 8) (eqb (getD u n 0) 46) (eqb (run digit (drop (suc n) u)) 3) (ended (drop (s4 n) u)) (leb (signs sign + n + 4) 12)
+      alike (isToken sign u n && ended Exact (drop (n + 4) u) && isNeat size sign u n) (full 7 size sign u n)
+      (λ e. fewer (leb 1 n) (leb n 8) (eqb (getD u n 0) 46) (eqb (run digit (drop (suc n) u)) 3) (leb (signs sign + n + 4) 12) (ended Exact (drop (s4 n) u))
       (eqb size 12) (eqb (length u) (s4 n)) (not (eqb sign 43)) (not (eqb sign 45 && eqb (thousandths u n) 0)) (lean u n)
       (rw (add-one n, add-four n) at e))
       (λ e.
       let f = full-length e in
       rw (add-one n, add-four n)
-      (thirteen (leb 1 n) (leb n 8) (eqb (getD u n 0) 46) (eqb (run digit (drop (suc n) u)) 3) (ended (drop (s4 n) u)) (leb (signs sign + n + 4) 12)
+      (thirteen (leb 1 n) (leb n 8) (eqb (getD u n 0) 46) (eqb (run digit (drop (suc n) u)) 3) (leb (signs sign + n + 4) 12) (ended Exact (drop (s4 n) u))
       (eqb size 12) (eqb (length u) (s4 n)) (not (eqb sign 43)) (not (eqb sign 45 && eqb (thousandths u n) 0)) (lean u n)
-      e (le-leb n 8 (omega (arith, f .0, f .1))) (ended-all (f .1)) (le-leb (signs sign + n + 4) 12 (omega (arith, f .0, f .1)))))
+      e (le-leb n 8 (omega (arith, f .0, f .1))) (le-leb (signs sign + n + 4) 12 (omega (arith, f .0, f .1))) (ended-all (f .1))))
 
 -- the sign and what follows it are within the content
 signs-in : (t : List ℕ) → signs (signOf t) + length (drop (signs (signOf t)) t) ≤ length t
 signs-in t = rw (length-drop (signs (signOf t)) t) (omega (arith, signs-within t (signOf t) (signs (signOf t)) refl refl))
 
-real-exact : (c : List ℕ) → acceptsReal Exact c ≡ takes (RealPad 7) c
+real-exact : (c : List ℕ) → acceptsReal Exact c ≡ takes Exact (RealPad 7) c
 unfolding acceptsReal realOf realSigned realAt realIs fullOf
 real-exact c =
     let sign = signOf (unled c) in
     let u = drop (signs sign) (unled c) in
     let n = run digit u in
-    cond-said (isToken sign u n && isNeat (length c) sign u n) (signed sign (thousandths u n)) ∙
+    cond-said (isToken sign u n && ended Exact (drop (n + 4) u) && isNeat (length c) sign u n) (signed sign (thousandths u n)) ∙
     exact-row (length c) sign n u (omega (arith, signs-in (unled c), unled-le c)) ∙ sym (real-pad-takes 7 c)
 
 -- ---- the column of a real that is malformed is that of T-04
 
-real-takes : (mode : Mode) (c : List ℕ) → acceptsReal mode c ≡ takes (realStart mode) c
+real-takes : (mode : Mode) (c : List ℕ) → acceptsReal mode c ≡ takes mode (realStart mode) c
 unfolding realStart
-real-takes Loose c = real-loose c
+real-takes Loose c = real-loose Loose c refl
 real-takes Exact c = real-exact c
+real-takes Former c = real-loose Former c refl
 
 real-starts : (mode : Mode) → isStuck (realStart mode) ≡ false
 unfolding realStart isStuck
 real-starts Loose = refl
 real-starts Exact = refl
+real-starts Former = refl
 
 pub real-column : (mode : Mode) (c : List ℕ) → IsColumn (acceptsReal mode) c (realColumn mode c)
 unfolding realColumn
 real-column mode c =
-    column-alike (acceptsReal mode) (takes (realStart mode)) c (suc (stretch (realStart mode) c)) (real-takes mode)
-    (stretch-column (realStart mode) c (real-starts mode))
+    column-alike (acceptsReal mode) (takes mode (realStart mode)) c (suc (stretch mode (realStart mode) c)) (real-takes mode)
+    (stretch-column mode (realStart mode) c (real-starts mode))

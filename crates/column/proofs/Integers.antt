@@ -7,15 +7,17 @@ use native.Mathlib.Omega.{arith}
 use lib.ListN.{length, take, drop, length-drop}
 use lib.Dec.{eqb, leb, leb·zero, leb·suc-zero, leb·suc-suc, eqb·suc-suc, eqb·zero-suc, eqb·suc-zero}
 use borrow.Author.Tests.{ne-eqb, le-leb, eqb-true}
-use Rattle.laws.specs.Lists.{run}
+use Rattle.laws.specs.Lists.{run, all}
 use Rattle.laws.proofs.Choice.{and-false}
 use Rattle.laws.proofs.ListLaws.{left-none}
 use Rattle.record.specs.declared.Mode.{Mode}
-use Rattle.record.specs.declared.Mode.the-variants.{Loose, Exact}
+use Rattle.record.specs.declared.Mode.the-variants.{Loose, Exact, Former}
+use Rattle.record.specs.Record.{isExact, isFormer}
 use Rattle.number.specs.Words.{blank, unled}
 use Rattle.number.specs.Number.{digit, value, ended, lean, integerIs, integerAt, integerOf}
-use Rattle.column.specs.Spots.{spotAfter, mayEnd, isStuck, takes, stretch, integerStart}
-use Rattle.column.specs.declared.Spot.the-variants.{IntegerPad, LastDigits, LooseInteger, AtMost, Tail}
+use Rattle.number.proofs.NumberLaws.{ended-nothing, ended-blank, ended-other}
+use Rattle.column.specs.Spots.{spotAfter, isFree, spotIn, mayEnd, isStuck, takes, stretch, integerStart}
+use Rattle.column.specs.declared.Spot.the-variants.{Stuck, IntegerPad, LastDigits, LooseInteger, AtMost, Tail}
 use Rattle.column.proofs.ColumnLaws.{stuck-never, column-alike, stretch-column}
 use Rattle.column.specs.Column.{IsColumn}
 use Rattle.number.specs.declared.Whole.{Whole}
@@ -25,67 +27,74 @@ use Rattle.column.proofs.Alike.{alike, never, both, and-true, or-true, 
 
 -- ---- loose
 
-pub tail-takes : (t : List ℕ) → takes Tail t ≡ true
-unfolding takes spotAfter mayEnd
-tail-takes [] = refl
-tail-takes (b ∷ t) = tail-takes t
+-- behind a blank: blanks, in the former reading any bytes
+tail-takes : (mode : Mode) (t : List ℕ) → takes mode Tail t ≡ (isFormer mode || all blank t)
+unfolding takes spotIn isFree spotAfter mayEnd all
+tail-takes mode [] = sym (or-true (isFormer mode))
+tail-takes mode (b ∷ t) = go (isFormer mode) refl (blank b) (tail-takes mode t)
+  where
+    go : (x : Bool) → isFormer mode ≡ x → (w : Bool) → takes mode Tail t ≡ (isFormer mode || all blank t)
+        → takes mode (cond x Tail (cond w Tail Stuck)) t ≡ (x || w && all blank t)
+    go true e w ih = rw e at ih
+    go false e true ih = rw e at ih
+    go false e false ih = stuck-never mode t
 
--- at most k digits more, then the end or a tail
-pub at-most-takes : (k : ℕ) (t : List ℕ) → takes (AtMost k) t ≡ (leb (run digit t) k && ended (drop (run digit t) t))
-unfolding takes spotAfter mayEnd run ended
-at-most-takes k [] = rw (leb·zero k)
-at-most-takes k (b ∷ t) = go k (digit b) refl (blank b) refl (λ j. at-most-takes j t)
+-- at most k digits more, then what the mode lets stand behind a number
+pub at-most-takes : (mode : Mode) (k : ℕ) (t : List ℕ) → takes mode (AtMost k) t ≡ (leb (run digit t) k && ended mode (drop (run digit t) t))
+unfolding takes spotIn isFree spotAfter mayEnd run
+at-most-takes mode k [] = rw (leb·zero k) (sym (ended-nothing mode))
+at-most-takes mode k (b ∷ t) = go k (digit b) refl (blank b) refl (λ j. at-most-takes mode j t)
   where
     go : (k : ℕ) (d : Bool) → digit b ≡ d → (w : Bool) → blank b ≡ w
-        → ((j : ℕ) → takes (AtMost j) t ≡ (leb (run digit t) j && ended (drop (run digit t) t)))
-        → takes (spotAfter (AtMost k) b) t ≡ (leb (cond d (suc (run digit t)) 0) k && ended (drop (cond d (suc (run digit t)) 0) (b ∷ t)))
-    go zero true e w f ih = rw (digit-not b 32 e (omega arith), leb·suc-zero (run digit t)) (stuck-never t)
+        → ((j : ℕ) → takes mode (AtMost j) t ≡ (leb (run digit t) j && ended mode (drop (run digit t) t)))
+        → takes mode (spotAfter (AtMost k) b) t ≡ (leb (cond d (suc (run digit t)) 0) k && ended mode (drop (cond d (suc (run digit t)) 0) (b ∷ t)))
+    go zero true e w f ih = rw (digit-not b 32 e (omega arith), leb·suc-zero (run digit t)) (stuck-never mode t)
     go (suc k) true e w f ih = rw (digit-not b 32 e (omega arith), e, leb·suc-suc (run digit t) k) (ih k)
-    go zero false e true f ih = rw f (tail-takes t)
-    go zero false e false f ih = rw f (stuck-never t)
-    go (suc k) false e true f ih = rw (f, leb·zero (suc k)) (tail-takes t)
-    go (suc k) false e false f ih = rw (f, e, leb·zero (suc k)) (stuck-never t)
+    go zero false e true f ih = rw (f, ended-blank mode b t f) (tail-takes mode t)
+    go zero false e false f ih = rw (f, ended-other mode b t f) (stuck-never mode t)
+    go (suc k) false e true f ih = rw (f, leb·zero (suc k), ended-blank mode b t f) (tail-takes mode t)
+    go (suc k) false e false f ih = rw (f, e, leb·zero (suc k), ended-other mode b t f) (stuck-never mode t)
 
 -- what follows the blanks is a loose integer
-few : List ℕ → Bool
-few t = leb 1 (run digit t) && leb (run digit t) 4 && ended (drop (run digit t) t)
+few : Mode → List ℕ → Bool
+few mode t = leb 1 (run digit t) && leb (run digit t) 4 && ended mode (drop (run digit t) t)
 
-loose-takes : (c : List ℕ) → takes LooseInteger c ≡ few (unled c)
-unfolding takes spotAfter mayEnd run unled few
-loose-takes [] = refl
-loose-takes (b ∷ c) = go (blank b) refl (digit b) refl (loose-takes c)
+loose-takes : (mode : Mode) (c : List ℕ) → takes mode LooseInteger c ≡ few mode (unled c)
+unfolding takes spotIn isFree spotAfter mayEnd run unled few
+loose-takes mode [] = refl
+loose-takes mode (b ∷ c) = go (blank b) refl (digit b) refl (loose-takes mode c)
   where
-    go : (w : Bool) → blank b ≡ w → (d : Bool) → digit b ≡ d → takes LooseInteger c ≡ few (unled c)
-        → takes (spotAfter LooseInteger b) c ≡ few (drop (cond w (suc (run blank c)) 0) (b ∷ c))
+    go : (w : Bool) → blank b ≡ w → (d : Bool) → digit b ≡ d → takes mode LooseInteger c ≡ few mode (unled c)
+        → takes mode (spotAfter LooseInteger b) c ≡ few mode (drop (cond w (suc (run blank c)) 0) (b ∷ c))
     go true f d e ih = rw f ih
     go false f true e ih =
-        rw (f, e, le-leb 1 (suc (run digit c)) (omega arith), leb·suc-suc (run digit c) 3) (at-most-takes 3 c)
-    go false f false e ih = rw (f, e) (stuck-never c)
+        rw (f, e, le-leb 1 (suc (run digit c)) (omega arith), leb·suc-suc (run digit c) 3) (at-most-takes mode 3 c)
+    go false f false e ih = rw (f, e) (stuck-never mode c)
 
 cond-said : (b : Bool) (v : ℕ) → isWhole (cond b (Whole.Is v) Whole.Malformed) ≡ b
 cond-said true v = refl
 cond-said false v = refl
 
-integer-loose : (c : List ℕ) → acceptsInteger Loose c ≡ takes LooseInteger c
+integer-loose : (mode : Mode) (c : List ℕ) → isExact mode ≡ false → acceptsInteger mode c ≡ takes mode LooseInteger c
 unfolding acceptsInteger integerOf integerAt integerIs few
-integer-loose c =
+integer-loose mode c m =
     let t = unled c in
-    cond-said (few t && true) (value 0 (take (run digit t) t)) ∙ and-true (few t) ∙ sym (loose-takes c)
+    rw m (cond-said (few mode t && true) (value 0 (take (run digit t) t)) ∙ and-true (few mode t) ∙ sym (loose-takes mode c))
 
 -- ---- exact
 
 -- k digits and the end
-pub digits-take : (k : ℕ) (t : List ℕ) → takes (LastDigits k) t ≡ (eqb (length t) k && eqb (length t) (run digit t))
-unfolding takes spotAfter mayEnd run
+pub digits-take : (k : ℕ) (t : List ℕ) → takes Exact (LastDigits k) t ≡ (eqb (length t) k && eqb (length t) (run digit t))
+unfolding takes spotIn isFree spotAfter mayEnd run
 digits-take zero [] = refl
 digits-take (suc k) [] = rw (eqb·zero-suc k)
-digits-take zero (b ∷ t) = rw (eqb·suc-zero (length t)) (stuck-never t)
+digits-take zero (b ∷ t) = rw (eqb·suc-zero (length t)) (stuck-never Exact t)
 digits-take (suc k) (b ∷ t) = go (digit b) refl (digits-take k t)
   where
-    go : (d : Bool) → digit b ≡ d → takes (LastDigits k) t ≡ (eqb (length t) k && eqb (length t) (run digit t))
-        → takes (spotAfter (LastDigits (suc k)) b) t ≡ (eqb (suc (length t)) (suc k) && eqb (suc (length t)) (cond d (suc (run digit t)) 0))
+    go : (d : Bool) → digit b ≡ d → takes Exact (LastDigits k) t ≡ (eqb (length t) k && eqb (length t) (run digit t))
+        → takes Exact (spotAfter (LastDigits (suc k)) b) t ≡ (eqb (suc (length t)) (suc k) && eqb (suc (length t)) (cond d (suc (run digit t)) 0))
     go true e ih = rw (e, eqb·suc-suc (length t) k, eqb·suc-suc (length t) (run digit t)) ih
-    go false e ih = rw (e, eqb·suc-zero (length t), and-false (eqb (suc (length t)) (suc k))) (stuck-never t)
+    go false e ih = rw (e, eqb·suc-zero (length t), and-false (eqb (suc (length t)) (suc k))) (stuck-never Exact t)
 
 -- blanks, of which k may come, and digits, in k + 1 characters
 neat : ℕ → ℕ → List ℕ → Bool
@@ -135,37 +144,37 @@ module _ (b k : ℕ) (c : List ℕ) where
       ≡ (eqb (length c) (suc k) && eqb (length c) (run digit c))
   unled-by g = rw (g, or-true (eqb (suc (run digit c)) 1)) (and-true (eqb (length c) (suc k) && eqb (length c) (run digit c)))
 
-integer-pad-takes : (k : ℕ) (c : List ℕ) → takes (IntegerPad k) c ≡ neat k (length c) (unled c)
-unfolding takes spotAfter mayEnd run unled
+integer-pad-takes : (k : ℕ) (c : List ℕ) → takes Exact (IntegerPad k) c ≡ neat k (length c) (unled c)
+unfolding takes spotIn isFree spotAfter mayEnd run unled
 integer-pad-takes k [] = unfold neat in rw (eqb·zero-suc k)
 integer-pad-takes k (b ∷ c) = go k (blank b) refl (digit b) refl (eqb b 48) refl (λ j. integer-pad-takes j c)
   where
     go : (k : ℕ) (w : Bool) → blank b ≡ w → (d : Bool) → digit b ≡ d → (z : Bool) → eqb b 48 ≡ z
-        → ((j : ℕ) → takes (IntegerPad j) c ≡ neat j (length c) (unled c))
-        → takes (spotAfter (IntegerPad k) b) c ≡ neat k (suc (length c)) (drop (cond w (suc (run blank c)) 0) (b ∷ c))
-    go zero true f d e z g ih = rw (blank-no-digit b f) (stuck-never c ∙ sym (neat-full 0 c))
+        → ((j : ℕ) → takes Exact (IntegerPad j) c ≡ neat j (length c) (unled c))
+        → takes Exact (spotAfter (IntegerPad k) b) c ≡ neat k (suc (length c)) (drop (cond w (suc (run blank c)) 0) (b ∷ c))
+    go zero true f d e z g ih = rw (blank-no-digit b f) (stuck-never Exact c ∙ sym (neat-full 0 c))
     go (suc k) true f d e z g ih = rw f (ih k ∙ sym (neat-on k (length c) (unled c)))
     go zero false f true e z g ih = rw e (digits-take 0 c ∙ lone b c ∙ sym (neat-digit b 0 c e))
-    go zero false f false e z g ih = rw e (stuck-never c ∙ sym (neat-other b 0 c e))
-    go (suc k) false f true e true g ih = rw (f, g) (stuck-never c ∙ sym (neat-digit b (suc k) c e ∙ led b k c g))
+    go zero false f false e z g ih = rw e (stuck-never Exact c ∙ sym (neat-other b 0 c e))
+    go (suc k) false f true e true g ih = rw (f, g) (stuck-never Exact c ∙ sym (neat-digit b (suc k) c e ∙ led b k c g))
     go (suc k) false f true e false g ih = rw (f, g, e) (digits-take (suc k) c ∙ sym (neat-digit b (suc k) c e ∙ unled-by b k c g))
-    go (suc k) false f false e true g ih = rw (f, g) (stuck-never c ∙ sym (neat-other b (suc k) c e))
-    go (suc k) false f false e false g ih = rw (f, g, e) (stuck-never c ∙ sym (neat-other b (suc k) c e))
+    go (suc k) false f false e true g ih = rw (f, g) (stuck-never Exact c ∙ sym (neat-other b (suc k) c e))
+    go (suc k) false f false e false g ih = rw (f, g, e) (stuck-never Exact c ∙ sym (neat-other b (suc k) c e))
 
 -- the tests of loose mode say nothing more
 module _ (size n : ℕ) (t : List ℕ) (h : length t ≤ size) where
-  ended-all : length t ≡ n → ended (drop n t) ≡ true
-  unfolding ended
+  ended-all : length t ≡ n → ended Exact (drop n t) ≡ true
+  unfolding ended all
   ended-all e = rw (left-none t n (omega arith))
 
-  exact-row : (leb 1 n && leb n 4 && ended (drop n t) && (eqb size 4 && eqb (length t) n && lean t n))
+  exact-row : (leb 1 n && leb n 4 && ended Exact (drop n t) && (eqb size 4 && eqb (length t) n && lean t n))
       ≡ (eqb size 4 && leb 1 n && eqb (length t) n && lean t n)
   exact-row =
-      alike (leb 1 n && leb n 4 && ended (drop n t) && (eqb size 4 && eqb (length t) n && lean t n))
+      alike (leb 1 n && leb n 4 && ended Exact (drop n t) && (eqb size 4 && eqb (length t) n && lean t n))
       (eqb size 4 && leb 1 n && eqb (length t) n && lean t n)
       (λ e.
-      let p = both (leb 1 n && leb n 4 && ended (drop n t)) (eqb size 4 && eqb (length t) n && lean t n) e in
-      let q = both (leb 1 n && leb n 4) (ended (drop n t)) (p .0) in
+      let p = both (leb 1 n && leb n 4 && ended Exact (drop n t)) (eqb size 4 && eqb (length t) n && lean t n) e in
+      let q = both (leb 1 n && leb n 4) (ended Exact (drop n t)) (p .0) in
       let r = both (leb 1 n) (leb n 4) (q .0) in
       let a = both (eqb size 4 && eqb (length t) n) (lean t n) (p .1) in
       let b = both (eqb size 4) (eqb (length t) n) (a .0) in
@@ -181,28 +190,30 @@ pub unled-le : (c : List ℕ) → length (unled c) ≤ length c
 unfolding unled
 unled-le c = rw (length-drop (run blank c) c) (omega arith)
 
-integer-exact : (c : List ℕ) → acceptsInteger Exact c ≡ takes (IntegerPad 3) c
+integer-exact : (c : List ℕ) → acceptsInteger Exact c ≡ takes Exact (IntegerPad 3) c
 unfolding acceptsInteger integerOf integerAt integerIs neat
 integer-exact c =
     let t = unled c in
     let n = run digit t in
-    cond-said (leb 1 n && leb n 4 && ended (drop n t) && (eqb (length c) 4 && eqb (length t) n && lean t n)) (value 0 (take n t)) ∙
+    cond-said (leb 1 n && leb n 4 && ended Exact (drop n t) && (eqb (length c) 4 && eqb (length t) n && lean t n)) (value 0 (take n t)) ∙
     exact-row (length c) n t (unled-le c) ∙ sym (integer-pad-takes 3 c)
 
 -- ---- the column of an integer that is malformed is that of T-04
 
-integer-takes : (mode : Mode) (c : List ℕ) → acceptsInteger mode c ≡ takes (integerStart mode) c
+integer-takes : (mode : Mode) (c : List ℕ) → acceptsInteger mode c ≡ takes mode (integerStart mode) c
 unfolding integerStart
-integer-takes Loose c = integer-loose c
+integer-takes Loose c = integer-loose Loose c refl
 integer-takes Exact c = integer-exact c
+integer-takes Former c = integer-loose Former c refl
 
 integer-starts : (mode : Mode) → isStuck (integerStart mode) ≡ false
 unfolding integerStart isStuck
 integer-starts Loose = refl
 integer-starts Exact = refl
+integer-starts Former = refl
 
 pub integer-column : (mode : Mode) (c : List ℕ) → IsColumn (acceptsInteger mode) c (integerColumn mode c)
 unfolding integerColumn
 integer-column mode c =
-    column-alike (acceptsInteger mode) (takes (integerStart mode)) c (suc (stretch (integerStart mode) c)) (integer-takes mode)
-    (stretch-column (integerStart mode) c (integer-starts mode))
+    column-alike (acceptsInteger mode) (takes mode (integerStart mode)) c (suc (stretch mode (integerStart mode) c)) (integer-takes mode)
+    (stretch-column mode (integerStart mode) c (integer-starts mode))

@@ -1,12 +1,14 @@
 -- The ways through a step, each with what the code has in hand there. Assumes nothing.
 use Prim.Native.Nat.{ℕ, zero, suc, _-_, _≤_, _<_}
 use mathlib.Core.Path.{_≡_, refl}
-use mathlib.Core.Bool.{cond}
+use mathlib.Core.Bool.{Bool, true, false, cond}
 use native.Mathlib.Omega.{arith}
 use lib.Dec.{eqb}
 use borrow.Author.Tests.{eq-eqb, ne-eqb, le-leb, lt-leb}
 use Rattle.number.specs.Number.{digit}
-use Rattle.column.specs.Spots.{isSign, spotAfter}
+use Rattle.record.specs.declared.Mode.{Mode}
+use Rattle.record.specs.Record.{isFormer}
+use Rattle.column.specs.Spots.{isSign, spotAfter, isFree, spotIn}
 use Rattle.column.specs.declared.Spot.{Spot}
 use Rattle.column.specs.declared.Spot.the-variants.{Stuck, IntegerPad, LastDigits, RealPad, Negative, ToPoint, NegativeZero, NotAllZero, LooseInteger, AtMost, LooseReal, AfterSign, UpToPoint, Decimals, Tail}
 
@@ -187,9 +189,9 @@ module _ (at : Spot) (b : ℕ) where
   unfolding spotAfter
   stuck-stays p = rw p
 
-  pub tail-stays : at ≡ Tail → Tail ≡ spotAfter at b
+  pub tail-is : (r : Spot) → at ≡ Tail → r ≡ cond (eqb b 32) Tail Stuck → r ≡ spotAfter at b
   unfolding spotAfter
-  tail-stays p = rw p
+  tail-is r p q = rw p q
 
   pub negative-zero-is : (r : Spot) → at ≡ NegativeZero → r ≡ cond (eqb b 46) (NotAllZero 2) Stuck → r ≡ spotAfter at b
   unfolding spotAfter
@@ -203,4 +205,39 @@ module _ (at : Spot) (b : ℕ) where
   unfolding spotAfter
   after-sign-is r p q = rw p q
 
-pub ruleset step-ways = (to-spot, stuck-stays, tail-stays, negative-zero-is, loose-integer-is, after-sign-is, last-digits-none, last-digits-some, to-point-none, to-point-some, decimals-none, decimals-some)
+pub ruleset step-ways = (to-spot, stuck-stays, tail-is, negative-zero-is, loose-integer-is, after-sign-is, last-digits-none, last-digits-some, to-point-none, to-point-some, decimals-none, decimals-some)
+
+-- ---- in a mode
+
+pub free-tail : (mode : Mode) (at : Spot) (r : Bool) → at ≡ Tail → r ≡ isFormer mode → r ≡ isFree mode at
+unfolding isFree
+free-tail mode at r p e = rw p e
+
+pub free-other : (mode : Mode) (at : Spot) → (at ≡ Tail → ⊥) → false ≡ isFree mode at
+unfolding isFree
+free-other mode Stuck n = refl
+free-other mode (IntegerPad k) n = refl
+free-other mode (LastDigits k) n = refl
+free-other mode (RealPad k) n = refl
+free-other mode (Negative k) n = refl
+free-other mode (ToPoint k) n = refl
+free-other mode NegativeZero n = refl
+free-other mode (NotAllZero k) n = refl
+free-other mode LooseInteger n = refl
+free-other mode (AtMost k) n = refl
+free-other mode LooseReal n = refl
+free-other mode AfterSign n = refl
+free-other mode (UpToPoint k) n = refl
+free-other mode (Decimals k) n = refl
+free-other mode Tail n = absurd (n refl)
+
+module _ (mode : Mode) (at : Spot) (b : ℕ) (f : Bool) (e : f ≡ isFree mode at) where
+  pub in-free : f ≡ true → Tail ≡ spotIn mode at b
+  unfolding spotIn
+  in-free y = rw (← e, y)
+
+  pub in-step : (r : Spot) → f ≡ false → r ≡ spotAfter at b → r ≡ spotIn mode at b
+  unfolding spotIn
+  in-step r y q = rw (← e, y) q
+
+pub ruleset in-ways = (in-free, in-step)

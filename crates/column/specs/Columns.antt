@@ -54,10 +54,10 @@ isNumber Real = true
 -- ---- columns: one more than what goes. That each is T-04's is column/proofs/Integers: `integer-column`, ExactReals: `real-column`
 
 unfoldable pub integerColumn : Mode → List ℕ → ℕ
-integerColumn mode c = suc (stretch (integerStart mode) c)
+integerColumn mode c = suc (stretch mode (integerStart mode) c)
 
 unfoldable pub realColumn : Mode → List ℕ → ℕ
-realColumn mode c = suc (stretch (realStart mode) c)
+realColumn mode c = suc (stretch mode (realStart mode) c)
 
 abbrev pub contentColumn : Mode → Want → List ℕ → ℕ
 contentColumn mode Key c = 0

@@ -5,7 +5,7 @@ ghost use mathlib.Core.Bool.{cond};
 ghost use lib.ListN.{drop};
 ghost use lib.Dec.{eqb};
 ghost use Rattle.number.specs.Number.{digit};
-ghost use Rattle.column.specs.Spots.{isSign, spotAfter, isStuck, stretch};
+ghost use Rattle.column.specs.Spots.{isSign, spotAfter, isFree, spotIn, isStuck, stretch};
 ghost use Rattle.column.specs.declared.Spot.the-variants as Spot;
 ghost use Rattle.column.specs.Columns.{integerColumn, realColumn, contentColumn, recordColumn, refusalColumn, integerPlaced, realPlaced};
 use number::Decimal;
@@ -14,6 +14,8 @@ use number::integer;
 use number::real;
 use record::Line;
 use record::Mode;
+use record::is_exact;
+use record::is_former;
 use record::line_at;
 use record::refusal::NUMBER;
 use token::Want;
@@ -208,8 +210,28 @@ fn step(at: Spot, b: u8) -> Spot
             }
             by_digit(b, Spot::Decimals(k - 1))
         }
-        Spot::Tail => Spot::Tail,
+        Spot::Tail => by(b, b' ', Spot::Tail, Spot::Stuck),
     }
+}
+
+// Behind a blank behind a number, where the former reading takes any bytes.
+fn is_free(at: Spot, mode: Mode) -> bool
+    ensures { λ r. ⌜ r ≡ isFree mode at ⌝ }
+{
+    match at {
+        Spot::Tail => is_former(mode),
+        _ => false,
+    }
+}
+
+// Where it leads in a mode.
+fn step_in(at: Spot, b: u8, mode: Mode) -> Spot
+    ensures { λ r. ⌜ r ≡ spotIn mode at b ⌝ }
+{
+    if is_free(at, mode) {
+        return Spot::Tail;
+    }
+    step(at, b)
 }
 
 fn is_stuck(at: Spot) -> bool
@@ -222,13 +244,13 @@ fn is_stuck(at: Spot) -> bool
 }
 
 // How many bytes go, before no number goes on so.
-fn stretch_of(c: &[u8], start: Spot) -> usize
-    ensures { λ r. ⌜ r ≡ stretch start (now (c .entry)) ⌝ }
+fn stretch_of(c: &[u8], start: Spot, mode: Mode) -> usize
+    ensures { λ r. ⌜ r ≡ stretch mode start (now (c .entry)) ⌝ }
 {
     let mut at = start;
     let mut i = 0;
     while i < c.len() {
-        at = step(at, c[i]);
+        at = step_in(at, c[i], mode);
         if is_stuck(at) {
             return i;
         }
@@ -241,20 +263,20 @@ fn stretch_of(c: &[u8], start: Spot) -> usize
 fn integer_column(c: &[u8], mode: Mode) -> usize
     ensures { λ r. ⌜ r ≡ integerColumn mode (now (c .entry)) ⌝ }
 {
-    match mode {
-        Mode::Loose => stretch_of(c, Spot::LooseInteger) + 1,
-        Mode::Exact => stretch_of(c, Spot::IntegerPad(3)) + 1,
+    if is_exact(mode) {
+        return stretch_of(c, Spot::IntegerPad(3), mode) + 1;
     }
+    stretch_of(c, Spot::LooseInteger, mode) + 1
 }
 
 // The column of a real that is malformed.
 fn real_column(c: &[u8], mode: Mode) -> usize
     ensures { λ r. ⌜ r ≡ realColumn mode (now (c .entry)) ⌝ }
 {
-    match mode {
-        Mode::Loose => stretch_of(c, Spot::LooseReal) + 1,
-        Mode::Exact => stretch_of(c, Spot::RealPad(7)) + 1,
+    if is_exact(mode) {
+        return stretch_of(c, Spot::RealPad(7), mode) + 1;
     }
+    stretch_of(c, Spot::LooseReal, mode) + 1
 }
 
 // A content as an integer, with the column where it is malformed.

@@ -2,7 +2,7 @@
 use Prim.Native.Nat.{ℕ, zero, suc, _≤_, _<_}
 use mathlib.Core.Path.{_≡_, refl, _∙_, ap, subst}
 use mathlib.Core.List.{List}
-use mathlib.Core.Bool.{Bool, false, _&&_, _||_}
+use mathlib.Core.Bool.{Bool, false, not, _&&_, _||_}
 use native.Mathlib.Omega.{arith}
 use lib.ListN.{length, take, drop}
 use lib.Dec.{leb, ltb}
@@ -15,7 +15,7 @@ use Rattle.record.specs.declared.Line.{Line}
 use Rattle.record.specs.declared.Line.the-variants.{Got, Bad}
 use Rattle.record.specs.declared.Found.{Found}
 use Rattle.record.specs.declared.Found.the-variants.{Record, Refused}
-use Rattle.record.specs.Record.{isLoose, plain, notLF, wordEOF, endsCR, contentIs, lineIs, lineOf, placed, recordAt}
+use Rattle.record.specs.Record.{isExact, plain, notLF, wordEOF, endsCR, contentIs, lineIs, lineOf, placed, recordAt}
 use Rattle.record.specs.RecordView.{Lies}
 use Rattle.record.proofs.RecordLaws.{record-long, record-end, record-lies}
 use Rattle.cursor.specs.declared.Cursor.{Cursor}
@@ -77,8 +77,8 @@ line-told : (mode : Mode) (due : Bool) (bs : List ℕ) → LineTold (lineOf mode
 unfolding lineOf lineIs
 line-told mode due bs =
     cond-elim LineTold (ltb (run notLF bs) (length bs)) _ _
-    (λ _. cond-elim LineTold (endsCR (take (run notLF bs) bs) || isLoose mode) _ _ (λ _. content-told _ _) (λ _. (omega arith, omega arith)))
-    (λ _. cond-elim LineTold (isLoose mode && due && same bs wordEOF) _ _ (λ _. tt) (λ _. (omega arith, omega arith)))
+    (λ _. cond-elim LineTold (endsCR (take (run notLF bs) bs) || not (isExact mode)) _ _ (λ _. content-told _ _) (λ _. (omega arith, omega arith)))
+    (λ _. cond-elim LineTold (not (isExact mode) && due && same bs wordEOF) _ _ (λ _. tt) (λ _. (omega arith, omega arith)))
 
 found-told : (s : List ℕ) (at : ℕ) (mode : Mode) (due : Bool) → FoundTold (recordAt s at mode due)
 unfolding recordAt

@@ -5,7 +5,7 @@ use mathlib.Core.Path.{_≡_, refl}
 use mathlib.Core.List.{List, [], _∷_, _++_, map}
 use mathlib.Core.Bool.{Bool, true, false}
 use lib.IntN.{ℤ, pos, negℤ}
-use Rattle.laws.specs.Lists.{run, same}
+use Rattle.laws.specs.Lists.{run, all, same}
 use Rattle.laws.specs.Text.{text}
 use Rattle.record.specs.declared.Mode.{Mode}
 use Rattle.record.specs.declared.Mode.the-variants.{Loose, Exact}
@@ -15,7 +15,7 @@ use Rattle.number.specs.declared.Whole.the-variants as Whole
 use Rattle.number.specs.declared.Decimal.{Decimal}
 use Rattle.number.specs.declared.Decimal.the-variants as Decimal
 use Rattle.number.specs.Words.{unled}
-use Rattle.number.specs.Number.{value, ended, lean, integerIs, integerAt, integerOf, signOf, signs, signed, thousandths, isToken, isNeat, realIs, realAt, realSigned, realOf}
+use Rattle.number.specs.Number.{value, parted, ended, lean, integerIs, integerAt, integerOf, signOf, signs, signed, thousandths, isToken, isNeat, realIs, realAt, realSigned, realOf}
 use Rattle.machine.specs.declared.Step.{Step}
 use Rattle.machine.specs.declared.Step.the-variants as Step
 use Rattle.machine.specs.Machine.{verticesOf, islandOf}
@@ -90,7 +90,7 @@ ofAreas Areas.Wide = []
 ofAreas Areas.Missing = []
 
 answer : Question → Answer
-unfolding realOf realSigned realAt realIs isNeat isToken thousandths signed signs signOf lean ended value unled run integerOf integerAt integerIs verticesOf islandOf areaOf narrow held near near-first all-near signed-sum edge-term east north verdictOf searched first-edge second-edge least faulty-pair edges-meet boxes-overlap beside-line spans-overlap one-side neighbours-overlap equal-ends side dot areasOf totalFrom sum classOf isOther isRoad isWater beginsInKind2 beginsWith endsIn same isSurface
+unfolding realOf realSigned realAt realIs isNeat isToken thousandths signed signs signOf lean ended parted value unled run all integerOf integerAt integerIs verticesOf islandOf areaOf narrow held near near-first all-near signed-sum edge-term east north verdictOf searched first-edge second-edge least faulty-pair edges-meet boxes-overlap beside-line spans-overlap one-side neighbours-overlap equal-ends side dot areasOf totalFrom sum classOf isOther isRoad isWater beginsInKind2 beginsWith endsIn same isSurface
 answer (real mode s) = ofDecimal (realOf mode (text s))
 answer (integer mode s) = ofWhole (integerOf mode (text s))
 answer (vertices n) = ofStep (verticesOf 1 1 n)

@@ -13,12 +13,11 @@ use borrow.Author.Tests.{eqb-false, ne-eqb}
 use Rattle.laws.specs.Lists.{all, place}
 use Rattle.laws.proofs.Choice.{and-left, and-right, cond-elim}
 use Rattle.record.specs.declared.Mode.{Mode}
-use Rattle.record.specs.declared.Mode.the-variants.{Loose, Exact}
 use Rattle.record.specs.declared.Line.{Line}
 use Rattle.record.specs.declared.Line.the-variants.{Got, Bad}
-use Rattle.record.specs.Record.{plain, lineOf}
-use Rattle.record.specs.RecordView.{LineEnd, crlf, lf, Ending, lineEnded, bare, IsLine}
-use Rattle.record.proofs.RecordLaws.{line-view, line-make}
+use Rattle.record.specs.Record.{plain, widens, lineOf}
+use Rattle.record.specs.RecordView.{LineEnd, Ending, lineEnded, bare, IsLine}
+use Rattle.record.proofs.RecordLaws.{line-view, line-make, end-widens}
 use Rattle.number.specs.declared.Word.{Word}
 use Rattle.number.specs.declared.Word.the-variants as Word
 use Rattle.number.specs.declared.Decimal.{Decimal}
@@ -250,45 +249,42 @@ head-local mode bs h at q z =
       rw (t, g) (head-make z (v .first) (v .second) (v .third) (v .says) ∙ at-is (v .long)),
     )
 
-word-loose : (c : List ℕ) → isWord (wordOf Exact c) ≡ true → isWord (wordOf Loose c) ≡ true
-word-loose c = go (wordOf Exact c) refl
-  where
-    go : (w : Word) → wordOf Exact c ≡ w → isWord w ≡ true → isWord (wordOf Loose c) ≡ true
-    go (Word.Is start len) e t = rw (word-widens c start len e)
-    go Word.Padded e t = absurd (let y : _≡_ {A = ℕ} 0 1 = cc in omega arith)
+module _ (from to : Mode) (wide : widens from to ≡ true) where
+  is-word-widens : (c : List ℕ) → isWord (wordOf from c) ≡ true → isWord (wordOf to c) ≡ true
+  is-word-widens c = go (wordOf from c) refl
+    where
+      go : (w : Word) → wordOf from c ≡ w → isWord w ≡ true → isWord (wordOf to c) ≡ true
+      go (Word.Is start len) e t = rw (word-widens from to wide c start len e)
+      go Word.Padded e t = absurd (let y : _≡_ {A = ℕ} 0 1 = cc in omega arith)
 
-kind-loose : (c : List ℕ) → (kindSaid Exact c ≡ 0 → ⊥) → kindSaid Loose c ≡ kindSaid Exact c
-unfolding kindSaid
-kind-loose c = go (isWord (wordOf Exact c)) refl
-  where
-    go : (x : Bool) → isWord (wordOf Exact c) ≡ x → (cond x (place 1 firstWords (trimmed c)) 0 ≡ 0 → ⊥)
-        → cond (isWord (wordOf Loose c)) (place 1 firstWords (trimmed c)) 0 ≡ cond x (place 1 firstWords (trimmed c)) 0
-    go true e n = rw (word-loose c e)
-    go false e n = absurd (n refl)
+  kind-widens : (c : List ℕ) → (kindSaid from c ≡ 0 → ⊥) → kindSaid to c ≡ kindSaid from c
+  unfolding kindSaid
+  kind-widens c = go (isWord (wordOf from c)) refl
+    where
+      go : (x : Bool) → isWord (wordOf from c) ≡ x → (cond x (place 1 firstWords (trimmed c)) 0 ≡ 0 → ⊥)
+          → cond (isWord (wordOf to c)) (place 1 firstWords (trimmed c)) 0 ≡ cond x (place 1 firstWords (trimmed c)) 0
+      go true e n = rw (is-word-widens c e)
+      go false e n = absurd (n refl)
 
-named-loose : (kind : ℕ) (c : List ℕ) → isNamed Exact kind c ≡ true → isNamed Loose kind c ≡ true
-unfolding isNamed
-named-loose kind c e =
-    rw (word-loose c (and-left (isWord (wordOf Exact c)) (isName kind (trimmed c)) e)) (and-right (isWord (wordOf Exact c)) (isName kind (trimmed c)) e)
+  named-widens : (kind : ℕ) (c : List ℕ) → isNamed from kind c ≡ true → isNamed to kind c ≡ true
+  unfolding isNamed
+  named-widens kind c e =
+      rw (is-word-widens c (and-left (isWord (wordOf from c)) (isName kind (trimmed c)) e)) (and-right (isWord (wordOf from c)) (isName kind (trimmed c)) e)
 
-whole-loose : {c e : List ℕ} → Whole Exact c e → Whole Loose c e
-whole-loose {c} {e} w = record { good = w .good; most = w .most; end = go (w .end) }
-  where
-    go : LineEnd Exact e → LineEnd Loose e
-    go (crlf q) = crlf q
-    go (lf m q) = lf refl q
+  whole-widens : {c e : List ℕ} → Whole from c e → Whole to c e
+  whole-widens {c} {e} w = record { good = w .good; most = w .most; end = end-widens from to wide e (w .end) }
 
--- exact acceptance implies loose acceptance with the same header
-pub head-widens : (bs : List ℕ) (h : Header) (at : ℕ) → headed Exact bs ≡ record { ahead = Sections at; header = h } → headed Loose bs ≡ record { ahead = Sections at; header = h }
-head-widens bs h at q =
-    let v = head-view Exact bs h at q in
-    let s = v .says in
-    let says : Says Loose h (v .c₁) (v .c₂) (v .c₃) = record {
-      kind = kind-loose (v .c₁) (λ z. s .known (sym (s .kind) ∙ z)) ∙ s .kind;
-      known = s .known;
-      named = named-loose (h .kind) (v .c₂) (s .named);
-      name = s .name;
-      scale = real-widens (v .c₃) (h .scale) (s .scale);
-      above = s .above;
-    } in
-    rw (v .split) (head-make (v .rest) (whole-loose (v .first)) (whole-loose (v .second)) (whole-loose (v .third)) says ∙ at-is (v .long))
+  -- a header that one mode accepts, a wider one accepts as the same
+  pub head-widens : (bs : List ℕ) (h : Header) (at : ℕ) → headed from bs ≡ record { ahead = Sections at; header = h } → headed to bs ≡ record { ahead = Sections at; header = h }
+  head-widens bs h at q =
+      let v = head-view from bs h at q in
+      let s = v .says in
+      let says : Says to h (v .c₁) (v .c₂) (v .c₃) = record {
+        kind = kind-widens (v .c₁) (λ z. s .known (sym (s .kind) ∙ z)) ∙ s .kind;
+        known = s .known;
+        named = named-widens (h .kind) (v .c₂) (s .named);
+        name = s .name;
+        scale = real-widens from to wide (v .c₃) (h .scale) (s .scale);
+        above = s .above;
+      } in
+      rw (v .split) (head-make (v .rest) (whole-widens (v .first)) (whole-widens (v .second)) (whole-widens (v .third)) says ∙ at-is (v .long))

@@ -8,11 +8,11 @@ use lib.IntN.{pos}
 use Rattle.laws.specs.Lists.{run, kept, all, same, allAt, place}
 use Rattle.laws.specs.Text.{text}
 use Rattle.record.specs.declared.Mode.{Mode}
-use Rattle.record.specs.declared.Mode.the-variants.{Loose, Exact}
+use Rattle.record.specs.declared.Mode.the-variants.{Loose, Exact, Former}
 use Rattle.record.specs.Refusals.{badHeader, malformed}
 use Rattle.record.specs.Record.{endsCR, content, contentIs, lineIs, lineOf}
 use Rattle.number.specs.Words.{unled, trimmed, wordOf}
-use Rattle.number.specs.Number.{value, ended, lean, signOf, signs, signed, thousandths, isToken, isNeat, realIs, realAt, realSigned, realOf}
+use Rattle.number.specs.Number.{value, parted, ended, lean, signOf, signs, signed, thousandths, isToken, isNeat, realIs, realAt, realSigned, realOf}
 use Rattle.heading.specs.declared.Header.{Header}
 use Rattle.header.specs.declared.Headed.{Headed}
 use Rattle.header.specs.declared.Ahead.the-variants.{Sections}
@@ -21,7 +21,7 @@ use Rattle.heading.specs.Heading.{nameByte, isName, isHeader}
 
 -- `headed` with every definition opened, so that it computes
 unfoldable pub computed : Mode → List ℕ → Headed
-unfolding headed headName headScale kindSaid isNamed isName nameByte firstWords place allAt same lineOf lineIs contentIs content endsCR run all wordOf trimmed unled kept realOf realSigned realAt realIs isNeat isToken thousandths signed signs signOf lean ended value
+unfolding headed headName headScale kindSaid isNamed isName nameByte firstWords place allAt same lineOf lineIs contentIs content endsCR run all wordOf trimmed unled kept realOf realSigned realAt realIs isNeat isToken thousandths signed signs signOf lean ended parted value
 computed mode bs = headed mode bs
 
 -- the header of a text
@@ -56,9 +56,14 @@ unfolding read
 map-QU = refl
 
 -- loose mode drops blanks at the ends, and the name is held without them
-blanks-loose : read Loose " MAPPA \n H501_0123A0\n2000.000 m\n" ≡ found 1 "H501_0123A0" 2000000 32
+blanks-loose : read Loose " MAPPA \n H501_0123A0\n2000.000  \n" ≡ found 1 "H501_0123A0" 2000000 32
 unfolding read
 blanks-loose = refl
+
+-- a note behind the scale is the former reading's alone
+note : (read Former " MAPPA \n H501_0123A0\n2000.000 m\n" ≡ found 1 "H501_0123A0" 2000000 32) × (read Loose " MAPPA \n H501_0123A0\n2000.000 m\n" ≡ stopped malformed 3 21)
+unfolding read
+note = (refl, refl)
 
 blanks-exact : read Exact "MAPPA \r\nH501_0123A0\r\n    2000.000\r\n" ≡ stopped badHeader 1 0
 unfolding read

@@ -354,10 +354,24 @@ module _ (p : ℕ → Bool) where
   pub all-whole : (s : List ℕ) → run p s ≡ length s → all p s ≡ true
   all-whole s e = rw (e, take-length s) at (all-run p s)
 
+  -- whether a run of so many is the whole list
+  module _ (s : List ℕ) (n : ℕ) (q : n ≡ run p s) where
+    pub whole-not : n < length s → false ≡ all p s
+    whole-not h = go (all p s) refl
+      where
+        go : (x : Bool) → all p s ≡ x → false ≡ x
+        go true e = absurd (omega (arith, run-whole p s e))
+        go false e = refl
+
+    pub whole-all : length s ≤ n → true ≡ all p s
+    whole-all h = sym (all-whole s (omega (arith, run-le p s)))
+
   pub all-alike : (n a : ℕ) → p a ≡ true → all p (replicate n a) ≡ true
   unfolding all
   all-alike zero a e = refl
   all-alike (suc n) a e = and-both (p a) (all p (replicate n a)) e (all-alike n a e)
+
+pub ruleset wholes = (whole-not, whole-all)
 
 -- all are one byte
 pub alike : (a : ℕ) (s : List ℕ) → all (λ b. eqb b a) s ≡ true → s ≡ replicate (length s) a

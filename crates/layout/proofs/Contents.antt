@@ -12,7 +12,7 @@ use Rattle.laws.specs.Lists.{all, below}
 use Rattle.laws.proofs.Choice.{and-left, and-right}
 use Rattle.laws.proofs.ListLaws.{below-at}
 use Rattle.record.specs.declared.Mode.{Mode}
-use Rattle.record.specs.declared.Mode.the-variants.{Loose, Exact}
+use Rattle.record.specs.declared.Mode.the-variants.{Exact}
 use Rattle.record.specs.Record.{plain}
 use Rattle.record.specs.RecordView.{crlf}
 use Rattle.number.specs.Words.{blank}
@@ -24,13 +24,12 @@ use Rattle.token.specs.declared.Token.the-variants.{Say}
 use Rattle.token.specs.declared.Want.{Want}
 use Rattle.token.specs.declared.Want.the-variants.{Key, Text, Int, Real}
 use Rattle.token.specs.Lex.{lift, keywords, mayLieOutside, isKey, keyText, lexOf}
-use Rattle.token.proofs.TokenLaws.{keyMost, key-spelt}
+use Rattle.token.proofs.TokenLaws.{keyMost, key-spelt, lex-widens}
 use Rattle.machine.specs.declared.State.{State}
 use Rattle.machine.specs.declared.Step.the-variants.{Go}
 use Rattle.machine.specs.Machine.{wantOf, stepOf}
 use Rattle.sheet.specs.Tables.{Tables, put, ringAfter}
 use Rattle.sheet.proofs.Pass.{Pass, more}
-use Rattle.sheet.proofs.Exact.{lex-loose}
 use Rattle.layout.specs.Sheet.{line}
 
 -- a content that a record may hold, and that exact mode reads as the token
@@ -39,10 +38,9 @@ pub record Reads (w : Want) (c : List ℕ) (t : ℕ) : Type 0 where
   pub most : length c ≤ 255
   pub says : lexOf Exact w c ≡ Say t
 
--- so either mode does
+-- so every mode does
 says-in : (mode : Mode) {w : Want} {c : List ℕ} {t : ℕ} → Reads w c t → lexOf mode w c ≡ Say t
-says-in Exact r = r .says
-says-in Loose {w} {c} {t} r = lex-loose w c t (r .says)
+says-in mode {w} {c} {t} r = lex-widens Exact mode refl w c t (r .says)
 
 -- ---- what each kind of content says
 

@@ -17,7 +17,7 @@ use Rattle.laws.proofs.Bits.{eqZ-same}
 use Rattle.laws.proofs.ListLaws.{below-at, holds-here, holds-there, values, values-at, values-length, values-are}
 use Rattle.layout.proofs.Tails.{Lettered}
 use Rattle.record.specs.declared.Mode.{Mode}
-use Rattle.record.specs.Record.{isLoose, plain}
+use Rattle.record.specs.Record.{isExact, plain}
 use Rattle.number.specs.Words.{blank, trimmed}
 use Rattle.number.proofs.WordLaws.{untrimmed}
 use Rattle.token.specs.declared.Want.{Want}
@@ -296,21 +296,21 @@ module _ (mode : Mode) (t : Tables) (cells : (p : ℕ) → p < 12 → isCell (ki
     -- ---- where it leads
 
     -- a code that is to be listed is
-    code-passes : (n : ℕ) → (p ≡ 2 → n ≡ countAt t 2) → (eqb p 2 && not (isLoose mode) && not (isListed (kindOf t) n)) ≡ false
+    code-passes : (n : ℕ) → (p ≡ 2 → n ≡ countAt t 2) → (eqb p 2 && isExact mode && not (isListed (kindOf t) n)) ≡ false
     unfolding isCoded
     code-passes n f = go (eqb p 2) refl
       where
-        listed : (x y : Bool) → (x || false || y) ≡ true → (not x && not y) ≡ false
-        listed true y e = refl
-        listed false true e = refl
-        listed false false e = absurd (false≢true e)
+        listed : (x y : Bool) → (not x || false || y) ≡ true → (x && not y) ≡ false
+        listed false y e = refl
+        listed true true e = refl
+        listed true false e = absurd (false≢true e)
 
-        go : (x : Bool) → eqb p 2 ≡ x → (x && not (isLoose mode) && not (isListed (kindOf t) n)) ≡ false
+        go : (x : Bool) → eqb p 2 ≡ x → (x && isExact mode && not (isListed (kindOf t) n)) ≡ false
         go false e = refl
         go true e =
             let q : p ≡ 2 = eqb-true p 2 e in
             let has : hasField (kindOf t) 2 ≡ true = rw q at (h .has) in
-            rw (f q) (listed (isLoose mode) (isListed (kindOf t) (countAt t 2)) (rw has at coded))
+            rw (f q) (listed (isExact mode) (isListed (kindOf t) (countAt t 2)) (rw has at coded))
 
     -- the islands are known from their field on
     islands-known : (n : ℕ) → (p ≡ 10 → n ≡ countAt t 10) → cond (eqb p 10) n (islandsDue t (p ∷ ps)) ≡ islandsDue t ps

@@ -14,7 +14,7 @@ use Rattle.laws.proofs.Choice.{cond-elim, false≢true, true≢false}
 use Rattle.laws.proofs.ListLaws.{holds-here, holds-there}
 use Rattle.record.specs.declared.Mode.{Mode}
 use Rattle.record.specs.declared.Mode.the-variants.{Exact}
-use Rattle.record.specs.Record.{isLoose, plain}
+use Rattle.record.specs.Record.{isExact, plain}
 use Rattle.record.specs.RecordView.{LineEnd}
 use Rattle.number.specs.Words.{trimmed}
 use Rattle.number.proofs.WordLaws.{trimmed-first, trimmed-last, trimmed-plain}
@@ -90,7 +90,7 @@ step-map mode part P Q End f w = tt
 
 module _ (mode : Mode) (c e : List ℕ) (t : ℕ) (l : LineEnd mode e) (kind p i : ℕ) (part : Tables)
     (good : all plain c ≡ true) (short : length c ≤ 255) (says : lexOf mode (wantAt p) c ≡ Say t)
-    (k : AtField kind p i part) (listed : p ≡ 2 → (isLoose mode || isListed kind t) ≡ true) where
+    (k : AtField kind p i part) (listed : p ≡ 2 → (not (isExact mode) || isListed kind t) ≡ true) where
   abbrev cell : ℤ
   cell = cellOf (wantAt p) t
 
@@ -135,7 +135,7 @@ module _ (mode : Mode) (c e : List ℕ) (t : ℕ) (l : LineEnd mode e) (kind p i
         let n : cellAt now 9 ≡ pos t = subst (λ (q : ℕ). cellAt now q ≡ cellOf (wantAt q) t) e₉ cell-now in
         rw (n, letters-now e₉) (record { counted = s .counted; good = trimmed-plain c good; first = trimmed-first c; last = trimmed-last c })
 
-    coded-now : p ≡ 2 → (isLoose mode || isListed kind (countAt now 2)) ≡ true
+    coded-now : p ≡ 2 → (not (isExact mode) || isListed kind (countAt now 2)) ≡ true
     unfolding wantAt
     coded-now e₂ =
         let n : cellAt now 2 ≡ pos t = subst (λ (q : ℕ). cellAt now q ≡ cellOf (wantAt q) t) e₂ cell-now in
@@ -336,13 +336,13 @@ module _ (mode : Mode) (c e : List ℕ) (t : ℕ) (l : LineEnd mode e) (kind p i
   whole-tail = rw put-is (step-map mode part₁ Fielded Whole leads field-more next-tail)
 
 -- a code that was not refused
-listed-by : (p kind t : ℕ) (mode : Mode) → (eqb p 2 && not (isLoose mode) && not (isListed kind t)) ≡ false → p ≡ 2 → (isLoose mode || isListed kind t) ≡ true
-listed-by p kind t mode e z = go (isLoose mode) (isListed kind t) (rw (eq-eqb p 2 z) at e)
+listed-by : (p kind t : ℕ) (mode : Mode) → (eqb p 2 && isExact mode && not (isListed kind t)) ≡ false → p ≡ 2 → (not (isExact mode) || isListed kind t) ≡ true
+listed-by p kind t mode e z = go (isExact mode) (isListed kind t) (rw (eq-eqb p 2 z) at e)
   where
-    go : (a b : Bool) → (not a && not b) ≡ false → (a || b) ≡ true
-    go true b e = refl
-    go false true e = refl
-    go false false e = absurd (true≢false e)
+    go : (a b : Bool) → (a && not b) ≡ false → (not a || b) ≡ true
+    go false b e = refl
+    go true true e = refl
+    go true false e = absurd (true≢false e)
 
 pub field-tail : (mode : Mode) (c e : List ℕ) (t : ℕ) → LineEnd mode e → (kind p i : ℕ) (part : Tables) → all plain c ≡ true → length c ≤ 255 → lexOf mode (wantAt p) c ≡ Say t
     → AtField kind p i part
@@ -350,5 +350,5 @@ pub field-tail : (mode : Mode) (c e : List ℕ) (t : ℕ) → LineEnd mode e →
 unfolding fieldOf
 field-tail mode c e t l kind p i part good short says k =
     cond-elim (StepTail mode (put (Field kind p i) t c part) (λ now cs. FieldsTail mode kind (ahead kind p) part now (c ++ (e ++ cs))))
-    (eqb p 2 && not (isLoose mode) && not (isListed kind t)) _ _ (λ _. tt)
+    (eqb p 2 && isExact mode && not (isListed kind t)) _ _ (λ _. tt)
     (λ a. whole-tail mode c e t l kind p i part good short says k (listed-by p kind t mode a))

@@ -14,7 +14,7 @@ use Rattle.laws.proofs.Choice.{and-left, and-right, and-both, cond-elim}
 use Rattle.laws.proofs.ListLaws.{below-all}
 use Rattle.record.specs.declared.Mode.{Mode}
 use Rattle.record.specs.declared.Mode.the-variants.{Exact}
-use Rattle.record.specs.Record.{isLoose}
+use Rattle.record.specs.Record.{isExact}
 use Rattle.record.specs.RecordView.{LineEnd}
 use Rattle.token.specs.declared.Token.the-variants.{Say}
 use Rattle.token.specs.declared.Want.the-variants.{Key}
@@ -184,7 +184,7 @@ module _ (mode : Mode) (t : ℕ) (k : SaysKey t) (now : Tables) (cs : List ℕ)
 
   row-coded : isCoded mode kind (countAt now 2) ≡ true
   unfolding isCoded hasField
-  row-coded = go (isLoose mode) (hasField kind 2) refl (w .coded)
+  row-coded = go (not (isExact mode)) (hasField kind 2) refl (w .coded)
     where
       go : (a x : Bool) → hasField kind 2 ≡ x → (x ≡ true → (a || isListed kind (countAt now 2)) ≡ true) → (a || not x || isListed kind (countAt now 2)) ≡ true
       go true x e f = refl

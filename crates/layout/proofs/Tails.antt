@@ -2,7 +2,7 @@
 -- `part` is what the section has so far, `now` what it has at its end, `cs` the bytes in between.
 use mathlib.Core.Path.{_≡_}
 use mathlib.Core.List.{List, [], _∷_, _++_}
-use mathlib.Core.Bool.{Bool, true, false, cond, _&&_, _||_}
+use mathlib.Core.Bool.{Bool, true, false, cond, not, _&&_, _||_}
 use Prim.Native.Nat.{ℕ, _+_, _-_, _*_, _≤_}
 use lib.ListN.{length, getD, drop}
 use lib.IntN.{ℤ, pos}
@@ -10,7 +10,7 @@ use Rattle.laws.specs.Lists.{all, holds}
 use Rattle.laws.specs.Whole.{eqZ}
 use Rattle.record.specs.declared.Mode.{Mode}
 use Rattle.record.specs.declared.Mode.the-variants.{Exact}
-use Rattle.record.specs.Record.{isLoose, plain}
+use Rattle.record.specs.Record.{isExact, plain}
 use Rattle.number.specs.Words.{blank}
 use Rattle.token.specs.Lex.{kindMost, unlift}
 use Rattle.kinds.specs.Kinds.{rowWidth, codePlace, lettersPlace, islandsPlace, verticesPlace, unsaid, isListed, wantAt}
@@ -92,7 +92,7 @@ pub record FieldsTail (mode : Mode) (kind : ℕ) (ps : List ℕ) (part now : Tab
   pub ranged : (p : ℕ) → holds ps p ≡ true → inRange (wantAt p) (cellAt now p) ≡ true
   pub noLetters : holds ps lettersPlace ≡ false → now .letters ≡ part .letters
   pub lettered : holds ps lettersPlace ≡ true → Lettered (countAt now lettersPlace) (now .letters)
-  pub coded : holds ps codePlace ≡ true → (isLoose mode || isListed kind (countAt now codePlace)) ≡ true
+  pub coded : holds ps codePlace ≡ true → (not (isExact mode) || isListed kind (countAt now codePlace)) ≡ true
   pub body : Lacking kind now → Body kind now
   pub text : mode ≡ Exact → (o : Tables) → Begins now o → fieldsText o ps ++ (integersText (now .islands) ++ realsText (now .points)) ≡ cs
 

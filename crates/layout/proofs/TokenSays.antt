@@ -7,9 +7,10 @@ use native.Mathlib.Omega.{arith}
 use lib.ListN.{length}
 use lib.Dec.{leb, eqb}
 use borrow.Author.Tests.{le-leb, eqb-true, eqb-false}
-use Rattle.laws.proofs.Choice.{and-both, cond-elim}
+use Rattle.laws.proofs.Choice.{and-both, cond-elim, true≢false}
 use Rattle.record.specs.declared.Mode.{Mode}
-use Rattle.record.specs.declared.Mode.the-variants.{Loose, Exact}
+use Rattle.record.specs.declared.Mode.the-variants.{Exact}
+use Rattle.record.specs.Record.{isExact}
 use Rattle.record.specs.RecordView.{LineEnd, crlf, lf}
 use Rattle.number.specs.declared.Word.{Word}
 use Rattle.number.specs.declared.Word.the-variants as Word
@@ -112,7 +113,4 @@ field-spelt mode p c t o m =
 -- a content and its line end, and what follows, in exact mode
 pub line-spelt : (mode : Mode) (c d e xs ys : List ℕ) → mode ≡ Exact → LineEnd mode e → d ≡ c → xs ≡ ys → line d ++ xs ≡ c ++ (e ++ ys)
 line-spelt mode c d e xs ys m (crlf q) f g = rw (f, g, q) (append-assoc c (13 ∷ 10 ∷ []) ys)
-line-spelt mode c d e xs ys m (lf l q) f g = absurd (apart (sym m ∙ l))
-  where
-    apart : Exact ≡ Loose → ⊥
-    apart e = let z : _≡_ {A = ℕ} 0 1 = cc in omega arith
+line-spelt mode c d e xs ys m (lf l q) f g = absurd (true≢false (sym (ap isExact m) ∙ l))

@@ -13,7 +13,7 @@ use Rattle.laws.specs.Text.{text}
 use Rattle.laws.proofs.Choice.{and-left, and-right, cond-elim, cond-first}
 use Rattle.laws.proofs.ListLaws.{all-weaken, all-each, all-at-weaken, below-at}
 use Rattle.record.specs.declared.Mode.{Mode}
-use Rattle.record.specs.declared.Mode.the-variants.{Loose, Exact}
+use Rattle.record.specs.declared.Mode.the-variants.{Loose, Exact, Former}
 use Rattle.record.specs.Record.{plain, lineOf, lineIs, contentIs, content, endsCR}
 use Rattle.record.specs.RecordView.{crlf}
 use Rattle.record.specs.Refusals.{fileMost}
@@ -49,6 +49,7 @@ eof-ends : (mode : Mode) → oneOf mode Due 0 (line (text "EOF")) ≡ One.End 5
 unfolding oneOf lineOf lineIs contentIs content endsCR run all lexOf wordOf trimmed unled kept keyOf same wantOf stepOf keyStep
 eof-ends Loose = refl
 eof-ends Exact = refl
+eof-ends Former = refl
 
 written-end : (mode : Mode) → IsEnd mode (line (text "EOF"))
 written-end mode = record { width = 5; ends = eof-ends mode; ok = ok mode }
@@ -56,10 +57,11 @@ written-end mode = record { width = 5; ends = eof-ends mode; ok = ok mode }
     ok : (m : Mode) → TailOk m []
     ok Loose = tt
     ok Exact = refl
+    ok Former = tt
 
 -- ---- the header
 
--- the first word of a kind is read as that kind, in either mode: one computed test
+-- the first word of a kind is read as that kind, in every mode: one computed test
 isFirst : Mode → ℕ → Bool
 isFirst mode k = eqb k 0 || all plain (getD firstWords (k - 1) []) && leb (length (getD firstWords (k - 1) [])) 255 && eqb (kindSaid mode (getD firstWords (k - 1) [])) k
 
@@ -67,6 +69,7 @@ all-first : (mode : Mode) → below 4 (isFirst mode) ≡ true
 unfolding below isFirst firstWords all kindSaid wordOf trimmed unled run kept place same
 all-first Loose = refl
 all-first Exact = refl
+all-first Former = refl
 
 -- a byte of a name is plain and no blank
 abbrev solid : ℕ → Bool
@@ -121,8 +124,7 @@ name-is kind s e =
     }
 
 real-in-mode : (mode : Mode) (z : ℤ) → isReal z ≡ true → realOf mode (realText z) ≡ Decimal.Is z
-real-in-mode Exact z e = real-spelt z e
-real-in-mode Loose z e = real-widens (realText z) z (real-spelt z e)
+real-in-mode mode z e = real-widens Exact mode refl (realText z) z (real-spelt z e)
 
 -- the header's three records are read as the header, whatever follows them
 header-begins : (mode : Mode) (h : Header) → isHeader h ≡ true → (z : List ℕ) → headed mode (headerText h ++ z) ≡ record { ahead = Ahead.Sections (length (headerText h)); header = h }

@@ -2,7 +2,6 @@
 use Prim.Native.Nat.{ℕ, _+_, _*_, _≤_, _<_}
 use mathlib.Core.Path.{_≡_, refl, sym, _∙_, ap, subst}
 use mathlib.Core.List.{List}
-use mathlib.Core.Bool.{Bool, true, false, cond}
 use native.Mathlib.Omega.{arith}
 use lib.ListN.{length, take, drop, replicate, length-append, length-replicate}
 use lib.Seq.{take-at}
@@ -19,9 +18,10 @@ use Rattle.reader.specs.declared.Answer.{Answer}
 use Rattle.reader.specs.declared.Answer.the-variants as Answer
 use Rattle.reader.specs.declared.Outcome.{Outcome}
 use Rattle.reader.specs.Columns.{readingColumn}
-use Rattle.reader.specs.Read.{needsOf, Rooms, roomsOf, holdsAll, readWith, refusedWith, answered, readOf, tablesIn, written}
+use Rattle.reader.specs.Read.{needsOf, Rooms, roomsOf, readOf, tablesIn, written}
 use Rattle.reader.proofs.Bytes.{tables-whole}
-use Rattle.reader.proofs.NeedLaws.{Enough, enough-holds}
+use Rattle.reader.proofs.NeedLaws.{Enough}
+use Rattle.reader.proofs.EnoughLaws.{Told, told-by, table-read}
 use Rattle.made.specs.Made.{tablesOf}
 use Rattle.writer.specs.Put.{Put}
 use Rattle.writer.proofs.Putting.{stored-put}
@@ -32,6 +32,7 @@ use Rattle.listing.proofs.ListLaws.{refused-most, read-most}
 use Rattle.listing.specs.Listing.{refusedLine, sheetLines, talliedText, sheetListing, readText, inputMost, listingOf}
 use Rattle.reader.specs.Exit.{usedPart}
 use Rattle.listing.specs.Listed.{listedOf, listedIn, textMost, UsedFits}
+use Rattle.listing.specs.declared.Listed.{Listed}
 use Rattle.listing.specs.declared.Listed.the-variants.{Wrote, NoRoom}
 
 -- the same text
@@ -73,10 +74,6 @@ module _ {ℓ} {A : Type ℓ} (xs l t : List A) (e : t ≡ over xs l) (n : ℕ) 
   part-is : take n t ≡ xs
   part-is = ap (take n) e ∙ take-at xs (drop (length xs) l) n (sym q)
 
--- a table that was read into
-written-read {ℓ} : {A : Type ℓ} (b : Answer) (a : Needs) → b ≡ Answer.Read a → {xs ys : List A} → xs ≡ ys → (t l : List A) → t ≡ written b xs l → t ≡ over ys l
-written-read b a e f t l w = rw (e, f) at w
-
 -- the tables that the code has
 pub enough-tables : Enough inputMost (roomsOf (length (replicate 4380 (pos 0))) (length (replicate {A = ℕ} 8192 0)) (length (replicate {A = ℕ} 4096 0)) (length (replicate 1365 (pos 0))))
 enough-tables =
@@ -88,38 +85,18 @@ enough-tables =
 
 -- ---- after the reading, into tables that hold any input
 
-abbrev Told : List ℕ → Header → ℕ → Answer → Type 0
-Told bs h column (Answer.Read a) = (o : Tables) × (reading Loose bs ≡ sheet h o) × (a ≡ needsOf o)
-Told bs h column (Answer.NoRoom a) = ⊥
-Told bs h column (Answer.Refused m k at) = (reading Loose bs ≡ refused m k at) × (column ≡ readingColumn Loose bs)
-
 module _ (bs : List ℕ) (r : Rooms) (short : length bs ≤ inputMost) (enough : Enough inputMost r) where
-  told : Told bs (readOf Loose bs r .header) (readOf Loose bs r .column) (readOf Loose bs r .answer)
-  unfolding readOf
-  told = by (reading Loose bs) refl
-    where
-      room : (h : Header) (o : Tables) → reading Loose bs ≡ sheet h o → (b : Bool) → b ≡ true
-          → Told bs (cond b (readWith (needsOf o) h) (refusedWith (Answer.NoRoom (needsOf o))) .header) (cond b (readWith (needsOf o) h) (refusedWith (Answer.NoRoom (needsOf o))) .column)
-          (cond b (readWith (needsOf o) h) (refusedWith (Answer.NoRoom (needsOf o))) .answer)
-      room h o e true f = (o, e, refl)
-      room h o e false f = absurd (let z : _≡_ {A = ℕ} 0 1 = cc in omega arith)
-
-      by : (x : Reading) → reading Loose bs ≡ x
-          → Told bs (answered (readingColumn Loose bs) x r .header) (answered (readingColumn Loose bs) x r .column) (answered (readingColumn Loose bs) x r .answer)
-      by (sheet h o) e = room h o e (holdsAll (needsOf o) r) (enough-holds Loose bs h o r inputMost e short enough)
-      by (refused m k at) e = (e, refl)
-
   module _ (x : Outcome) (e : x ≡ readOf Loose bs r) where
-    told-by : (a : Answer) → x .answer ≡ a → Told bs (x .header) (x .column) a
-    told-by a q = subst (Told bs (x .header) (x .column)) q (subst (λ (y : Outcome). Told bs (y .header) (y .column) (y .answer)) (sym e) told)
+    its : (a : Answer) → x .answer ≡ a → Told Loose bs (x .header) (x .column) a
+    its = told-by Loose bs inputMost r short enough x e
 
     pub read-refused : (m k at : ℕ) → x .answer ≡ Answer.Refused m k at → refusedLine m k at (x .column) ≡ readText (readingColumn Loose bs) (reading Loose bs)
     read-refused m k at q =
-        let t = told-by (Answer.Refused m k at) q in
+        let t = its (Answer.Refused m k at) q in
         ap (refusedLine m k at) (t .1) ∙ sym (ap (readText (readingColumn Loose bs)) (t .0))
 
     pub read-short : (a : Needs) → x .answer ≡ Answer.NoRoom a → ⊥
-    read-short a q = told-by (Answer.NoRoom a) q
+    read-short a q = its (Answer.NoRoom a) q
 
     -- the tables at exit
     module _ (a : Needs) (q : x .answer ≡ Answer.Read a)
@@ -129,13 +106,13 @@ module _ (bs : List ℕ) (r : Rooms) (short : length bs ≤ inputMost) (enough :
         (w₃ : islands ≡ written (x .answer) (tablesIn (reading Loose bs) .islands) islands₀)
         (w₄ : points ≡ written (x .answer) (tablesIn (reading Loose bs) .points) points₀) where
       abbrev o : Tables
-      o = told-by (Answer.Read a) q .0
+      o = its (Answer.Read a) q .0
 
       sound : reading Loose bs ≡ sheet (x .header) o
-      sound = told-by (Answer.Read a) q .1
+      sound = its (Answer.Read a) q .1
 
       counts : a ≡ needsOf o
-      counts = told-by (Answer.Read a) q .2
+      counts = its (Answer.Read a) q .2
 
       whole-rows : rowWidth * a .rows ≡ length (o .rows)
       whole-rows = ap (λ (y : Needs). rowWidth * y .rows) counts ∙ sym (tables-whole Loose bs (x .header) o sound .0)
@@ -144,16 +121,16 @@ module _ (bs : List ℕ) (r : Rooms) (short : length bs ≤ inputMost) (enough :
       whole-points = ap (λ (y : Needs). 2 * y .points) counts ∙ sym (tables-whole Loose bs (x .header) o sound .1)
 
       rows-are : rows ≡ over (o .rows) rows₀
-      rows-are = written-read (x .answer) a q (ap (λ (y : Reading). tablesIn y .rows) sound) rows rows₀ w₁
+      rows-are = table-read (x .answer) a q (ap (λ (y : Reading). tablesIn y .rows) sound) rows rows₀ w₁
 
       letters-are : letters ≡ over (o .letters) letters₀
-      letters-are = written-read (x .answer) a q (ap (λ (y : Reading). tablesIn y .letters) sound) letters letters₀ w₂
+      letters-are = table-read (x .answer) a q (ap (λ (y : Reading). tablesIn y .letters) sound) letters letters₀ w₂
 
       islands-are : islands ≡ over (o .islands) islands₀
-      islands-are = written-read (x .answer) a q (ap (λ (y : Reading). tablesIn y .islands) sound) islands islands₀ w₃
+      islands-are = table-read (x .answer) a q (ap (λ (y : Reading). tablesIn y .islands) sound) islands islands₀ w₃
 
       points-are : points ≡ over (o .points) points₀
-      points-are = written-read (x .answer) a q (ap (λ (y : Reading). tablesIn y .points) sound) points points₀ w₄
+      points-are = table-read (x .answer) a q (ap (λ (y : Reading). tablesIn y .points) sound) points points₀ w₄
 
       letters-count : a .letters ≡ length (o .letters)
       letters-count = ap (λ (y : Needs). y .letters) counts
@@ -195,28 +172,29 @@ listing-short bs h = rw (le-leb (length bs) inputMost h)
 
 -- ---- the answer
 
+module _ (s out : List ℕ) where
+  pub text-none : length out < length s → (NoRoom (length s) ≡ listedOf s (length out)) × (out ≡ listedIn (NoRoom (length s)) s out)
+  unfolding listedOf
+  text-none h = (rw (lt-leb (length s) (length out) h), refl)
+
+  pub text-wrote : length s ≤ length out → (d : List ℕ) (r : ℕ) → Stored out 0 s d r → (Wrote (length s) ≡ listedOf s (length out)) × (d ≡ listedIn (Wrote (length s)) s out)
+  unfolding listedOf
+  text-wrote h d r w =
+      let p = stored-put h w in
+      let z : 0 + length s ≡ length s = omega arith in
+      (rw (le-leb (length s) (length out) h), p .is ∙ rw z)
+
+-- the text s in an array of its own
 module _ (s l text : List ℕ) (size : ℕ) (w : Put l 0 s text size) where
   size-is : size ≡ length s
   size-is = omega (arith, w .next)
 
-  pub text-is : take size text ≡ s
+  text-is : take size text ≡ s
   text-is = ap (take size) (w .is) ∙ take-at s (drop (0 + length s) l) size (sym size-is)
 
   pub text-in : size ≤ length text
   text-in = omega (arith, size-is, ap length (w .is), length-append s (drop (0 + length s) l))
 
-  module _ (out : List ℕ) where
-    text-room : size ≤ length out → 0 + length (take size text) ≤ length out
-    text-room h = rw text-is (omega (arith, size-is))
-
-    pub answer-none : length out < size → (NoRoom size ≡ listedOf s (length out)) × (out ≡ listedIn (NoRoom size) s out)
-    unfolding listedOf
-    answer-none h = (rw (lt-leb (length s) (length out) (omega (arith, size-is)), size-is), refl)
-
-    pub answer-wrote : size ≤ length out → (d : List ℕ) (r : ℕ) → Stored out 0 (take size text) d r
-        → (Wrote size ≡ listedOf s (length out)) × (d ≡ listedIn (Wrote size) s out)
-    unfolding listedOf
-    answer-wrote h d r w =
-        let p = stored-put (text-room h) w in
-        let z : 0 + length s ≡ length s = omega arith in
-        (rw (le-leb (length s) (length out) (omega (arith, size-is)), size-is), p .is ∙ rw (text-is, z))
+  pub text-handed : (x : Listed) (out d : List ℕ) → x ≡ listedOf (take size text) (length out) → d ≡ listedIn x (take size text) out
+      → (x ≡ listedOf s (length out)) × (d ≡ listedIn x s out)
+  text-handed x out d p q = (rw text-is at p, rw text-is at q)

@@ -1,4 +1,5 @@
-// What the listing program writes (document 01, "Listing program"): a sheet's header, its tally and its count of rows, or a refusal.
+// What the listing program writes (document 01, "Listing program"): a sheet's header, its tally and its count of rows, or a refusal,
+// whose line the conversion program has too (document 02, T-09).
 // All of it is proved, and no public function has a `requires`. The tables are local and hold any input that is read, so that
 // no room (14) is only ever said of the buffer that is lent for the text; it is then not altered.
 ghost use mathlib.Core.Path.{_≡_};
@@ -241,6 +242,19 @@ fn put_listing(src: &[u8], out: &mut [u8]) -> usize
     put_reading(src, out)
 }
 
+// A text at the start of `out`, where there is room.
+fn put_text(text: &[u8], out: &mut [u8]) -> Listed
+    ensures { λ r. ⌜ r ≡ listedOf (now (text .entry)) (length (now (out .entry))) ⌝ }
+    ensures { λ r. ⌜ now (out .exit) ≡ listedIn r (now (text .entry)) (now (out .entry)) ⌝ }
+{
+    let size = text.len();
+    if size > out.len() {
+        return Listed::NoRoom(size);
+    }
+    put_bytes(out, 0, text);
+    Listed::Wrote(size)
+}
+
 // Writes what the listing program writes for this input to the start of `out`, where there is room.
 pub fn list_text(src: &[u8], out: &mut [u8]) -> Listed
     ensures { λ r. ⌜ r ≡ listedOf (listingOf (now (src .entry))) (length (now (out .entry))) ⌝ }
@@ -248,9 +262,21 @@ pub fn list_text(src: &[u8], out: &mut [u8]) -> Listed
 {
     let mut text = [0u8; TEXT_MOST];
     let size = put_listing(src, &mut text);
-    if size > out.len() {
-        return Listed::NoRoom(size);
-    }
-    put_bytes(out, 0, &text[..size]);
-    Listed::Wrote(size)
+    put_text(&text[..size], out)
+}
+
+// A refusal's line at the start of `out`, where there is room.
+pub fn refused_text(
+    number: usize,
+    place: usize,
+    offset: usize,
+    column: usize,
+    out: &mut [u8],
+) -> Listed
+    ensures { λ r. ⌜ r ≡ listedOf (refusedLine number place offset column) (length (now (out .entry))) ⌝ }
+    ensures { λ r. ⌜ now (out .exit) ≡ listedIn r (refusedLine number place offset column) (now (out .entry)) ⌝ }
+{
+    let mut text = [0u8; TEXT_MOST];
+    let size = put_refused(&mut text, number, place, offset, column);
+    put_text(&text[..size], out)
 }

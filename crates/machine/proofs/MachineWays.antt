@@ -8,9 +8,8 @@ use lib.ListN.{length, take}
 use lib.Dec.{leb, eqb}
 use borrow.Author.Tests.{eq-eqb, ne-eqb, le-leb, lt-leb, not-true, not-false}
 use Rattle.record.specs.declared.Mode.{Mode}
-use Rattle.record.specs.declared.Mode.the-variants.{Loose, Exact}
 use Rattle.record.specs.declared.Line.{Line}
-use Rattle.record.specs.Record.{isLoose, lineOf}
+use Rattle.record.specs.Record.{isExact, lineOf}
 use Rattle.record.specs.Refusals.{notKeyword, unlistedCode, badCount, openRing}
 use Rattle.record.proofs.RecordLaws.{line-view}
 use Rattle.token.specs.Lex.{lexOf}
@@ -137,19 +136,20 @@ pub ruleset island-ways = (island-few, island-none, island-much, island-last, is
 -- ---- after a field of a row
 
 module _ (mode : Mode) (kind p n : ℕ) where
-  pub code-elsewhere : (p ≡ codePlace → ⊥) → false ≡ (eqb p codePlace && not (isLoose mode) && not (isListed kind n))
+  pub code-elsewhere : (p ≡ codePlace → ⊥) → false ≡ (eqb p codePlace && isExact mode && not (isListed kind n))
   code-elsewhere e = rw (ne-eqb p codePlace e)
 
-  pub code-loose : p ≡ codePlace → mode ≡ Loose → false ≡ (eqb p codePlace && not (isLoose mode) && not (isListed kind n))
-  code-loose e m = rw (eq-eqb p codePlace e, m)
+  module _ (x : Bool) (y : x ≡ isExact mode) where
+    pub code-loose : p ≡ codePlace → x ≡ false → false ≡ (eqb p codePlace && isExact mode && not (isListed kind n))
+    code-loose e m = rw (eq-eqb p codePlace e, ← y, m)
 
-  pub code-exact : (r : Bool) → p ≡ codePlace → mode ≡ Exact → r ≡ isListed kind n
-      → not r ≡ (eqb p codePlace && not (isLoose mode) && not (isListed kind n))
-  code-exact r e m q = rw (eq-eqb p codePlace e, m, q)
+    pub code-exact : (r : Bool) → p ≡ codePlace → x ≡ true → r ≡ isListed kind n
+        → not r ≡ (eqb p codePlace && isExact mode && not (isListed kind n))
+    code-exact r e m q = rw (eq-eqb p codePlace e, ← y, m, q)
 
 pub ruleset code-ways = (code-elsewhere, code-loose, code-exact)
 
-module _ (mode : Mode) (kind p islands n : ℕ) (r : Bool) (q : r ≡ (eqb p codePlace && not (isLoose mode) && not (isListed kind n))) where
+module _ (mode : Mode) (kind p islands n : ℕ) (r : Bool) (q : r ≡ (eqb p codePlace && isExact mode && not (isListed kind n))) where
   pub field-code : r ≡ true → No unlistedCode ≡ fieldOf mode kind p islands n
   unfolding fieldOf
   field-code t = rw (← q, t)

@@ -6,7 +6,7 @@ use lib.ListN.{take}
 use lib.Dec.{leb, eqb}
 use Rattle.record.specs.declared.Mode.{Mode}
 use Rattle.record.specs.declared.Line.{Line}
-use Rattle.record.specs.Record.{isLoose, lineOf}
+use Rattle.record.specs.Record.{isExact, lineOf}
 use Rattle.record.specs.Refusals.{notKeyword, unlistedCode, badCount, openRing}
 use Rattle.kinds.specs.Kinds.{wantAt, nextOf, fixedVertices, isListed, codePlace, islandsPlace, verticesPlace}
 use Rattle.token.specs.Lex.{lexOf}
@@ -59,7 +59,7 @@ fieldsEnd kind = cond (eqb (fixedVertices kind) 0) (Go Due) (verticesOf kind 0 (
 -- exact mode refuses codes that are not listed
 unfoldable pub fieldOf : Mode → ℕ → ℕ → ℕ → ℕ → Step
 fieldOf mode kind p islands n =
-    cond (eqb p codePlace && not (isLoose mode) && not (isListed kind n)) (No unlistedCode)
+    cond (eqb p codePlace && isExact mode && not (isListed kind n)) (No unlistedCode)
     (cond (eqb p verticesPlace) (verticesOf kind islands n)
     (cond (eqb (nextOf kind p) 0) (fieldsEnd kind) (Go (Field kind (nextOf kind p) (cond (eqb p islandsPlace) n islands)))))
 

@@ -4,7 +4,7 @@ ghost use mathlib.Core.Path.{_≡_};
 ghost use mathlib.Core.Bool.{not, _&&_};
 ghost use lib.ListN.{length};
 ghost use lib.Dec.{eqb};
-ghost use Rattle.record.specs.Record.{isLoose};
+ghost use Rattle.record.specs.Record.{isExact};
 ghost use Rattle.token.specs.Lex.{lexOf};
 ghost use Rattle.kinds.specs.Kinds.{codePlace, isListed};
 ghost use Rattle.machine.specs.Machine.{wantOf, isDue, freshRing, verticesOf, fieldsEnd, fieldOf, islandOf, isShut, ringStep, vertexOf, keyStep, stepOf, ofToken, oneOf};
@@ -14,6 +14,7 @@ use kinds::next_field;
 use kinds::want_at;
 use record::Line;
 use record::Mode;
+use record::is_exact;
 use record::line_at;
 use record::refusal::CODE;
 use record::refusal::COUNT;
@@ -172,15 +173,15 @@ fn fields_end(kind: usize) -> Step
 
 // A code that the mode refuses.
 fn is_refused_code(mode: Mode, kind: usize, place: usize, n: usize) -> bool
-    ensures { λ r. ⌜ r ≡ (eqb place codePlace && not (isLoose mode) && not (isListed kind n)) ⌝ }
+    ensures { λ r. ⌜ r ≡ (eqb place codePlace && isExact mode && not (isListed kind n)) ⌝ }
 {
     if place != CODE_PLACE {
         return false;
     }
-    match mode {
-        Mode::Loose => false,
-        Mode::Exact => !is_listed(kind, n),
+    if is_exact(mode) {
+        return !is_listed(kind, n);
     }
+    false
 }
 
 // After a field of a row.

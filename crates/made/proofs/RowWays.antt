@@ -14,7 +14,7 @@ use Rattle.laws.specs.Whole.{eqZ}
 use Rattle.laws.proofs.Choice.{and-left, and-right}
 use Rattle.laws.proofs.ListLaws.{below-at, part-count}
 use Rattle.record.specs.declared.Mode.{Mode}
-use Rattle.record.specs.declared.Mode.the-variants.{Loose, Exact}
+use Rattle.record.specs.Record.{isExact}
 use Rattle.token.specs.declared.Want.the-variants.{Int}
 use Rattle.kinds.specs.Kinds.{rowWidth, ownWidth, codePlace, lettersPlace, islandsPlace, verticesPlace, schedule, unsaid, isListed, wantAt}
 use Rattle.sheet.specs.Tables.{Tables, Starts}
@@ -203,18 +203,19 @@ module _ (rows : List ℤ) (letters islands : List ℕ) (points : List ℤ) wher
 pub ruleset made-ways = (made-numbers, made-letters, made-counts, made-points, made-islands, made-rest)
 
 module _ (mode : Mode) (kind code : ℕ) where
-  pub coded-loose : mode ≡ Loose → true ≡ isCoded mode kind code
-  unfolding isCoded
-  coded-loose m = rw m
+  module _ (x : Bool) (y : x ≡ isExact mode) where
+    pub coded-loose : not x ≡ true → true ≡ isCoded mode kind code
+    unfolding isCoded
+    coded-loose m = rw (← y, m)
 
-  module _ (m : mode ≡ Exact) (b : Bool) (h : b ≡ holds (getD schedule kind []) codePlace) where
-    pub coded-listed : b ≡ true → (r : Bool) → r ≡ isListed kind code → r ≡ isCoded mode kind code
-    unfolding isCoded hasField
-    coded-listed t r q = rw (m, ← h, t) q
+    module _ (m : not x ≡ false) (b : Bool) (h : b ≡ holds (getD schedule kind []) codePlace) where
+      pub coded-listed : b ≡ true → (r : Bool) → r ≡ isListed kind code → r ≡ isCoded mode kind code
+      unfolding isCoded hasField
+      coded-listed t r q = rw (← y, m, ← h, t) q
 
-    pub coded-none : b ≡ false → true ≡ isCoded mode kind code
-    unfolding isCoded hasField
-    coded-none t = rw (m, ← h, t)
+      pub coded-none : b ≡ false → true ≡ isCoded mode kind code
+      unfolding isCoded hasField
+      coded-none t = rw (← y, m, ← h, t)
 
 pub ruleset coded-ways = (coded-loose, coded-listed, coded-none)
 

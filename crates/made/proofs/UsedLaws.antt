@@ -7,6 +7,7 @@ use lib.ListN.{length, drop, length-drop, take-append-drop}
 use lib.Seq.{take-add}
 use Rattle.laws.proofs.Choice.{cond-first, and-left, and-right}
 use Rattle.record.specs.declared.Mode.{Mode}
+use Rattle.record.specs.Record.{isExact}
 use Rattle.heading.specs.declared.Header.{Header}
 use Rattle.kinds.specs.Kinds.{rowWidth, codePlace, lettersPlace, islandsPlace, verticesPlace}
 use Rattle.sheet.specs.Tables.{Tables, _then_}
@@ -139,3 +140,13 @@ fine-long mode (suc n) b t e =
       islands-in = omega (arith, r .islands, i .islands-in, length-drop (countAt t islandsPlace) (t .islands));
       points-in = omega (arith, r .points, i .points-in, length-drop (2 * countAt t verticesPlace) (t .points));
     }
+
+-- two modes that are both exact, or both not, judge alike
+judge-rows-alike : (mode mode′ : Mode) → isExact mode ≡ isExact mode′ → (n : ℕ) (b : Before) (t : Tables) → judgeRows mode n b t ≡ judgeRows mode′ n b t
+unfolding judgeRows isCoded
+judge-rows-alike mode mode′ e zero b t = refl
+judge-rows-alike mode mode′ e (suc n) b t = rw (e, judge-rows-alike mode mode′ e n (pastRow b t) (restOf t))
+
+pub judge-alike : (mode mode′ : Mode) → isExact mode ≡ isExact mode′ → (h : Header) (n : ℕ) (t : Tables) → judgeOf mode h n t ≡ judgeOf mode′ h n t
+unfolding judgeOf
+judge-alike mode mode′ e h n t = rw (judge-rows-alike mode mode′ e n noneBefore t)

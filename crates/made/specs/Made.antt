@@ -10,7 +10,7 @@ use lib.Signed.{leZ}
 use Rattle.laws.specs.Lists.{all, below, holds}
 use Rattle.laws.specs.Whole.{eqZ}
 use Rattle.record.specs.declared.Mode.{Mode}
-use Rattle.record.specs.Record.{isLoose, plain}
+use Rattle.record.specs.Record.{isExact, plain}
 use Rattle.record.specs.Refusals.{badHeader, unlistedCode, notMade}
 use Rattle.number.specs.Words.{blank}
 use Rattle.number.specs.Number.{isReal}
@@ -157,7 +157,7 @@ isMade t =
 
 -- the codes that exact reading and writing take
 unfoldable pub isCoded : Mode → ℕ → ℕ → Bool
-isCoded mode kind code = isLoose mode || not (hasField kind codePlace) || isListed kind code
+isCoded mode kind code = not (isExact mode) || not (hasField kind codePlace) || isListed kind code
 
 -- T-07: "each row stores where its letters, islands and points begin, or would begin if it has none"
 unfoldable pub areStarts : Starts → List ℤ → Bool

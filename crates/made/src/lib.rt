@@ -20,6 +20,7 @@ use kinds::ROW_WIDTH;
 use kinds::has_field;
 use kinds::is_listed;
 use record::Mode;
+use record::is_exact;
 use record::is_plain;
 use record::refusal::CODE;
 use record::refusal::HEADER;
@@ -143,15 +144,13 @@ fn is_made(rows: &[i64], letters: &[u8], islands: &[u16], points: &[i64]) -> boo
 fn is_coded(mode: Mode, kind: usize, code: usize) -> bool
     ensures { λ r. ⌜ r ≡ isCoded mode kind code ⌝ }
 {
-    match mode {
-        Mode::Loose => true,
-        Mode::Exact => {
-            if has_field(kind, CODE_PLACE) {
-                return is_listed(kind, code);
-            }
-            true
-        }
+    if !is_exact(mode) {
+        return true;
     }
+    if has_field(kind, CODE_PLACE) {
+        return is_listed(kind, code);
+    }
+    true
 }
 
 // The first row of the tables, behind so many letters, island counts and points: 15, then 10.

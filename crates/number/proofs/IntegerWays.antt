@@ -15,9 +15,9 @@ use Rattle.laws.specs.Lists.{run, all, tail}
 use Rattle.laws.proofs.Choice.{and-left, and-right}
 use Rattle.laws.proofs.ListLaws.{left, left-none, rest-is, all-run, all-here, all-next}
 use Rattle.record.specs.declared.Mode.{Mode}
-use Rattle.record.specs.declared.Mode.the-variants.{Loose, Exact}
+use Rattle.record.specs.Record.{isExact, isFormer}
 use Rattle.number.specs.Words.{blank, unled}
-use Rattle.number.specs.Number.{digit, value, ended, lean, integerIs, integerAt, integerOf}
+use Rattle.number.specs.Number.{digit, value, parted, ended, lean, integerIs, integerAt, integerOf}
 use Rattle.number.specs.declared.Whole.{Whole}
 use Rattle.number.specs.declared.Whole.the-variants as Whole
 
@@ -81,27 +81,38 @@ pub ruleset value-ways = (value-from, value-fits, value-more-fits, value-more, v
 
 -- ---- the end, and zeros in front
 
-pub ended-none : (s : List ℕ) → length s ≡ 0 → true ≡ ended s
-unfolding ended
-ended-none [] e = refl
-ended-none (b ∷ s) e = absurd (omega arith)
+pub parted-none : (s : List ℕ) → length s ≡ 0 → true ≡ parted s
+unfolding parted
+parted-none [] e = refl
+parted-none (b ∷ s) e = absurd (omega arith)
 
 module _ (s : List ℕ) (h : length s ≡ 0 → ⊥) where
-  ended-by : eqb (getD s 0 0) 32 ≡ ended s
-  unfolding ended
-  ended-by = go s h
+  parted-by : eqb (getD s 0 0) 32 ≡ parted s
+  unfolding parted
+  parted-by = go s h
     where
-      go : (t : List ℕ) → (length t ≡ 0 → ⊥) → eqb (getD t 0 0) 32 ≡ ended t
+      go : (t : List ℕ) → (length t ≡ 0 → ⊥) → eqb (getD t 0 0) 32 ≡ parted t
       go [] e = absurd (e refl)
       go (b ∷ t) e = refl
 
-  pub ended-blank : getD s 0 0 ≡ 32 → true ≡ ended s
-  ended-blank e = sym (eq-eqb (getD s 0 0) 32 e) ∙ ended-by
+  pub parted-blank : getD s 0 0 ≡ 32 → true ≡ parted s
+  parted-blank e = sym (eq-eqb (getD s 0 0) 32 e) ∙ parted-by
 
-  pub ended-not : (getD s 0 0 ≡ 32 → ⊥) → false ≡ ended s
-  ended-not e = sym (ne-eqb (getD s 0 0) 32 e) ∙ ended-by
+  pub parted-not : (getD s 0 0 ≡ 32 → ⊥) → false ≡ parted s
+  parted-not e = sym (ne-eqb (getD s 0 0) 32 e) ∙ parted-by
 
-pub ruleset ended-ways = (ended-none, ended-blank, ended-not)
+pub ruleset parted-ways = (parted-none, parted-blank, parted-not)
+
+module _ (mode : Mode) (s : List ℕ) (x : Bool) (m : x ≡ isFormer mode) (r : Bool) where
+  pub ended-former : x ≡ true → r ≡ parted s → r ≡ ended mode s
+  unfolding ended
+  ended-former y e = e ∙ rw (← m, y)
+
+  pub ended-now : x ≡ false → r ≡ all blank s → r ≡ ended mode s
+  unfolding ended
+  ended-now y e = e ∙ rw (← m, y)
+
+pub ruleset ended-ways = (ended-former, ended-now)
 
 pub lean-none : (t : List ℕ) (n : ℕ) → (n ≡ 1 → ⊥) → length t ≡ 0 → true ≡ lean t n
 unfolding lean
@@ -142,33 +153,33 @@ module _ (mode : Mode) (size : ℕ) (t : List ℕ) (n : ℕ) (q : n ≡ run digi
   unfolding integerAt integerIs
   integer-many h = rw (← q, le-leb 1 n (omega arith), lt-leb n 4 h)
 
-  module _ (h : 1 ≤ n) (k : n ≤ 4) (r : Bool) (e : r ≡ ended (tail t n)) where
+  module _ (h : 1 ≤ n) (k : n ≤ 4) (r : Bool) (e : r ≡ ended mode (tail t n)) where
     pub integer-tail : not r ≡ true → Whole.Malformed ≡ integerAt mode size t
     unfolding integerAt integerIs
     integer-tail f = rw (← q, le-leb 1 n h, le-leb n 4 k, ← rest-is t n, ← e, not-true r f)
 
-    module _ (f : not r ≡ false) where
-      pub integer-loose : (v : ℕ) → mode ≡ Loose → v ≡ value 0 (take n t) → Whole.Is v ≡ integerAt mode size t
+    module _ (f : not r ≡ false) (x : Bool) (o : x ≡ isExact mode) where
+      pub integer-loose : (v : ℕ) → not x ≡ true → v ≡ value 0 (take n t) → Whole.Is v ≡ integerAt mode size t
       unfolding integerAt integerIs
-      integer-loose v m w = rw (← q, le-leb 1 n h, le-leb n 4 k, ← rest-is t n, ← e, not-false r f, m, w)
+      integer-loose v m w = rw (← q, le-leb 1 n h, le-leb n 4 k, ← rest-is t n, ← e, not-false r f, ← o, m, w)
 
-      module _ (m : mode ≡ Exact) where
+      module _ (m : not x ≡ false) where
         pub integer-size : (size ≡ 4 → ⊥) → Whole.Malformed ≡ integerAt mode size t
         unfolding integerAt integerIs
-        integer-size a = rw (← q, le-leb 1 n h, le-leb n 4 k, ← rest-is t n, ← e, not-false r f, m, ne-eqb size 4 a)
+        integer-size a = rw (← q, le-leb 1 n h, le-leb n 4 k, ← rest-is t n, ← e, not-false r f, ← o, m, ne-eqb size 4 a)
 
         pub integer-more : size ≡ 4 → (length t ≡ n → ⊥) → Whole.Malformed ≡ integerAt mode size t
         unfolding integerAt integerIs
-        integer-more a b = rw (← q, le-leb 1 n h, le-leb n 4 k, ← rest-is t n, ← e, not-false r f, m, eq-eqb size 4 a, ne-eqb (length t) n b)
+        integer-more a b = rw (← q, le-leb 1 n h, le-leb n 4 k, ← rest-is t n, ← e, not-false r f, ← o, m, eq-eqb size 4 a, ne-eqb (length t) n b)
 
         module _ (a : size ≡ 4) (b : length t ≡ n) (l : Bool) (d : l ≡ lean t n) where
           pub integer-zero : l ≡ false → Whole.Malformed ≡ integerAt mode size t
           unfolding integerAt integerIs
-          integer-zero g = rw (← q, le-leb 1 n h, le-leb n 4 k, ← rest-is t n, ← e, not-false r f, m, eq-eqb size 4 a, eq-eqb (length t) n b, ← d, g)
+          integer-zero g = rw (← q, le-leb 1 n h, le-leb n 4 k, ← rest-is t n, ← e, not-false r f, ← o, m, eq-eqb size 4 a, eq-eqb (length t) n b, ← d, g)
 
           pub integer-exact : (v : ℕ) → l ≡ true → v ≡ value 0 (take n t) → Whole.Is v ≡ integerAt mode size t
           unfolding integerAt integerIs
-          integer-exact v g w = rw (← q, le-leb 1 n h, le-leb n 4 k, ← rest-is t n, ← e, not-false r f, m, eq-eqb size 4 a, eq-eqb (length t) n b, ← d, g, w)
+          integer-exact v g w = rw (← q, le-leb 1 n h, le-leb n 4 k, ← rest-is t n, ← e, not-false r f, ← o, m, eq-eqb size 4 a, eq-eqb (length t) n b, ← d, g, w)
 
 pub ruleset integer-ways = (integer-none, integer-many, integer-tail, integer-loose, integer-size, integer-more, integer-zero, integer-exact)
 

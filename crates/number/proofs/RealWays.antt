@@ -17,7 +17,7 @@ use Rattle.laws.specs.Lists.{run, all, tail}
 use Rattle.laws.proofs.Choice.{and-left, and-right}
 use Rattle.laws.proofs.ListLaws.{rest-is, run-le, all-run}
 use Rattle.record.specs.declared.Mode.{Mode}
-use Rattle.record.specs.declared.Mode.the-variants.{Loose, Exact}
+use Rattle.record.specs.Record.{isExact}
 use Rattle.number.specs.Words.{blank, unled}
 use Rattle.number.specs.Number.{digit, value, ended, lean, signOf, signs, signed, thousandths, isToken, isNeat, realIs, realAt, realSigned, realOf}
 use Rattle.number.specs.declared.Decimal.{Decimal}
@@ -120,30 +120,20 @@ module _ (sign : ℕ) (u : List ℕ) (n : ℕ) where
       unfolding isToken
       token-places e = rw (le-leb 1 n h, le-leb n 8 k, eq-eqb (getD u n 0) 46 p, ← rest-is u (n + 1), ← q, ne-eqb m 3 e)
 
-      module _ (e : m ≡ 3) (r : Bool) (o : r ≡ ended (tail u (n + 4))) where
-        pub token-tail : not r ≡ true → false ≡ isToken sign u n
+      module _ (e : m ≡ 3) (g : ℕ) (w : g ≡ signs sign) where
+        token-by : leb (g + n + 4) 12 ≡ isToken sign u n
         unfolding isToken
-        token-tail f =
-            rw (le-leb 1 n h, le-leb n 8 k, eq-eqb (getD u n 0) 46 p, ← rest-is u (n + 1), ← q, eq-eqb m 3 e, ← rest-is u (n + 4), ← o, not-true r f)
+        token-by = rw (le-leb 1 n h, le-leb n 8 k, eq-eqb (getD u n 0) 46 p, ← rest-is u (n + 1), ← q, eq-eqb m 3 e, w)
 
-        module _ (f : not r ≡ false) (g : ℕ) (w : g ≡ signs sign) where
-          token-by : leb (g + n + 4) 12 ≡ isToken sign u n
-          unfolding isToken
-          token-by =
-              rw (le-leb 1 n h, le-leb n 8 k, eq-eqb (getD u n 0) 46 p, ← rest-is u (n + 1), ← q, eq-eqb m 3 e, ← rest-is u (n + 4), ← o, not-false r f, w)
+        pub token-is : g + n + 4 ≤ 12 → true ≡ isToken sign u n
+        token-is l = sym (le-leb (g + n + 4) 12 l) ∙ token-by
 
-          pub token-is : g + n + 4 ≤ 12 → true ≡ isToken sign u n
-          token-is l = sym (le-leb (g + n + 4) 12 l) ∙ token-by
-
-          pub token-long : 12 < g + n + 4 → false ≡ isToken sign u n
-          token-long l = sym (lt-leb (g + n + 4) 12 l) ∙ token-by
+        pub token-long : 12 < g + n + 4 → false ≡ isToken sign u n
+        token-long l = sym (lt-leb (g + n + 4) 12 l) ∙ token-by
 
 -- three digits past the point are there
 pub places-within : (u : List ℕ) (n : ℕ) → run digit (drop (n + 1) u) ≡ 3 → n + 4 ≤ length u
 places-within u n h = omega (arith, run-le digit (drop (n + 1) u), length-drop (n + 1) u)
-
-pub places-in : (u : List ℕ) (n m : ℕ) → m ≡ run digit (tail u (n + 1)) → m ≡ 3 → n + 4 ≤ length u
-places-in u n m q e = places-within u n (sym (ap (run digit) (rest-is u (n + 1))) ∙ sym q ∙ e)
 
 module _ (sign n g : ℕ) (k : n ≤ 8) (w : g ≡ signs sign) where
   pub width-fits : Fits w64 (g + n)
@@ -152,13 +142,13 @@ module _ (sign n g : ℕ) (k : n ≤ 8) (w : g ≡ signs sign) where
   pub width-fits-4 : Fits w64 (g + n + 4)
   width-fits-4 = record { fits = omega (arith, signs-most sign) }
 
-pub ruleset token-ways = (token-none, token-many, token-point, token-cut, token-places, token-tail, token-is, token-long, width-fits, width-fits-4)
+pub ruleset token-ways = (token-none, token-many, token-point, token-cut, token-places, token-is, token-long, width-fits, width-fits-4)
 
 -- what a token has
 module _ (sign : ℕ) (u : List ℕ) (n : ℕ) (h : isToken sign u n ≡ true) where
   to-places : (leb 1 n && leb n 8 && eqb (getD u n 0) 46 && eqb (run digit (drop (n + 1) u)) 3) ≡ true
   unfolding isToken
-  to-places = and-left _ (ended (drop (n + 4) u)) (and-left _ (leb (signs sign + n + 4) 12) h)
+  to-places = and-left _ (leb (signs sign + n + 4) 12) h
 
   pub token-eight : n ≤ 8
   token-eight =
@@ -172,7 +162,7 @@ module _ (sign : ℕ) (u : List ℕ) (n : ℕ) (h : isToken sign u n ≡ true) w
   unfolding isToken
   token-twelve =
       leb-true _ 12
-      (and-right (leb 1 n && leb n 8 && eqb (getD u n 0) 46 && eqb (run digit (drop (n + 1) u)) 3 && ended (drop (n + 4) u)) (leb (signs sign + n + 4) 12) h)
+      (and-right (leb 1 n && leb n 8 && eqb (getD u n 0) 46 && eqb (run digit (drop (n + 1) u)) 3) (leb (signs sign + n + 4) 12) h)
 
 -- ---- its value
 
@@ -258,29 +248,41 @@ module _ (sign : ℕ) (u : List ℕ) (n : ℕ) (r : Bool) (e : r ≡ isToken sig
   pub neat-asks : (m : ℕ) → m ≡ thousandths u n → (m ≡ thousandths u n) × (n ≤ 8)
   neat-asks m w = (w, token-eight sign u n (sym e ∙ not-false r f))
 
+  -- what stands behind it begins in the list
+  pub token-within : n + 4 ≤ length u
+  token-within = places-within u n (token-three sign u n (sym e ∙ not-false r f))
+
+  pub token-fits : Fits w64 (n + 4)
+  token-fits = record { fits = omega (arith, token-eight sign u n (sym e ∙ not-false r f)) }
+
 module _ (mode : Mode) (size sign : ℕ) (u : List ℕ) (n : ℕ) (q : n ≡ run digit u) (r : Bool) (e : r ≡ isToken sign u n) where
   pub real-bad : not r ≡ true → Decimal.Malformed ≡ realAt mode size sign u
   unfolding realAt realIs
   real-bad f = rw (← q, ← e, not-true r f)
 
-  module _ (f : not r ≡ false) where
-    -- a signed number in an enum is read back from its bits
-    pub real-loose : (z : ℤ) (m : ℕ) → SFits w64 z → mode ≡ Loose → m ≡ thousandths u n → z ≡ signed sign m
-        → Decimal.Is (toZ w64 (ofZ w64 z)) ≡ realAt mode size sign u
+  module _ (f : not r ≡ false) (b : Bool) (g : b ≡ ended mode (tail u (n + 4))) where
+    pub real-tail : not b ≡ true → Decimal.Malformed ≡ realAt mode size sign u
     unfolding realAt realIs
-    real-loose z m o l w v = ap Decimal.Is (toZ-ofZ w64 z o) ∙ rw (← q, ← e, not-false r f, l, v, w)
+    real-tail h = rw (← q, ← e, not-false r f, ← rest-is u (n + 4), ← g, not-true b h)
 
-    module _ (x : mode ≡ Exact) (k : Bool) (o : k ≡ isNeat size sign u n) where
-      pub real-exact : (z : ℤ) (m : ℕ) → SFits w64 z → k ≡ true → m ≡ thousandths u n → z ≡ signed sign m
+    module _ (h : not b ≡ false) (a : Bool) (j : a ≡ isExact mode) where
+      -- a signed number in an enum is read back from its bits
+      pub real-loose : (z : ℤ) (m : ℕ) → SFits w64 z → a ≡ false → m ≡ thousandths u n → z ≡ signed sign m
           → Decimal.Is (toZ w64 (ofZ w64 z)) ≡ realAt mode size sign u
       unfolding realAt realIs
-      real-exact z m p l w v = ap Decimal.Is (toZ-ofZ w64 z p) ∙ rw (← q, ← e, not-false r f, x, ← o, l, v, w)
+      real-loose z m o l w v = ap Decimal.Is (toZ-ofZ w64 z o) ∙ rw (← q, ← e, not-false r f, ← rest-is u (n + 4), ← g, not-false b h, ← j, l, v, w)
 
-      pub real-untidy : k ≡ false → Decimal.Malformed ≡ realAt mode size sign u
-      unfolding realAt realIs
-      real-untidy l = rw (← q, ← e, not-false r f, x, ← o, l)
+      module _ (x : a ≡ true) (k : Bool) (o : k ≡ isNeat size sign u n) where
+        pub real-exact : (z : ℤ) (m : ℕ) → SFits w64 z → k ≡ true → m ≡ thousandths u n → z ≡ signed sign m
+            → Decimal.Is (toZ w64 (ofZ w64 z)) ≡ realAt mode size sign u
+        unfolding realAt realIs
+        real-exact z m p l w v = ap Decimal.Is (toZ-ofZ w64 z p) ∙ rw (← q, ← e, not-false r f, ← rest-is u (n + 4), ← g, not-false b h, ← j, x, ← o, l, v, w)
 
-pub ruleset real-ways = (real-bad, real-loose, real-exact, real-untidy)
+        pub real-untidy : k ≡ false → Decimal.Malformed ≡ realAt mode size sign u
+        unfolding realAt realIs
+        real-untidy l = rw (← q, ← e, not-false r f, ← rest-is u (n + 4), ← g, not-false b h, ← j, x, ← o, l)
+
+pub ruleset real-ways = (token-within, token-fits, real-bad, real-tail, real-loose, real-exact, real-untidy)
 
 pub signed-is : (mode : Mode) (size : ℕ) (t : List ℕ) (sign k : ℕ) (d : Decimal) → sign ≡ signOf t → k ≡ signs sign → d ≡ realAt mode size sign (tail t k)
     → d ≡ realSigned mode size t

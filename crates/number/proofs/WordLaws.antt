@@ -3,7 +3,7 @@
 use Prim.Native.Nat.{ℕ, zero, suc, _+_, _-_, _≤_}
 use mathlib.Core.Path.{_≡_, refl, sym, _∙_, ap}
 use mathlib.Core.List.{List, [], _∷_}
-use mathlib.Core.Bool.{true, false, cond, _||_}
+use mathlib.Core.Bool.{true, false, cond, not, _||_}
 use native.Mathlib.Nat.{add-zero}
 use native.Mathlib.Omega.{arith}
 use lib.ListN.{length, getD, take, drop, length-drop}
@@ -14,8 +14,9 @@ use Rattle.laws.specs.Lists.{run, kept, all}
 use Rattle.laws.proofs.Choice.{cond-first}
 use Rattle.laws.proofs.ListLaws.{run-le, run-fails, kept-le, kept-last, kept-whole, all-take, all-drop}
 use Rattle.record.specs.declared.Mode.{Mode}
-use Rattle.record.specs.declared.Mode.the-variants.{Loose, Exact}
-use Rattle.record.specs.Record.{isLoose, plain}
+use Rattle.record.specs.declared.Mode.the-variants.{Loose, Exact, Former}
+use Rattle.record.specs.Record.{isExact, widens, plain}
+use Rattle.record.proofs.RecordLaws.{rule-widens}
 use Rattle.number.specs.Words.{blank, unled, trimmed, wordOf}
 use Rattle.number.specs.declared.Word.{Word}
 use Rattle.number.specs.declared.Word.the-variants as Word
@@ -65,10 +66,10 @@ trimmed-plain c e = all-take plain (unled c) (kept blank (unled c)) (all-drop pl
 
 -- what is told of a word, by the test that passed
 module _ (mode : Mode) (c : List ℕ) (start len : ℕ) (h : wordOf mode c ≡ Word.Is start len) where
-  word-by : ((isLoose mode || eqb (length (trimmed c)) (length c)) ≡ true) × (Word.Is (run blank c) (length (trimmed c)) ≡ Word.Is start len)
+  word-by : ((not (isExact mode) || eqb (length (trimmed c)) (length c)) ≡ true) × (Word.Is (run blank c) (length (trimmed c)) ≡ Word.Is start len)
   unfolding wordOf
   word-by =
-      cond-first (isLoose mode || eqb (length (trimmed c)) (length c)) (Word.Is (run blank c) (length (trimmed c))) Word.Padded (Word.Is start len)
+      cond-first (not (isExact mode) || eqb (length (trimmed c)) (length c)) (Word.Is (run blank c) (length (trimmed c))) Word.Padded (Word.Is start len)
       (λ e. let z : _≡_ {A = ℕ} 0 1 = cc in omega arith) h
 
   word-start : run blank c ≡ start
@@ -91,7 +92,7 @@ word-exact c start len h =
     let l : len ≡ length c = w .2 ∙ k in
     (sym (w .1) ∙ rw (s, l) (take-length c), s, l)
 
--- a content with no blank at either end is read in either mode
+-- a content with no blank at either end is read in every mode
 pub word-make : (mode : Mode) (c : List ℕ) → blank (getD c 0 0) ≡ false → blank (getD c (length c - 1) 0) ≡ false → wordOf mode c ≡ Word.Is 0 (length c)
 unfolding wordOf
 word-make mode c f l =
@@ -100,11 +101,14 @@ word-make mode c f l =
     let s : run blank c ≡ 0 = omega (arith, led-in c) in
     rw (eq-eqb (length (trimmed c)) (length c) k, k, s) (go mode)
   where
-    go : (m : Mode) → cond (isLoose m || true) (Word.Is 0 (length c)) Word.Padded ≡ Word.Is 0 (length c)
+    go : (m : Mode) → cond (not (isExact m) || true) (Word.Is 0 (length c)) Word.Padded ≡ Word.Is 0 (length c)
     go Loose = refl
     go Exact = refl
+    go Former = refl
 
--- what exact mode takes, loose mode takes as the same
-pub word-widens : (c : List ℕ) (start len : ℕ) → wordOf Exact c ≡ Word.Is start len → wordOf Loose c ≡ Word.Is start len
+-- what one mode takes, a wider one takes as the same
+pub word-widens : (from to : Mode) → widens from to ≡ true → (c : List ℕ) (start len : ℕ) → wordOf from c ≡ Word.Is start len → wordOf to c ≡ Word.Is start len
 unfolding wordOf
-word-widens c start len h = word-by Exact c start len h .1
+word-widens from to wide c start len h =
+    let w = word-by from c start len h in
+    rw (rule-widens from to wide (eqb (length (trimmed c)) (length c)) (w .0)) (w .1)

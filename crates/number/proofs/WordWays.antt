@@ -2,14 +2,14 @@
 use Prim.Native.Nat.{ℕ}
 use mathlib.Core.Path.{_≡_, sym, _∙_, ap}
 use mathlib.Core.List.{List}
-use mathlib.Core.Bool.{true, false}
+use mathlib.Core.Bool.{Bool, true, false, not}
 use lib.ListN.{length}
 use lib.Seq.{length-take-le}
 use borrow.Author.Tests.{eq-eqb, ne-eqb}
 use Rattle.laws.specs.Lists.{run, kept, tail}
 use Rattle.laws.proofs.ListLaws.{rest-is, kept-le}
 use Rattle.record.specs.declared.Mode.{Mode}
-use Rattle.record.specs.declared.Mode.the-variants.{Loose, Exact}
+use Rattle.record.specs.Record.{isExact}
 use Rattle.number.specs.Words.{blank, unled, trimmed, wordOf}
 use Rattle.number.specs.declared.Word.the-variants as Word
 
@@ -31,16 +31,18 @@ module _ (mode : Mode) (c : List ℕ) (start len : ℕ) (q : start ≡ run blank
   unfolding unled
   len-is = k ∙ ap (kept blank) (rest-is c start) ∙ rw q (sym (trimmed-kept c))
 
-  pub word-loose : mode ≡ Loose → Word.Is start len ≡ wordOf mode c
-  unfolding wordOf
-  word-loose m = rw (m, q, len-is)
+  module _ (x : Bool) (m : x ≡ isExact mode) where
+    pub word-loose : not x ≡ true → Word.Is start len ≡ wordOf mode c
+    unfolding wordOf
+    word-loose y = rw (← m, y, q, len-is)
 
-  pub word-full : mode ≡ Exact → len ≡ length c → Word.Is start len ≡ wordOf mode c
-  unfolding wordOf
-  word-full m e = rw (m, q, ← len-is, eq-eqb len (length c) e)
+    module _ (y : not x ≡ false) where
+      pub word-full : len ≡ length c → Word.Is start len ≡ wordOf mode c
+      unfolding wordOf
+      word-full e = rw (← m, y, q, ← len-is, eq-eqb len (length c) e)
 
-  pub word-padded : mode ≡ Exact → (len ≡ length c → ⊥) → Word.Padded ≡ wordOf mode c
-  unfolding wordOf
-  word-padded m e = rw (m, ← len-is, ne-eqb len (length c) e)
+      pub word-padded : (len ≡ length c → ⊥) → Word.Padded ≡ wordOf mode c
+      unfolding wordOf
+      word-padded e = rw (← m, y, ← len-is, ne-eqb len (length c) e)
 
 pub ruleset word-ways = (word-loose, word-full, word-padded)

@@ -4,10 +4,10 @@ use mathlib.Core.Path.{_≡_, refl}
 use mathlib.Core.Bool.{true, false}
 use mathlib.Core.List.{List, [], _∷_}
 use lib.IntN.{pos, negℤ}
-use Rattle.laws.specs.Lists.{run, kept}
+use Rattle.laws.specs.Lists.{run, kept, all}
 use Rattle.laws.specs.Text.{text}
 use Rattle.record.specs.declared.Mode.{Mode}
-use Rattle.record.specs.declared.Mode.the-variants.{Loose, Exact}
+use Rattle.record.specs.declared.Mode.the-variants.{Loose, Exact, Former}
 use Rattle.number.specs.declared.Whole.{Whole}
 use Rattle.number.specs.declared.Whole.the-variants as Whole
 use Rattle.number.specs.declared.Decimal.{Decimal}
@@ -15,15 +15,15 @@ use Rattle.number.specs.declared.Decimal.the-variants as Decimal
 use Rattle.number.specs.declared.Word.{Word}
 use Rattle.number.specs.declared.Word.the-variants as Word
 use Rattle.number.specs.Words.{unled, trimmed, wordOf}
-use Rattle.number.specs.Number.{value, ended, lean, integerIs, integerAt, integerOf, signOf, signs, signed, thousandths, isToken, isNeat, realIs, realAt, realSigned, realOf, isReal}
+use Rattle.number.specs.Number.{value, parted, ended, lean, integerIs, integerAt, integerOf, signOf, signs, signed, thousandths, isToken, isNeat, realIs, realAt, realSigned, realOf, isReal}
 
 -- the definitions opened, so that they compute
 unfoldable pub computedInteger : Mode → List ℕ → Whole
-unfolding integerOf integerAt integerIs lean ended value unled run
+unfolding integerOf integerAt integerIs lean ended parted value unled run all
 computedInteger mode c = integerOf mode c
 
 unfoldable pub computedReal : Mode → List ℕ → Decimal
-unfolding realOf realSigned realAt realIs isNeat isToken thousandths signed signs signOf lean ended value unled run
+unfolding realOf realSigned realAt realIs isNeat isToken thousandths signed signs signOf lean ended parted value unled run all
 computedReal mode c = realOf mode c
 
 unfoldable pub computedWord : Mode → List ℕ → Word
@@ -102,11 +102,17 @@ integer-digits : (integerOf Loose (text "9999") ≡ Whole.Is 9999) × (integerOf
 unfolding computedInteger
 integer-digits = (refl, refl, refl, refl, refl, refl)
 
--- a blank ends the number, and what follows it is a tail; no sign, nothing else directly behind the digits
-integer-tail : (integerOf Loose (text "1 234") ≡ Whole.Is 1) × (integerOf Loose (text "     7 isole") ≡ Whole.Is 7) × (integerOf Loose (text "18x") ≡ Whole.Malformed)
-    × (integerOf Loose (text "-1") ≡ Whole.Malformed) × (integerOf Loose (text "+1") ≡ Whole.Malformed)
+-- behind the digits only blanks; no sign, nothing else directly behind them
+integer-end : (integerOf Loose (text "7  ") ≡ Whole.Is 7) × (integerOf Loose (text "1 234") ≡ Whole.Malformed) × (integerOf Loose (text "     7 isole") ≡ Whole.Malformed)
+    × (integerOf Loose (text "18x") ≡ Whole.Malformed) × (integerOf Loose (text "-1") ≡ Whole.Malformed) × (integerOf Loose (text "+1") ≡ Whole.Malformed)
 unfolding computedInteger
-integer-tail = (refl, refl, refl, refl, refl)
+integer-end = (refl, refl, refl, refl, refl, refl)
+
+-- in the former reading a blank ends the number, and what follows it is a tail, be it a number
+integer-tail : (integerOf Former (text "1 234") ≡ Whole.Is 1) × (integerOf Former (text "     7 isole") ≡ Whole.Is 7) × (integerOf Former (text "18x") ≡ Whole.Malformed)
+    × (integerOf Former (text "7  ") ≡ Whole.Is 7) × (integerOf Former (text " 018") ≡ Whole.Is 18) × (integerOf Former (text "12345 x") ≡ Whole.Malformed)
+unfolding computedInteger
+integer-tail = (refl, refl, refl, refl, refl, refl)
 
 -- exact: 4 characters, right aligned
 integer-exact : (integerOf Exact (text "  18") ≡ Whole.Is 18) × (integerOf Exact (text " 18") ≡ Whole.Malformed) × (integerOf Exact (text "   18") ≡ Whole.Malformed)
@@ -124,13 +130,19 @@ real-form : (realOf Loose (text ".500") ≡ Decimal.Malformed) × (realOf Loose 
 unfolding computedReal
 real-form = (refl, refl, refl, refl, refl, refl, refl, refl, refl)
 
--- what loose mode takes and exact mode does not: `+`, a zero in front, a tail, fewer characters
+-- what loose mode takes and exact mode does not: `+`, a zero in front, blanks behind, fewer characters
 real-loose : (realOf Loose (text "      +1.000") ≡ Decimal.Is (pos 1000)) × (realOf Loose (text "      00.005") ≡ Decimal.Is (pos 5))
-    × (realOf Loose (text "1.000 m") ≡ Decimal.Is (pos 1000)) × (realOf Exact (text "      +1.000") ≡ Decimal.Malformed)
+    × (realOf Loose (text "1.000  ") ≡ Decimal.Is (pos 1000)) × (realOf Exact (text "      +1.000") ≡ Decimal.Malformed)
     × (realOf Exact (text "      00.005") ≡ Decimal.Malformed) × (realOf Exact (text "1.000       ") ≡ Decimal.Malformed)
     × (realOf Exact (text "1.000") ≡ Decimal.Malformed) × (realOf Exact (text "       0.005") ≡ Decimal.Is (pos 5))
 unfolding computedReal
 real-loose = (refl, refl, refl, refl, refl, refl, refl, refl)
+
+-- a tail: in the former reading alone, and behind a blank
+real-tail : (realOf Former (text "1.000 m") ≡ Decimal.Is (pos 1000)) × (realOf Loose (text "1.000 m") ≡ Decimal.Malformed) × (realOf Former (text "1.000m") ≡ Decimal.Malformed)
+    × (realOf Former (text "-1.000 2.000") ≡ Decimal.Is (negℤ (pos 1000))) × (realOf Loose (text "-1.000 2.000") ≡ Decimal.Malformed)
+unfolding computedReal
+real-tail = (refl, refl, refl, refl, refl)
 
 -- the range's ends are in it, the next numbers are not
 real-range : (isReal (negℤ (pos 9999999999)) ≡ true) × (isReal (negℤ (pos 10000000000)) ≡ false) × (isReal (pos 99999999999) ≡ true) × (isReal (pos 100000000000) ≡ false)

@@ -1,4 +1,4 @@
-// What a record's content holds (document 01, "Records"): a word, an integer or a real, in either mode.
+// What a record's content holds (document 01, "Records"; 02, T-09): a word, an integer or a real, in each mode.
 // All of it is proved, and no public function has a `requires`: each takes any bytes. The record checks (length, bytes) are made before.
 ghost use mathlib.Core.Path.{_≡_};
 ghost use mathlib.Core.Bool.{true};
@@ -6,8 +6,10 @@ ghost use Prim.Native.Nat.{_+_, _^_, _<_, _≤_};
 ghost use lib.ListN.{length, drop};
 ghost use Rattle.laws.specs.Lists.{run, kept, all};
 ghost use Rattle.number.specs.Words.{blank, wordOf};
-ghost use Rattle.number.specs.Number.{digit, value, ended, lean, integerAt, integerOf, signOf, signs, signed, thousandths, isToken, isNeat, realAt, realSigned, realOf};
+ghost use Rattle.number.specs.Number.{digit, value, parted, ended, lean, integerAt, integerOf, signOf, signs, signed, thousandths, isToken, isNeat, realAt, realSigned, realOf};
 use record::Mode;
+use record::is_exact;
+use record::is_former;
 
 // The place and the length of a word in a content, or a blank at an end in exact mode.
 pub enum Word {
@@ -63,15 +65,13 @@ pub fn word_of(c: &[u8], mode: Mode) -> Word
 {
     let start = blanks(c);
     let len = unpadded(&c[start..]);
-    match mode {
-        Mode::Loose => Word::Is { start, len },
-        Mode::Exact => {
-            if len == c.len() {
-                return Word::Is { start, len };
-            }
-            Word::Padded
-        }
+    if !is_exact(mode) {
+        return Word::Is { start, len };
     }
+    if len == c.len() {
+        return Word::Is { start, len };
+    }
+    Word::Padded
 }
 
 fn wide(b: u8) -> usize
@@ -112,14 +112,34 @@ fn value_of(s: &[u8]) -> usize
     v
 }
 
+// Blanks alone, or nothing.
+fn are_blanks(s: &[u8]) -> bool
+    ensures { λ r. ⌜ r ≡ all blank (now (s .entry)) ⌝ }
+{
+    if blanks(s) < s.len() {
+        return false;
+    }
+    true
+}
+
 // The end, or a blank and any tail.
-fn is_ended(s: &[u8]) -> bool
-    ensures { λ r. ⌜ r ≡ ended (now (s .entry)) ⌝ }
+fn is_parted(s: &[u8]) -> bool
+    ensures { λ r. ⌜ r ≡ parted (now (s .entry)) ⌝ }
 {
     if s.len() == 0 {
         return true;
     }
     if s[0] == BLANK { true } else { false }
+}
+
+// What may stand behind a number: blanks; in the former reading a blank and any tail.
+fn is_ended(s: &[u8], mode: Mode) -> bool
+    ensures { λ r. ⌜ r ≡ ended mode (now (s .entry)) ⌝ }
+{
+    if is_former(mode) {
+        return is_parted(s);
+    }
+    are_blanks(s)
 }
 
 // Of `n` digits at the front, no zero comes first except where it is the only one.
@@ -146,24 +166,22 @@ fn integer_at(t: &[u8], size: usize, mode: Mode) -> Whole
     if n > 4 {
         return Whole::Malformed;
     }
-    if !is_ended(&t[n..]) {
+    if !is_ended(&t[n..], mode) {
         return Whole::Malformed;
     }
-    match mode {
-        Mode::Loose => Whole::Is(value_of(&t[..n])),
-        Mode::Exact => {
-            if size != 4 {
-                return Whole::Malformed;
-            }
-            if t.len() != n {
-                return Whole::Malformed;
-            }
-            if is_lean(t, n) {
-                return Whole::Is(value_of(&t[..n]));
-            }
-            Whole::Malformed
-        }
+    if !is_exact(mode) {
+        return Whole::Is(value_of(&t[..n]));
     }
+    if size != 4 {
+        return Whole::Malformed;
+    }
+    if t.len() != n {
+        return Whole::Malformed;
+    }
+    if is_lean(t, n) {
+        return Whole::Is(value_of(&t[..n]));
+    }
+    Whole::Malformed
 }
 
 // A content as an integer.
@@ -216,7 +234,7 @@ fn thousandths_of(u: &[u8], n: usize) -> usize
     value_of(&u[..n]) * 1000 + value_of(&u[a..e])
 }
 
-// A token, and then the end or a blank: what follows the sign is `u`, with `n` digits at its front.
+// A token: what follows the sign is `u`, with `n` digits at its front.
 fn is_token(u: &[u8], n: usize, sign: u8) -> bool
     ensures { λ r. ⌜ r ≡ isToken sign (now (u .entry)) n ⌝ }
 {
@@ -233,11 +251,7 @@ fn is_token(u: &[u8], n: usize, sign: u8) -> bool
         return false;
     }
     let a = n + 1;
-    let e = n + 4;
     if digits(&u[a..]) != 3 {
-        return false;
-    }
-    if !is_ended(&u[e..]) {
         return false;
     }
     if sign_len(sign) + n + 4 <= 12 {
@@ -278,16 +292,18 @@ fn real_at(u: &[u8], size: usize, sign: u8, mode: Mode) -> Decimal
     if !is_token(u, n, sign) {
         return Decimal::Malformed;
     }
-    let m = thousandths_of(u, n);
-    match mode {
-        Mode::Loose => Decimal::Is(with_sign(sign, m)),
-        Mode::Exact => {
-            if is_neat(u, n, size, sign, m) {
-                return Decimal::Is(with_sign(sign, m));
-            }
-            Decimal::Malformed
-        }
+    let e = n + 4;
+    if !is_ended(&u[e..], mode) {
+        return Decimal::Malformed;
     }
+    let m = thousandths_of(u, n);
+    if is_exact(mode) {
+        if is_neat(u, n, size, sign, m) {
+            return Decimal::Is(with_sign(sign, m));
+        }
+        return Decimal::Malformed;
+    }
+    Decimal::Is(with_sign(sign, m))
 }
 
 fn real_signed(t: &[u8], size: usize, mode: Mode) -> Decimal

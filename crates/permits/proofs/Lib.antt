@@ -5,6 +5,7 @@ pub mod Cursors
 pub mod Readings
 pub mod Writings
 pub mod Listings
+pub mod Conversions
 pub mod Tiles
 pub mod SmallSheets
 pub mod Borders

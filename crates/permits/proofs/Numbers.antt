@@ -10,7 +10,7 @@ use denote.Triple.Clauses.{AtExit}
 use denote.Ref.{now}
 use Rattle.laws.specs.Text.{text}
 use Rattle.record.specs.declared.Mode.{Mode}
-use Rattle.record.specs.declared.Mode.the-variants.{Loose, Exact}
+use Rattle.record.specs.declared.Mode.the-variants.{Loose, Exact, Former}
 use Rattle.number.specs.declared.Whole.{Whole}
 use Rattle.number.specs.declared.Whole.the-variants as Whole
 use Rattle.number.specs.declared.Decimal.{Decimal}
@@ -45,7 +45,32 @@ five : integerOf Loose (text "12345") ≡ Whole.Malformed
 unfolding computedInteger
 five = refl
 
+-- a note behind a number
+noted : integerOf Loose (text "18 8") ≡ Whole.Malformed
+unfolding computedInteger
+noted = refl
+
+noted-former : integerOf Former (text "18 8") ≡ Whole.Is 18
+unfolding computedInteger
+noted-former = refl
+
 -- with their columns
+noted-placed : integerPlaced Loose (text "18 8") ≡ PlacedInteger.Malformed 4
+unfolding computedPlaced
+noted-placed = refl
+
+noted-former-placed : integerPlaced Former (text "18 8") ≡ PlacedInteger.Is 18
+unfolding computedPlaced
+noted-former-placed = refl
+
+noted-real : realPlaced Loose (text "-1.000 2.000") ≡ PlacedReal.Malformed 8
+unfolding computedPlaced
+noted-real = refl
+
+noted-former-real : realPlaced Former (text "-1.000 2.000") ≡ PlacedReal.Is (negsuc 999)
+unfolding computedPlaced
+noted-former-real = refl
+
 eighteen-placed : integerPlaced Loose ledByZero ≡ PlacedInteger.Is 18
 unfolding computedPlaced
 eighteen-placed = refl
@@ -89,6 +114,12 @@ module _ (κs : Lfts 1) (a : ArgsD integer.signature κs) (r : ResD integer.sign
   pub integer-five-digits : IntegerOnly (text "12345") Loose Whole.Malformed
   integer-five-digits = integer-only five
 
+  pub integer-noted : IntegerOnly (text "18 8") Loose Whole.Malformed
+  integer-noted = integer-only noted
+
+  pub integer-noted-former : IntegerOnly (text "18 8") Former (Whole.Is 18)
+  integer-noted-former = integer-only noted-former
+
 -- ---- `real`
 
 module _ (κs : Lfts 1) (a : ArgsD real.signature κs) (r : ResD real.signature κs) (e : AtExit real.ended κs) (post : real-reads.Learnt κs a r e) where
@@ -123,6 +154,9 @@ module _ (κs : Lfts 1) (a : ArgsD placed-integer.signature κs) (r : ResD place
   pub placed-integer-column : PlacedIntegerOnly ledByZero Exact (PlacedInteger.Malformed 2)
   placed-integer-column = placed-integer-only zero-placed
 
+  pub placed-integer-noted : PlacedIntegerOnly (text "18 8") Loose (PlacedInteger.Malformed 4)
+  placed-integer-noted = placed-integer-only noted-placed
+
 -- ---- `placed_real`
 
 module _ (κs : Lfts 1) (a : ArgsD placed-real.signature κs) (r : ResD placed-real.signature κs) (e : AtExit placed-real.ended κs) (post : placed-real-reads.Learnt κs a r e) where
@@ -138,7 +172,10 @@ module _ (κs : Lfts 1) (a : ArgsD placed-real.signature κs) (r : ResD placed-r
   pub placed-real-column : PlacedRealOnly minusZero Exact (PlacedReal.Malformed 12)
   placed-real-column = placed-real-only minus-zero-exact
 
--- ---- `cxf_integer`: mode 2 is exact
+  pub placed-real-noted : PlacedRealOnly (text "-1.000 2.000") Loose (PlacedReal.Malformed 8)
+  placed-real-noted = placed-real-only noted-real
+
+-- ---- `cxf_integer`: mode 0 is loose, mode 2 the former reading, mode 3 exact
 
 module _ (κs : Lfts 1) (a : ArgsD cxf-integer.signature κs) (r : ResD cxf-integer.signature κs) (e : AtExit cxf-integer.ended κs) (post : cxf-integer-reads.Learnt κs a r e) where
   abbrev pub CxfIntegerOnly : List ℕ → ℕ → CxfNumber → Type 0
@@ -150,11 +187,17 @@ module _ (κs : Lfts 1) (a : ArgsD cxf-integer.signature κs) (r : ResD cxf-inte
   pub cxf-integer-answers : CxfIntegerOnly ledByZero 0 (record { number = 0; column = 0; value = pos 18 })
   cxf-integer-answers = cxf-integer-only eighteen-placed
 
-  pub cxf-integer-needless-zero : CxfIntegerOnly ledByZero 2 (record { number = 8; column = 2; value = pos 0 })
+  pub cxf-integer-needless-zero : CxfIntegerOnly ledByZero 3 (record { number = 8; column = 2; value = pos 0 })
   cxf-integer-needless-zero = cxf-integer-only zero-placed
 
   pub cxf-integer-five-digits : CxfIntegerOnly (text "12345") 0 (record { number = 8; column = 5; value = pos 0 })
   cxf-integer-five-digits = cxf-integer-only five-placed
+
+  pub cxf-integer-noted : CxfIntegerOnly (text "18 8") 0 (record { number = 8; column = 4; value = pos 0 })
+  cxf-integer-noted = cxf-integer-only noted-placed
+
+  pub cxf-integer-noted-former : CxfIntegerOnly (text "18 8") 2 (record { number = 0; column = 0; value = pos 18 })
+  cxf-integer-noted-former = cxf-integer-only noted-former-placed
 
 -- ---- `cxf_real`
 
@@ -165,11 +208,17 @@ module _ (κs : Lfts 1) (a : ArgsD cxf-real.signature κs) (r : ResD cxf-real.si
   cxf-real-only : {c : List ℕ} {mode : ℕ} {x : PlacedReal} → realPlaced (modeOf mode) c ≡ x → CxfRealOnly c mode (realTold x)
   cxf-real-only q c mode = post ∙ rw (c, mode, q) refl
 
-  pub cxf-real-answers : CxfRealOnly tiny 2 (record { number = 0; column = 0; value = negsuc 4 })
+  pub cxf-real-answers : CxfRealOnly tiny 3 (record { number = 0; column = 0; value = negsuc 4 })
   cxf-real-answers = cxf-real-only tiny-placed
 
   pub cxf-real-minus-zero-loose : CxfRealOnly minusZero 0 (record { number = 0; column = 0; value = pos 0 })
   cxf-real-minus-zero-loose = cxf-real-only minus-zero-loose
 
-  pub cxf-real-minus-zero-exact : CxfRealOnly minusZero 2 (record { number = 8; column = 12; value = pos 0 })
+  pub cxf-real-minus-zero-exact : CxfRealOnly minusZero 3 (record { number = 8; column = 12; value = pos 0 })
   cxf-real-minus-zero-exact = cxf-real-only minus-zero-exact
+
+  pub cxf-real-noted : CxfRealOnly (text "-1.000 2.000") 0 (record { number = 8; column = 8; value = pos 0 })
+  cxf-real-noted = cxf-real-only noted-real
+
+  pub cxf-real-noted-former : CxfRealOnly (text "-1.000 2.000") 2 (record { number = 0; column = 0; value = negsuc 999 })
+  cxf-real-noted-former = cxf-real-only noted-former-real

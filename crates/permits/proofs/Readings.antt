@@ -9,7 +9,7 @@ use borrow.Fn.World.{ArgsD, ResD}
 use denote.Triple.Clauses.{AtExit}
 use denote.Ref.{now}
 use Rattle.laws.specs.Text.{text}
-use Rattle.record.specs.declared.Mode.the-variants.{Loose, Exact}
+use Rattle.record.specs.declared.Mode.the-variants.{Loose, Exact, Former}
 use Rattle.heading.specs.declared.Header.{Header}
 use Rattle.sheet.specs.Tables.{Tables}
 use Rattle.sheet.specs.Reading.{sheet, reading}
@@ -67,6 +67,10 @@ tailed = text "MAPPA\r\nZ999_000100\r\n    1000.000\r\nEOF\r\nx"
 abbrev pub badScale : List ℕ
 badScale = text "MAPPA\nZ999_000100\n1000.0000\n"
 
+-- a note behind the scale of a map without elements
+abbrev pub noted : List ℕ
+noted = text "MAPPA\nZ999_000100\n1000.000 x\nEOF"
+
 abbrev pub itsSheet : Outcome
 itsSheet = readWith needs header
 
@@ -106,6 +110,17 @@ refused-tailed x = refl
 refused-scale : (x : Rooms) → readOf Loose badScale x ≡ refusedIn 9 (Refused 8 3 18)
 unfolding readOf computedColumn
 refused-scale x = refl
+
+refused-noted : (x : Rooms) → readOf Loose noted x ≡ refusedIn 10 (Refused 8 3 18)
+unfolding readOf computedColumn
+refused-noted x = refl
+
+abbrev pub noElements : Outcome
+noElements = readWith (record { rows = 0; letters = 0; islands = 0; points = 0 }) header
+
+noted-former : readOf Former noted (roomsOf 0 0 0 0) ≡ noElements
+unfolding readOf holdsAll computedColumn
+noted-former = refl
 
 -- ---- the four tables together
 
@@ -237,7 +252,7 @@ module _ (κs : Lfts 5) (a : ArgsD read.signature κs) (r : ResD read.signature 
       let q : r ≡ refusedWith (Refused 7 4 27) = read-refuses s in
       four (post .1 .0 ∙ rw q refl) (post .1 .1 .0 ∙ rw q refl) (post .1 .1 .1 .0 ∙ rw q refl) (post .1 .1 .1 .1 ∙ rw q refl)
 
--- ---- `cxf_read`: mode 0 is loose, mode 2 exact
+-- ---- `cxf_read`: mode 0 is loose, mode 2 the former reading, mode 3 exact
 
 module _ (κs : Lfts 5) (a : ArgsD cxf-read.signature κs) (r : ResD cxf-read.signature κs) (e : AtExit cxf-read.ended κs) (post : cxf-read-reads.Learnt κs a r e) where
   abbrev pub cxfLent : Tables
@@ -307,12 +322,24 @@ module _ (κs : Lfts 5) (a : ArgsD cxf-read.signature κs) (r : ResD cxf-read.si
   pub cxf-read-untouched : a .1 .0 ≡ 0 → now (a .0) ≡ raster → cxfLeft ≡ cxfLent
   cxf-read-untouched m s = cxf-untouched 7 4 27 0 (rw (m, s) (refused-raster _))
 
-  pub cxf-read-after-eof : a .1 .0 ≡ 2 → now (a .0) ≡ tailed
+  pub cxf-read-after-eof : a .1 .0 ≡ 3 → now (a .0) ≡ tailed
       → r ≡ record { number = 13; nth = 5; offset = 39; column = 0; rows = 0; letters = 0; islands = 0; points = 0; kind = 0; scale = pos 0; name = replicate 11 0 }
   cxf-read-after-eof m s = cxf-told (refusedWith (Refused 13 5 39)) (rw (m, s) (refused-tailed _))
 
-  pub cxf-read-after-eof-untouched : a .1 .0 ≡ 2 → now (a .0) ≡ tailed → cxfLeft ≡ cxfLent
+  pub cxf-read-after-eof-untouched : a .1 .0 ≡ 3 → now (a .0) ≡ tailed → cxfLeft ≡ cxfLent
   cxf-read-after-eof-untouched m s = cxf-untouched 13 5 39 0 (rw (m, s) (refused-tailed _))
+
+  -- a note behind a number: refused 8 in loose mode, at its first byte that is no blank; taken in the former reading
+  pub cxf-read-noted : a .1 .0 ≡ 0 → now (a .0) ≡ noted
+      → r ≡ record { number = 8; nth = 3; offset = 18; column = 10; rows = 0; letters = 0; islands = 0; points = 0; kind = 0; scale = pos 0; name = replicate 11 0 }
+  cxf-read-noted m s = cxf-told (refusedIn 10 (Refused 8 3 18)) (rw (m, s) (refused-noted _))
+
+  pub cxf-read-noted-untouched : a .1 .0 ≡ 0 → now (a .0) ≡ noted → cxfLeft ≡ cxfLent
+  cxf-read-noted-untouched m s = cxf-untouched 8 3 18 10 (rw (m, s) (refused-noted _))
+
+  pub cxf-read-noted-former : a .1 .0 ≡ 2 → now (a .0) ≡ noted → CxfLengths 0 0 0 0
+      → r ≡ record { number = 0; nth = 0; offset = 0; column = 0; rows = 0; letters = 0; islands = 0; points = 0; kind = 1; scale = pos 1000000; name = text "Z999_000100" }
+  cxf-read-noted-former m s n = cxf-told noElements (rw (m, s, n .0, n .1, n .2, n .3) noted-former)
 
   -- 8 says the column
   pub cxf-read-column : a .1 .0 ≡ 0 → now (a .0) ≡ badScale

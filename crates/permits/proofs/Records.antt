@@ -79,7 +79,7 @@ module _ (κs : Lfts 1) (a : ArgsD record-at.signature κs) (r : ResD record-at.
   pub record-bare-line-feed : Only unended 0 Exact false (Refused lineEnd)
   record-bare-line-feed = only bare
 
--- ---- `cxf_record_at`: mode 2 is exact, and a keyword is due where `due` is not 0
+-- ---- `cxf_record_at`: mode 3 is exact, and a keyword is due where `due` is not 0
 
 module _ (κs : Lfts 1) (a : ArgsD cxf-record-at.signature κs) (r : ResD cxf-record-at.signature κs) (e : AtExit cxf-record-at.ended κs) (post : cxf-record-at-reads.Learnt κs a r e) where
   abbrev pub CxfOnly : List ℕ → ℕ → ℕ → ℕ → CxfRecord → Type 0
@@ -88,10 +88,10 @@ module _ (κs : Lfts 1) (a : ArgsD cxf-record-at.signature κs) (r : ResD cxf-re
   cxf-only : {s : List ℕ} {at mode due : ℕ} {x : Found} → recordAt s at (modeOf mode) (isKeywordDue due) ≡ x → CxfOnly s at mode due (recordTold x)
   cxf-only q s at mode due = post ∙ rw (s, at, mode, due, q) refl
 
-  pub cxf-record-answers : CxfOnly two 7 2 0 (record { number = 0; start = 7; length = 5; next = 14 })
+  pub cxf-record-answers : CxfOnly two 7 3 0 (record { number = 0; start = 7; length = 5; next = 14 })
   cxf-record-answers = cxf-only second
 
-  pub cxf-record-cut : CxfOnly two 14 2 0 (record { number = 2; start = 0; length = 0; next = 0 })
+  pub cxf-record-cut : CxfOnly two 14 3 0 (record { number = 2; start = 0; length = 0; next = 0 })
   cxf-record-cut = cxf-only third
 
   pub cxf-record-eof-due : CxfOnly unended 2 0 5 (record { number = 0; start = 2; length = 3; next = 5 })
@@ -100,5 +100,5 @@ module _ (κs : Lfts 1) (a : ArgsD cxf-record-at.signature κs) (r : ResD cxf-re
   pub cxf-record-eof-not-due : CxfOnly unended 2 0 0 (record { number = 2; start = 0; length = 0; next = 0 })
   cxf-record-eof-not-due = cxf-only eof-not-due
 
-  pub cxf-record-bare-line-feed : CxfOnly unended 0 2 0 (record { number = 3; start = 0; length = 0; next = 0 })
+  pub cxf-record-bare-line-feed : CxfOnly unended 0 3 0 (record { number = 3; start = 0; length = 0; next = 0 })
   cxf-record-bare-line-feed = cxf-only bare

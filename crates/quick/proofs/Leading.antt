@@ -19,7 +19,7 @@ use Rattle.number.specs.declared.Decimal.the-variants as Decimal
 use Rattle.number.specs.Words.{blank, unled}
 use Rattle.number.specs.Number.{digit, value, ended, signOf, signs, signed, thousandths, isToken, realIs, realAt, realSigned, realOf}
 use Rattle.number.proofs.IntegerWays.{eight, digit-is, digit-from}
-use Rattle.number.proofs.NumberLaws.{real-in}
+use Rattle.number.proofs.NumberLaws.{ended-nothing, real-in}
 use Rattle.spelling.proofs.DigitLaws.{value-last}
 use Rattle.token.specs.Lex.{lift, lexOf}
 use Rattle.token.specs.declared.Token.the-variants.{Say}
@@ -122,18 +122,17 @@ module _ (u : List ℕ) (n m : ℕ) (w : Worthy u n m) where
   unfolding thousandths
   cut-worth = rw (cut-front, cut-places, take-take 3 3 (drop (n + 1) u) (omega arith)) (sym (w .worth))
 
-  cut-ended : ended (drop (n + 4) (take (n + 4) u)) ≡ true
-  unfolding ended
-  cut-ended = rw cut-over
+  cut-ended : ended Loose (drop (n + 4) (take (n + 4) u)) ≡ true
+  cut-ended = rw cut-over (ended-nothing Loose)
 
   cut-shape : (sg : ℕ) → signs sg + n + 4 ≤ 12 → isToken sg (take (n + 4) u) n ≡ true
   unfolding isToken
   cut-shape sg h =
-      rw (le-leb 1 n (w .least), le-leb n 8 (w .most), eq-eqb (getD (take (n + 4) u) n 0) 46 cut-point, cut-places, w .places, cut-ended, le-leb (signs sg + n + 4) 12 h)
+      rw (le-leb 1 n (w .least), le-leb n 8 (w .most), eq-eqb (getD (take (n + 4) u) n 0) 46 cut-point, cut-places, w .places, le-leb (signs sg + n + 4) 12 h)
 
   cut-real : (size sg : ℕ) → signs sg + n + 4 ≤ 12 → realAt Loose size sg (take (n + 4) u) ≡ Decimal.Is (signed sg m)
   unfolding realAt realIs
-  cut-real size sg h = rw (cut-run, cut-shape sg h, cut-worth)
+  cut-real size sg h = rw (cut-run, cut-shape sg h, cut-ended, cut-worth)
 
   three-plain : all plain (take 3 (drop (n + 1) u)) ≡ true
   three-plain =

@@ -1,4 +1,4 @@
--- Twelve bytes and a line end are a real's record, in either mode. Assumes nothing.
+-- Twelve bytes and a line end are a real's record, in every mode. Assumes nothing.
 use Prim.Native.Nat.{ℕ, _+_, _-_, _≤_, _<_}
 use mathlib.Core.Path.{_≡_, refl, sym, _∙_, ap}
 use mathlib.Core.List.{List, [], _∷_, _++_}
@@ -7,28 +7,21 @@ use native.Mathlib.Nat.{add-sub-cancel-left}
 use native.Mathlib.Omega.{arith}
 use lib.ListN.{length, getD, take, drop, length-drop, take-append-drop}
 use lib.Seq.{drop-drop, length-take-le}
-use lib.IntN.{ℤ}
 use Rattle.laws.specs.Lists.{all}
 use Rattle.laws.proofs.ListLaws.{left}
 use Rattle.record.specs.declared.Mode.{Mode}
 use Rattle.record.specs.declared.Mode.the-variants.{Loose, Exact}
 use Rattle.record.specs.declared.Line.the-variants.{Got}
-use Rattle.record.specs.Record.{plain, lineOf}
+use Rattle.record.specs.Record.{isExact, plain, lineOf}
 use Rattle.record.specs.RecordView.{LineEnd, crlf, lf}
-use Rattle.record.proofs.RecordLaws.{line-make, line-view}
-use Rattle.number.specs.declared.Decimal.the-variants as Decimal
-use Rattle.number.specs.Number.{realOf}
+use Rattle.record.proofs.RecordLaws.{line-make, line-view, line-widens, loose-widens}
 use Rattle.number.proofs.NumberLaws.{real-widens}
 use Rattle.token.specs.Lex.{lexOf}
 use Rattle.token.specs.declared.Want.the-variants.{Real}
-use Rattle.token.proofs.TokenLaws.{says-most}
+use Rattle.token.proofs.TokenLaws.{says-most, lex-widens}
 use Rattle.quick.specs.declared.RealTaken.{RealTaken}
 use Rattle.quick.specs.Neat.{Neat, Sound}
 use Rattle.quick.specs.Seen.{RealAt, SomeReal, Padded, Ends, Vertices, more}
-
-either : (c : List ℕ) (z : ℤ) (mode : Mode) → realOf Exact c ≡ Decimal.Is z → realOf mode c ≡ Decimal.Is z
-either c z Exact e = e
-either c z Loose e = real-widens c z e
 
 -- plain bytes and a line end at a place are a record
 pub line-at : (mode : Mode) (s : List ℕ) (at n : ℕ) (e : List ℕ) → at + n ≤ length s → n ≤ 255 → all plain (take n (drop at s)) ≡ true → LineEnd mode e
@@ -48,18 +41,18 @@ module _ (mode : Mode) (s : List ℕ) (at : ℕ) (h : 14 ≤ length s) (k : at �
       let two : drop (at + 12) s ≡ 13 ∷ 10 ∷ drop (at + 12 + 2) s = left s (at + 12) 0 (omega arith) ∙ rw (x, a, left s (at + 13) 0 (omega arith), y, b) in
       record { few = omega arith; inside = omega arith; line = λ p. line-at mode s at 12 (13 ∷ 10 ∷ []) (omega arith) (omega arith) p (crlf refl) two }
 
-  pub ends-lf : mode ≡ Loose → getD s (at + 12) 0 ≡ 10 → Ends mode s at 13
-  ends-lf m x =
+  pub ends-lf : (y : Bool) → y ≡ isExact mode → y ≡ false → getD s (at + 12) 0 ≡ 10 → Ends mode s at 13
+  ends-lf y m f x =
       record {
         few = omega arith;
         inside = omega arith;
-        line = λ p. line-at mode s at 12 (10 ∷ []) (omega arith) (omega arith) p (lf m refl) (left s (at + 12) 0 (omega arith) ∙ rw x);
+        line = λ p. line-at mode s at 12 (10 ∷ []) (omega arith) (omega arith) p (lf (sym m ∙ f) refl) (left s (at + 12) 0 (omega arith) ∙ rw x);
       }
 
 real-of : (mode : Mode) (s : List ℕ) (at w v : ℕ) → Ends mode s at w → Neat (take 12 (drop at s)) v → Padded mode s at w v
 unfolding lexOf
 real-of mode s at w v e n =
-    record { line = e .line (n .bytes); says = rw (either (take 12 (drop at s)) (n .z) mode (n .real), n .lifted) }
+    record { line = e .line (n .bytes); says = rw (real-widens Exact mode refl (take 12 (drop at s)) (n .z) (n .real), n .lifted) }
 
 pub padded-real : {mode : Mode} {s : List ℕ} {at w v : ℕ} → Padded mode s at w v → RealAt mode s at w v
 padded-real p = record { len = 12; line = p .line; says = p .says }
@@ -102,11 +95,20 @@ module _ (mode : Mode) (s : List ℕ) (at w : ℕ) (f : 0 < w → Ends mode s at
 pub quick-real : (mode : Mode) (s : List ℕ) (at : ℕ) (r : RealTaken) → (0 < r .width → Padded mode s at (r .width) (r .value)) → 0 < r .width → RealAt mode s at (r .width) (r .value)
 quick-real mode s at r f o = padded-real (f o)
 
-pub loose-real : (mode : Mode) (s : List ℕ) (at : ℕ) (r : RealTaken) → mode ≡ Loose → (0 < r .width → RealAt Loose s at (r .width) (r .value)) → 0 < r .width → RealAt mode s at (r .width) (r .value)
-loose-real mode s at r e f o = rw e (f o)
+-- a record of loose mode is one of each mode that is not exact
+module _ (mode : Mode) (s : List ℕ) (at : ℕ) (r : RealTaken) (y : Bool) (m : y ≡ isExact mode) (e : y ≡ false) (f : 0 < r .width → RealAt Loose s at (r .width) (r .value)) where
+  pub loose-real : 0 < r .width → RealAt mode s at (r .width) (r .value)
+  loose-real o =
+      let l = f o in
+      let wide = loose-widens mode (sym m ∙ e) in
+      record {
+        len = l .len;
+        line = line-widens Loose mode wide false (drop at s) (l .len) (r .width) (l .line);
+        says = lex-widens Loose mode wide Real (take (l .len) (drop at s)) (r .value) (l .says);
+      }
 
-pub loose-width : (mode : Mode) (s : List ℕ) (at : ℕ) (r : RealTaken) → mode ≡ Loose → (0 < r .width → RealAt Loose s at (r .width) (r .value)) → 0 < r .width → SomeReal mode s at (r .width)
-loose-width mode s at r e f o = record { v = r .value; real = loose-real mode s at r e f o }
+  pub loose-width : 0 < r .width → SomeReal mode s at (r .width)
+  loose-width o = record { v = r .value; real = loose-real o }
 
 -- the ways of `vertices`
 module _ (mode : Mode) (s : List ℕ) (at k here x y : ℕ) (v : Vertices mode s at k here) (f : 0 < x → SomeReal mode s here x) (n : x ≡ 0 → ⊥) where

@@ -17,16 +17,16 @@ use Rattle.number.specs.declared.Decimal.the-variants as Decimal
 use Rattle.number.specs.Words.{blank, unled}
 use Rattle.number.specs.Number.{digit, value, ended, lean, signOf, signs, signed, thousandths, isToken, isNeat, realIs, realAt, realSigned, realOf, isReal}
 use Rattle.number.proofs.IntegerWays.{digit-from, digit-to}
-use Rattle.number.proofs.NumberLaws.{real-in}
+use Rattle.number.proofs.NumberLaws.{ended-nothing, real-in}
 use Rattle.token.specs.Lex.{lift}
 use Rattle.quick.specs.Neat.{Figures, Figured, Neat, Sound}
 
-on-is : (size sg : ℕ) (u : List ℕ) (n : ℕ) → size ≡ 12 → 1 ≤ n → n ≤ 8 → getD u n 0 ≡ 46 → run digit (drop (n + 1) u) ≡ 3 → ended (drop (n + 4) u) ≡ true
+on-is : (size sg : ℕ) (u : List ℕ) (n : ℕ) → size ≡ 12 → 1 ≤ n → n ≤ 8 → getD u n 0 ≡ 46 → run digit (drop (n + 1) u) ≡ 3 → ended Exact (drop (n + 4) u) ≡ true
     → signs sg + n + 4 ≤ 12 → length u ≡ n + 4 → eqb sg 43 ≡ false → (eqb sg 45 && eqb (thousandths u n) 0) ≡ false → lean u n ≡ true
     → realIs Exact size sg u n ≡ Decimal.Is (signed sg (thousandths u n))
 unfolding realIs isToken isNeat
 on-is size sg u n a b d e f g h i j k l =
-    rw (le-leb 1 n b, le-leb n 8 d, eq-eqb (getD u n 0) 46 e, eq-eqb (run digit (drop (n + 1) u)) 3 f, g, le-leb (signs sg + n + 4) 12 h, eq-eqb size 12 a, eq-eqb (length u) (n + 4) i, j, k, l)
+    rw (le-leb 1 n b, le-leb n 8 d, eq-eqb (getD u n 0) 46 e, eq-eqb (run digit (drop (n + 1) u)) 3 f, le-leb (signs sg + n + 4) 12 h, g, eq-eqb size 12 a, eq-eqb (length u) (n + 4) i, j, k, l)
 
 module _ (c : List ℕ) (size : length c ≡ 12) (p : getD c 8 0 ≡ 46) where
   module _ (d m : ℕ) (t : Figures c d m) where
@@ -39,9 +39,8 @@ module _ (c : List ℕ) (size : length c ≡ 12) (p : getD c 8 0 ≡ 46) where
     over : drop (8 - d + 4) (drop d c) ≡ []
     over = let k = t .some in let z : d + (8 - d + 4) ≡ 12 = omega arith in drop-drop (8 - d + 4) d c ∙ ap (λ (n : ℕ). drop n c) z ∙ left-none c 12 (omega arith)
 
-    its-end : ended (drop (8 - d + 4) (drop d c)) ≡ true
-    unfolding ended
-    its-end = rw over
+    its-end : ended Exact (drop (8 - d + 4) (drop d c)) ≡ true
+    its-end = rw over (ended-nothing Exact)
 
     worth : thousandths (drop d c) (8 - d) ≡ m
     unfolding thousandths

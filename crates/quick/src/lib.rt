@@ -11,6 +11,7 @@ use crate::aligned::is_sound;
 use crate::aligned::neat;
 use crate::unpadded::bare;
 use record::Mode;
+use record::is_exact;
 
 // Vertices that were read: how many, and the place behind them.
 pub struct Run {
@@ -63,15 +64,13 @@ fn ending(s: &[u8], at: usize, mode: Mode) -> usize
         }
         return 0;
     }
-    match mode {
-        Mode::Exact => 0,
-        Mode::Loose => {
-            if b == 10 {
-                return 13;
-            }
-            0
-        }
+    if is_exact(mode) {
+        return 0;
     }
+    if b == 10 {
+        return 13;
+    }
+    0
 }
 
 // A real's record of 12 characters.
@@ -118,10 +117,10 @@ pub fn real_at(s: &[u8], at: usize, mode: Mode) -> RealTaken
     if r.width > 0 {
         return r;
     }
-    match mode {
-        Mode::Exact => RealTaken { value: 0, width: 0 },
-        Mode::Loose => bare(s, at),
+    if is_exact(mode) {
+        return RealTaken { value: 0, width: 0 };
     }
+    bare(s, at)
 }
 
 // The record's bytes alone.
@@ -132,13 +131,11 @@ fn width_at(s: &[u8], at: usize, mode: Mode) -> usize
     if w > 0 {
         return w;
     }
-    match mode {
-        Mode::Exact => 0,
-        Mode::Loose => {
-            let b = bare(s, at);
-            b.width
-        }
+    if is_exact(mode) {
+        return 0;
     }
+    let b = bare(s, at);
+    b.width
 }
 
 // At most so many vertices from a place on, as many as stand there in the usual form.

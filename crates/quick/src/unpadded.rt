@@ -1,4 +1,4 @@
-// The form without needless blanks: loose mode's usual one.
+// The form without needless blanks: the usual one where the mode is not exact.
 ghost use mathlib.Core.Path.{_≡_};
 ghost use Prim.Native.Nat.{_-_, _<_, _≤_};
 ghost use lib.ListN.{length};

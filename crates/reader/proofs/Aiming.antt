@@ -8,7 +8,7 @@ use lib.ListN.{length, take, drop, length-drop}
 use lib.Seq.{drop-drop}
 use lib.Dec.{leb}
 use Rattle.record.specs.declared.Mode.{Mode}
-use Rattle.record.specs.declared.Mode.the-variants.{Loose, Exact}
+use Rattle.record.specs.declared.Mode.the-variants.{Loose, Exact, Former}
 use Rattle.column.specs.Columns.{refusalColumn}
 use Rattle.column.proofs.PlacedLaws.{other-column}
 use Rattle.machine.specs.Machine.{wantOf, oneOf}
@@ -61,6 +61,7 @@ module _ (mode : Mode) (s : List ℕ) (target : Sections) (aim : State) (o : Tab
   -- 13 carries 0, whatever is due
   closed : (m : Mode) (k next : ℕ) → AimOk mode s aim o d (closing m k next (length s))
   closed Loose k next = tt
+  closed Former k next = tt
   closed Exact k next = by (leb (length s) next)
     where
       by : (b : Bool) → AimOk mode s aim o d (cond b Turn.Done (Turn.Refused 13 k next))

@@ -13,7 +13,7 @@ use Rattle.laws.specs.Lists.{run, below}
 use Rattle.laws.proofs.Choice.{and-left, and-right, cond-elim, false≢true}
 use Rattle.laws.proofs.ListLaws.{run-le, below-at}
 use Rattle.record.specs.declared.Mode.{Mode}
-use Rattle.record.specs.Record.{isLoose}
+use Rattle.record.specs.Record.{isExact}
 use Rattle.number.specs.declared.Word.{Word}
 use Rattle.number.specs.declared.Word.the-variants as Word
 use Rattle.number.specs.declared.Decimal.{Decimal}
@@ -78,8 +78,7 @@ token-long sign u e =
     let t₂ = t₁ && leb n 8 in
     let t₃ = t₂ && eqb (getD u n 0) 46 in
     let t₄ = t₃ && eqb (run digit (drop (n + 1) u)) 3 in
-    let t₅ = t₄ && ended (drop (n + 4) u) in
-    let e₄ = and-left t₄ (ended (drop (n + 4) u)) (and-left t₅ (leb (signs sign + n + 4) 12) e) in
+    let e₄ = and-left t₄ (leb (signs sign + n + 4) 12) e in
     let e₁ = and-left t₁ (leb n 8) (and-left t₂ (eqb (getD u n 0) 46) (and-left t₃ (eqb (run digit (drop (n + 1) u)) 3) e₄)) in
     let three = eqb-true (run digit (drop (n + 1) u)) 3 (and-right t₃ (eqb (run digit (drop (n + 1) u)) 3) e₄) in
     omega (arith, leb-true 1 n e₁, three, run-le digit (drop (n + 1) u), length-drop (n + 1) u)
@@ -89,7 +88,10 @@ unfolding lexOf realOf realSigned realAt realIs unled
 real-long mode c t q =
     let s = unled c in
     let u = drop (signs (signOf s)) s in
-    omega (arith, token-long (signOf s) u (is-token (isToken (signOf s) u (run digit u)) (isLoose mode || isNeat (length c) (signOf s) u (run digit u)) (signed (signOf s) (thousandths u (run digit u))) q), length-drop (signs (signOf s)) s, length-drop (run blank c) c)
+    let token = isToken (signOf s) u (run digit u) in
+    let end = ended mode (drop (run digit u + 4) u) in
+    let row = is-token (token && end) (not (isExact mode) || isNeat (length c) (signOf s) u (run digit u)) (signed (signOf s) (thousandths u (run digit u))) q in
+    omega (arith, token-long (signOf s) u (and-left token end row), length-drop (signs (signOf s)) s, length-drop (run blank c) c)
   where
     is-token : (a b : Bool) (z : ℤ) → ofDecimal (cond (a && b) (Decimal.Is z) Decimal.Malformed) ≡ Say t → a ≡ true
     is-token true b z q = refl
@@ -163,7 +165,7 @@ end-pays kind =
 field-pays : (mode : Mode) (kind p i n : ℕ)
     → Pays (cond (eqb p 11) (cond (eqb kind 1) 0 24) (cond (eqb (nextOf kind p) 0) (12 * fixedVertices kind) (owed 8 kind (nextOf kind p)))) (fieldOf mode kind p i n)
 unfolding fieldOf
-field-pays mode kind p i n = cond-elim (Pays _) (eqb p 2 && not (isLoose mode) && not (isListed kind n)) _ _ (λ _. tt) (λ _. at (eqb p 11))
+field-pays mode kind p i n = cond-elim (Pays _) (eqb p 2 && isExact mode && not (isListed kind n)) _ _ (λ _. tt) (λ _. at (eqb p 11))
   where
     on : (b : Bool) → Pays (cond b (12 * fixedVertices kind) (owed 8 kind (nextOf kind p))) (cond b (fieldsEnd kind) (Go (Field kind (nextOf kind p) (cond (eqb p 10) n i))))
     on true = end-pays kind

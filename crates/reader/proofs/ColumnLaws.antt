@@ -13,10 +13,10 @@ use lib.Signed.{ltZ}
 use Rattle.laws.specs.Lists.{run, all, same, place}
 use Rattle.laws.proofs.Choice.{cond-elim, false≢true}
 use Rattle.record.specs.declared.Mode.{Mode}
-use Rattle.record.specs.declared.Mode.the-variants.{Loose, Exact}
+use Rattle.record.specs.declared.Mode.the-variants.{Loose, Exact, Former}
 use Rattle.record.specs.declared.Line.{Line}
 use Rattle.record.specs.declared.Line.the-variants as Line
-use Rattle.record.specs.Record.{isLoose, plain, notLF, wordEOF, endsCR, content, contentIs, lineIs, lineOf}
+use Rattle.record.specs.Record.{isExact, plain, notLF, wordEOF, endsCR, content, contentIs, lineIs, lineOf}
 use Rattle.record.specs.Refusals.{tooLong, malformed, fileMost}
 use Rattle.number.specs.declared.Word.{Word}
 use Rattle.number.specs.declared.Word.the-variants as Word
@@ -68,10 +68,10 @@ line-other mode due bs =
     let Q = LineOther in
     let line = take (run notLF bs) bs in
     cond-elim Q (ltb (run notLF bs) (length bs)) _ _
-    (λ _. cond-elim Q (endsCR line || isLoose mode) _ _
+    (λ _. cond-elim Q (endsCR line || not (isExact mode)) _ _
     (λ _. cond-elim Q (leb (length (content line)) 255) _ _ (λ _. cond-elim Q (all plain (content line)) _ _ (λ _. tt) (λ _ e. omega (arith, e))) (λ _ e. omega (arith, e)))
     (λ _ e. omega (arith, e)))
-    (λ _. cond-elim Q (isLoose mode && due && same bs wordEOF) _ _ (λ _. tt) (λ _ e. omega (arith, e)))
+    (λ _. cond-elim Q (not (isExact mode) && due && same bs wordEOF) _ _ (λ _. tt) (λ _ e. omega (arith, e)))
 
 -- a keyword and letters are refused by other numbers
 abbrev TokenOther : Want → Token → Type 0
@@ -129,7 +129,7 @@ step-other mode Due t next =
     cond-elim Q (eqb t 0) _ _ (λ _. tt) (λ _. cond-elim Q (eqb (nextOf (t / 2) 0) 0) _ _ (λ _ e. omega (arith, e)) (λ _. tt))
 step-other mode (Field kind p i) t next =
     let Q = StepOther in
-    cond-elim Q (eqb p 2 && not (isLoose mode) && not (isListed kind t)) _ _ (λ _ e. omega (arith, e))
+    cond-elim Q (eqb p 2 && isExact mode && not (isListed kind t)) _ _ (λ _ e. omega (arith, e))
     (λ _. cond-elim Q (eqb p 11) _ _ (λ _. vertices-other kind i t)
     (λ _. cond-elim Q (eqb (nextOf kind p) 0) _ _ (λ _. end-other kind) (λ _. tt)))
 step-other mode (Island l s r) t next =
@@ -202,6 +202,7 @@ behind-other : (mode : Mode) (o : Tables) (eof k a k′ at : ℕ) (bs : List ℕ
 behind-other Exact o eof k a k′ at [] e = let z : _≡_ {A = ℕ} 0 1 = cc in omega arith
 behind-other Exact o eof k a k′ at (b ∷ bs) e = omega (arith, stop-is 13 k a malformed k′ at e .0)
 behind-other Loose o eof k a k′ at bs e = let z : _≡_ {A = ℕ} 0 1 = cc in omega arith
+behind-other Former o eof k a k′ at bs e = let z : _≡_ {A = ℕ} 0 1 = cc in omega arith
 
 stops-one : (mode : Mode) (st : State) (o : Tables) (k a k′ at : ℕ) (bs : List ℕ) (go : State → Tables → ℕ → List ℕ → Sections) (due : State → Tables → List ℕ → State)
     → ((st₁ : State) (o₁ : Tables) (a₁ : ℕ) (bs₁ : List ℕ) → go st₁ o₁ a₁ bs₁ ≡ stop malformed k′ at → Stops mode st₁ o₁ a₁ bs₁ (due st₁ o₁ bs₁) at)

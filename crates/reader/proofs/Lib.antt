@@ -14,3 +14,4 @@ pub mod Bytes
 pub mod ReadLaws
 pub mod ColumnLaws
 pub mod NeedLaws
+pub mod EnoughLaws

@@ -11,13 +11,13 @@ use borrow.Author.Tests.{leb-true, le-leb}
 use Rattle.laws.specs.Lists.{over}
 use Rattle.laws.proofs.Choice.{and-left, and-right}
 use Rattle.record.specs.declared.Mode.{Mode}
-use Rattle.record.specs.declared.Mode.the-variants.{Loose, Exact}
+use Rattle.record.specs.Record.{isExact, widens}
 use Rattle.record.specs.Refusals.{lineEnd, unlistedCode, afterEOF, noRoom, fileMost}
 use Rattle.heading.specs.declared.Header.{Header}
 use Rattle.kinds.specs.Kinds.{rowWidth}
 use Rattle.sheet.specs.Tables.{Tables, _followed_, overOf, rowCount}
 use Rattle.sheet.specs.Reading.{Reading, sheet, refused, reading, joined}
-use Rattle.sheet.proofs.Exact.{exact-loose}
+use Rattle.sheet.proofs.Modes.{reading-widens}
 use Rattle.sheet.proofs.Join.{joining}
 use Rattle.sheet.proofs.Numbered.{reading-numbers, loose-never}
 use Rattle.reader.specs.Columns.{readingColumn}
@@ -159,16 +159,16 @@ larger-tables mode bs r r′ l n = by (reading mode bs) n
     by (sheet h o) n = room h o (holdsAll (needsOf o) r) refl n
     by (refused m k at) n = refl
 
--- ---- two modes, one meaning
+-- ---- three modes, one meaning
 
--- **exact within loose**: a sheet that exact mode accepts with given tables is accepted by loose mode with the same tables,
+-- **exact within loose within former**: a sheet that one mode accepts with given tables is accepted by a wider one with the same tables,
 -- the same header, and the same tables at exit (`written` of equal answers and equal tables)
-pub exact-within-loose : (bs : List ℕ) (r : Rooms) (a : Needs) (h : Header) → readOf Exact bs r ≡ readWith a h
-    → (readOf Loose bs r ≡ readWith a h) × (tablesIn (reading Loose bs) ≡ tablesIn (reading Exact bs))
-exact-within-loose bs r a h e =
-    let v = read-is Exact bs r a h e in
-    let l = exact-loose bs h (v .tables) (v .sound) in
-    (is-read Loose bs r h (v .tables) l (v .room) ∙ ap (λ (x : Needs). readWith x h) (sym (v .counts)), rw (l, v .sound))
+pub read-widens : (from to : Mode) → widens from to ≡ true → (bs : List ℕ) (r : Rooms) (a : Needs) (h : Header) → readOf from bs r ≡ readWith a h
+    → (readOf to bs r ≡ readWith a h) × (tablesIn (reading to bs) ≡ tablesIn (reading from bs))
+read-widens from to wide bs r a h e =
+    let v = read-is from bs r a h e in
+    let l = reading-widens from to wide bs h (v .tables) (v .sound) in
+    (is-read to bs r h (v .tables) l (v .room) ∙ ap (λ (x : Needs). readWith x h) (sym (v .counts)), rw (l, v .sound))
 
 -- ---- two maps in one file
 
@@ -183,14 +183,14 @@ joined-read mode a b h h′ o o′ r e e′ l f =
 
 -- ---- by the paper's numbers, and by what the lent tables hold at exit
 
--- **3, 10 and 13 cannot come in loose mode**
-pub loose-numbers : (bs : List ℕ) (r : Rooms) → let m = numberOf (readOf Loose bs r .answer) in (m ≡ lineEnd → ⊥) × (m ≡ unlistedCode → ⊥) × (m ≡ afterEOF → ⊥)
-loose-numbers bs r = go (readOf Loose bs r) (readOf Loose bs r .answer) (view Loose bs r)
+-- **3, 10 and 13 come in exact mode alone**
+pub loose-numbers : (mode : Mode) (bs : List ℕ) (r : Rooms) → isExact mode ≡ false → let m = numberOf (readOf mode bs r .answer) in (m ≡ lineEnd → ⊥) × (m ≡ unlistedCode → ⊥) × (m ≡ afterEOF → ⊥)
+loose-numbers mode bs r l = go (readOf mode bs r) (readOf mode bs r .answer) (view mode bs r)
   where
-    go : (x : Outcome) (a : Answer) → View Loose bs r x a → (numberOf a ≡ lineEnd → ⊥) × (numberOf a ≡ unlistedCode → ⊥) × (numberOf a ≡ afterEOF → ⊥)
+    go : (x : Outcome) (a : Answer) → View mode bs r x a → (numberOf a ≡ lineEnd → ⊥) × (numberOf a ≡ unlistedCode → ⊥) × (numberOf a ≡ afterEOF → ⊥)
     go x (Answer.Read a) v = (λ e. omega (arith, e), λ e. omega (arith, e), λ e. omega (arith, e))
     go x (Answer.NoRoom a) v = (λ e. omega (arith, e), λ e. omega (arith, e), λ e. omega (arith, e))
-    go x (Answer.Refused m k at) v = loose-never bs m k at v
+    go x (Answer.Refused m k at) v = loose-never mode bs m k at l v
 
 part-is {ℓ} : {A : Type ℓ} (n : ℕ) (xs l : List A) → length xs ≡ n → take n (over xs l) ≡ xs
 part-is n xs l e = take-at xs (drop (length xs) l) n e
@@ -231,16 +231,16 @@ refused-exit mode bs t = by (answerTo mode bs t .answer)
     by (Answer.NoRoom a) n = refl
     by (Answer.Refused m k at) n = refl
 
--- **exact within loose**: where exact mode accepts (0) with given tables, loose mode accepts with the same tables, the same header and counts, and
+-- **exact within loose within former**: where one mode accepts (0) with given tables, a wider one accepts with the same tables, the same header and counts, and
 -- each of the four tables holds the same at exit
-pub exact-exit : (bs : List ℕ) (t : Tables) → numberOf (answerTo Exact bs t .answer) ≡ 0
-    → (numberOf (answerTo Loose bs t .answer) ≡ 0) × (answerTo Loose bs t .header ≡ answerTo Exact bs t .header) × (countsOf (answerTo Loose bs t .answer) ≡ countsOf (answerTo Exact bs t .answer))
-    × (exitOf Loose bs t ≡ exitOf Exact bs t)
-exact-exit bs t e =
-    let v = zero-is Exact bs (roomsIn t) e in
-    let h = answerTo Exact bs t .header in
-    let x = is-read Exact bs (roomsIn t) h (v .tables) (v .sound) (v .room) in
-    let w = exact-within-loose bs (roomsIn t) (needsOf (v .tables)) h x in
+pub exit-widens : (from to : Mode) → widens from to ≡ true → (bs : List ℕ) (t : Tables) → numberOf (answerTo from bs t .answer) ≡ 0
+    → (numberOf (answerTo to bs t .answer) ≡ 0) × (answerTo to bs t .header ≡ answerTo from bs t .header) × (countsOf (answerTo to bs t .answer) ≡ countsOf (answerTo from bs t .answer))
+    × (exitOf to bs t ≡ exitOf from bs t)
+exit-widens from to wide bs t e =
+    let v = zero-is from bs (roomsIn t) e in
+    let h = answerTo from bs t .header in
+    let x = is-read from bs (roomsIn t) h (v .tables) (v .sound) (v .room) in
+    let w = read-widens from to wide bs (roomsIn t) (needsOf (v .tables)) h x in
     (ap (λ (y : Outcome). numberOf (y .answer)) (w .0), ap (λ (y : Outcome). y .header) (w .0), ap (λ (y : Outcome). countsOf (y .answer)) (w .0 ∙ sym x), ap₂ (λ (y : Outcome) (o : Tables). atExit (y .answer) o t) (w .0 ∙ sym x) (w .1))
 
 -- **room**: larger tables change no number, record, offset, column, count or header, and no used part at exit, but where the number was 14

@@ -11,7 +11,7 @@ use borrow.Author.Tests.{leb-true, leb-false, eqb-false}
 use Rattle.laws.proofs.Choice.{cond-elim}
 use Rattle.record.specs.declared.Mode.{Mode}
 use Rattle.record.specs.declared.Line.{Line}
-use Rattle.record.specs.Record.{isLoose, lineOf}
+use Rattle.record.specs.Record.{isExact, lineOf}
 use Rattle.number.specs.declared.Whole.{Whole}
 use Rattle.number.specs.Number.{integerOf}
 use Rattle.token.specs.Lex.{ofWhole, lexOf}
@@ -96,7 +96,7 @@ module _ (mode : Mode) (s I : List ℕ) (at : ℕ) where
   unfolding fieldOf
   field-pend kind p i t =
       let Q = StepPend mode s I at at in
-      cond-elim Q (eqb p 2 && not (isLoose mode) && not (isListed kind t)) _ _ (λ _. tt)
+      cond-elim Q (eqb p 2 && isExact mode && not (isListed kind t)) _ _ (λ _. tt)
       (λ _. cond-elim Q (eqb p 11) _ _ (λ _. vertices-pend kind i t)
       (λ _. cond-elim Q (eqb (nextOf kind p) 0) _ _ (λ _. end-pend kind) (λ _. tt)))
 

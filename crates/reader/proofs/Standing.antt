@@ -10,7 +10,7 @@ use lib.Dec.{leb, eqb}
 use borrow.Author.Tests.{leb-true, leb-false}
 use Rattle.laws.proofs.Choice.{cond-elim}
 use Rattle.record.specs.declared.Mode.{Mode}
-use Rattle.record.specs.declared.Mode.the-variants.{Loose, Exact}
+use Rattle.record.specs.declared.Mode.the-variants.{Loose, Exact, Former}
 use Rattle.record.specs.declared.Line.{Line}
 use Rattle.record.specs.Record.{lineOf}
 use Rattle.record.proofs.RecordLaws.{line-view, line-none}
@@ -278,6 +278,7 @@ module _ (mode : Mode) (s : List ℕ) (target : Sections) (o : Tables) (d : Read
       go : (m : Mode) → m ≡ mode → target ≡ Reading.behindEof mode o (d .at) (d .nth + 1) (d .at + w) (drop (d .at + w) s) → needsOf o ≡ d .needs
           → TurnOk mode s target o d (closing m (d .nth + 1) (d .at + w) (length s))
       go Loose q r needs = (r ∙ rw (← q), needs)
+      go Former q r needs = (r ∙ rw (← q), needs)
       go Exact q r needs = by (drop (d .at + w) s) refl (leb (length s) (d .at + w)) refl (r ∙ rw (← q)) needs
 
   -- what a turn gives is what the walk over the file gives

@@ -6,7 +6,7 @@ use mathlib.Core.Bool.{Bool, false, cond, not, _&&_}
 use lib.ListN.{length, take, drop}
 use lib.Dec.{leb, eqb}
 use Rattle.record.specs.declared.Mode.{Mode}
-use Rattle.record.specs.declared.Mode.the-variants.{Loose, Exact}
+use Rattle.record.specs.declared.Mode.the-variants.{Loose, Exact, Former}
 use Rattle.record.specs.declared.Line.{Line}
 use Rattle.record.specs.declared.Line.the-variants.{Got}
 use Rattle.record.specs.Refusals.{afterEOF, fileMost}
@@ -84,6 +84,7 @@ added a (Y r x) t = record { rows = a .rows; letters = a .letters; islands = a .
 -- the EOF record ends before `next`, where the record `k` would begin
 abbrev pub closing : Mode → ℕ → ℕ → ℕ → Turn
 closing Loose k next size = Turn.Done
+closing Former k next size = Turn.Done
 closing Exact k next size = cond (leb size next) Turn.Done (Turn.Refused afterEOF k next)
 
 abbrev pub turned : Mode → ReadStand → ℕ → ℕ → One → Turn

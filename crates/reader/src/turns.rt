@@ -149,6 +149,7 @@ fn closing_at(mode: Mode, nth: usize, next: usize, size: usize) -> Turn
 {
     match mode {
         Mode::Loose => Turn::Done,
+        Mode::Former => Turn::Done,
         Mode::Exact => {
             if size <= next {
                 return Turn::Done;

@@ -3,7 +3,7 @@
 use Prim.Native.Nat.{ℕ, _+_, _-_, _≤_, _<_}
 use mathlib.Core.Path.{_≡_, refl, sym, _∙_}
 use mathlib.Core.List.{List}
-use mathlib.Core.Bool.{Bool, true, false, cond, _&&_}
+use mathlib.Core.Bool.{Bool, true, false, cond, not, _&&_}
 use native.Mathlib.Omega.{arith}
 use lib.ListN.{length, getD, take, drop, List·getD-eq-default}
 use lib.Seq.{take-all, take-take, length-take-le, getD-take}
@@ -15,7 +15,7 @@ use Rattle.laws.proofs.ListLaws.{run-on, run-stop, run-le, run-fails, run-from,
 use Rattle.record.specs.Refusals.{cut, lineEnd, recordLength, badByte, recordMost}
 use Rattle.record.specs.declared.Mode.{Mode}
 use Rattle.record.specs.declared.Line.the-variants.{Got, Bad}
-use Rattle.record.specs.Record.{isLoose, plain, notLF, wordEOF, endsCR, content, contentIs, lineIs, lineOf}
+use Rattle.record.specs.Record.{isExact, plain, notLF, wordEOF, endsCR, content, contentIs, lineIs, lineOf}
 use Rattle.record.specs.Scan.{crlfAt}
 
 -- ---- tests on a byte
@@ -74,7 +74,7 @@ module _ (mode : Mode) (due : Bool) (bs : List ℕ) (r : ℕ) (q : r ≡ run not
   unfolding lineOf
   to-LF h = rw (← q, lt-ltb r (length bs) h)
 
-  pub no-LF : length bs ≤ r → lineOf mode due bs ≡ cond (isLoose mode && due && same bs wordEOF) (Got 3 3) (Bad cut)
+  pub no-LF : length bs ≤ r → lineOf mode due bs ≡ cond (not (isExact mode) && due && same bs wordEOF) (Got 3 3) (Bad cut)
   unfolding lineOf
   no-LF h = rw (← q, le-ltb r (length bs) h)
 
@@ -87,7 +87,7 @@ module _ (mode : Mode) (due : Bool) (bs : List ℕ) (r : ℕ) (q : r ≡ run not
       to-LF h ∙ rw (l, eq-eqb (getD (take r bs) (r - 1) 0) 13 g, take-take (r - 1) r bs (omega arith))
 
   -- none does
-  pub to-bare : r < length bs → endsCR (take r bs) ≡ false → lineOf mode due bs ≡ cond (isLoose mode) (contentIs (take r bs) (r + 1)) (Bad lineEnd)
+  pub to-bare : r < length bs → endsCR (take r bs) ≡ false → lineOf mode due bs ≡ cond (not (isExact mode)) (contentIs (take r bs) (r + 1)) (Bad lineEnd)
   unfolding lineIs content
   to-bare h e = to-LF h ∙ rw (e, length-take-le r bs (omega arith))
 
@@ -160,7 +160,7 @@ module _ (bs : List ℕ) (n : ℕ) (q : n ≡ run plain bs) where
 
   module _ (mode : Mode) (due : Bool) where
     pub at-LF : n < length bs → getD bs n 0 ≡ 10
-        → lineOf mode due bs ≡ cond (isLoose mode) (cond (leb n recordMost) (Got n (n + 1)) (Bad recordLength)) (Bad lineEnd)
+        → lineOf mode due bs ≡ cond (not (isExact mode)) (cond (leb n recordMost) (Got n (n + 1)) (Bad recordLength)) (Bad lineEnd)
     at-LF h e =
         let z : n ≡ run notLF bs = omega (arith, front-LF, run-stop notLF bs n h (lf-here (getD bs n 0) e)) in
         to-bare mode due bs n z h (plain-no-CR (take n bs) front-plain)

@@ -7,7 +7,7 @@ use lib.ListN.{replicate}
 use Rattle.laws.specs.Lists.{run, all, same}
 use Rattle.record.specs.Refusals.{cut, lineEnd, recordLength, badByte}
 use Rattle.record.specs.declared.Mode.{Mode}
-use Rattle.record.specs.declared.Mode.the-variants.{Loose, Exact}
+use Rattle.record.specs.declared.Mode.the-variants.{Loose, Exact, Former}
 use Rattle.record.specs.declared.Line.{Line}
 use Rattle.record.specs.declared.Line.the-variants.{Got, Bad}
 use Rattle.record.specs.declared.Found.{Found}
@@ -53,6 +53,11 @@ pub bare-EOF : (lineOf Loose true wordEOF ≡ Got 3 3) × (lineOf Loose false wo
     × (lineOf Loose true (32 ∷ wordEOF) ≡ Bad cut) × (lineOf Loose true (wordEOF ++ 32 ∷ []) ≡ Bad cut) × (lineOf Loose true (wordEOF ++ 13 ∷ []) ≡ Bad cut)
 unfolding computed
 bare-EOF = (refl, refl, refl, refl, refl, refl)
+
+-- the former reading finds the records that loose mode finds
+pub former-records : (lineOf Former true wordEOF ≡ Got 3 3) × (lineOf Former false wordEOF ≡ Bad cut) × (lineOf Former false (65 ∷ LF) ≡ Got 1 2)
+unfolding computed
+former-records = (refl, refl, refl)
 
 -- the empty file, and the place past a file's last record
 pub ends : (recordAt [] 0 Loose true ≡ Refused cut) × (recordAt (65 ∷ CRLF) 3 Exact true ≡ Refused cut)

@@ -2,29 +2,25 @@
 use Prim.Native.Nat.{ℕ, _+_, _-_, _≤_, _<_}
 use mathlib.Core.Path.{_≡_, refl, sym, _∙_, ap}
 use mathlib.Core.List.{List, [], _∷_, _++_}
-use mathlib.Core.Bool.{Bool, true, false, cond, _&&_}
+use mathlib.Core.Bool.{Bool, true, false, cond, not, _&&_, _||_}
 use native.Mathlib.Omega.{arith}
 use lib.ListN.{length, getD, take, drop, length-append, length-take, length-drop, take-append-drop, List·getD-eq-default}
 use lib.Seq.{length-take-le, getD-take, getD-append-seam, getD-append-add}
 use lib.Dec.{leb, ltb}
-use borrow.Author.Tests.{le-leb, lt-leb, eqb-true, leb-true, ltb-true, ltb-false}
+use borrow.Author.Tests.{le-leb, lt-leb, eqb-true, leb-true, ltb-true, ltb-false, not-true}
 use Rattle.laws.specs.Lists.{run, all, same}
-use Rattle.laws.proofs.Choice.{and-left, and-right, and-false, cond-elim}
+use Rattle.laws.proofs.Choice.{and-left, and-right, and-false, cond-elim, false≢true, true≢false}
 use Rattle.laws.proofs.ListLaws.{left, left-none, run-past, same-is}
 use Rattle.record.specs.Refusals.{tooLong, cut, fileMost, recordMost}
 use Rattle.record.specs.declared.Mode.{Mode}
-use Rattle.record.specs.declared.Mode.the-variants.{Loose, Exact}
+use Rattle.record.specs.declared.Mode.the-variants.{Loose, Exact, Former}
 use Rattle.record.specs.declared.Line.{Line}
 use Rattle.record.specs.declared.Line.the-variants.{Got, Bad}
 use Rattle.record.specs.declared.Found.the-variants.{Record, Refused}
-use Rattle.record.specs.Record.{isLoose, plain, notLF, wordEOF, endsCR, contentIs, lineOf, placed, recordAt}
+use Rattle.record.specs.Record.{isExact, widens, plain, notLF, wordEOF, endsCR, contentIs, lineIs, lineOf, placed, recordAt}
 use Rattle.record.specs.Scan.{crlfAt}
 use Rattle.record.specs.RecordView.{LineEnd, crlf, lf, Ending, lineEnded, bare, IsLine, IsRecord, Lies}
 use Rattle.record.proofs.RecordCases.{LF-at, no-LF, to-CR, to-bare, at-LF, at-CRLF, crlf-yes}
-
-loose-is : (mode : Mode) → isLoose mode ≡ true → mode ≡ Loose
-loose-is Loose e = refl
-loose-is Exact e = cc
 
 end-some : (mode : Mode) (e : List ℕ) → LineEnd mode e → 0 < length e
 end-some mode e (crlf q) = rw q (omega arith)
@@ -86,7 +82,7 @@ module _ (mode : Mode) (due : Bool) (bs : List ℕ) where
       rw w (view-content (take (r - 1) bs) (r - 1) (r - 1 + 2) (length-take-le (r - 1) bs (omega arith))
       (view-end (r - 1) (13 ∷ 10 ∷ []) (omega arith) two (crlf refl)))
 
-  view-LF : (r : ℕ) → r ≡ run notLF bs → r < length bs → mode ≡ Loose → View (contentIs (take r bs) (r + 1))
+  view-LF : (r : ℕ) → r ≡ run notLF bs → r < length bs → isExact mode ≡ false → View (contentIs (take r bs) (r + 1))
   view-LF r q h m =
       let one : drop r bs ≡ 10 ∷ drop (r + 1) bs = left bs r 0 h ∙ rw (LF-at bs r q h) in
       view-content (take r bs) r (r + 1) (length-take-le r bs (omega arith)) (view-end r (10 ∷ []) (omega arith) one (lf m refl))
@@ -96,13 +92,13 @@ module _ (mode : Mode) (due : Bool) (bs : List ℕ) where
     where
       go : (x : Bool) → endsCR (take r bs) ≡ x → View (lineOf mode due bs)
       go true e = let z = CR-at bs r h e in rw (to-CR mode due bs r q h (z .0) (z .1)) (view-CRLF r q h (z .0) (z .1))
-      go false e = rw (to-bare mode due bs r q h e) (cond-elim View (isLoose mode) _ _ (λ t. view-LF r q h (loose-is mode t)) (λ _. tt))
+      go false e = rw (to-bare mode due bs r q h e) (cond-elim View (not (isExact mode)) _ _ (λ t. view-LF r q h (not-true (isExact mode) t)) (λ _. tt))
 
-  view-EOF : (isLoose mode && due && same bs wordEOF) ≡ true → IsLine mode due bs 3 3
+  view-EOF : (not (isExact mode) && due && same bs wordEOF) ≡ true → IsLine mode due bs 3 3
   unfolding all
   view-EOF t =
-      let lo = and-left (isLoose mode && due) (same bs wordEOF) t in
-      let eof : bs ≡ wordEOF = same-is bs wordEOF (and-right (isLoose mode && due) (same bs wordEOF) t) in
+      let lo = and-left (not (isExact mode) && due) (same bs wordEOF) t in
+      let eof : bs ≡ wordEOF = same-is bs wordEOF (and-right (not (isExact mode) && due) (same bs wordEOF) t) in
       record {
         counted = rw eof;
         most = omega arith;
@@ -110,7 +106,7 @@ module _ (mode : Mode) (due : Bool) (bs : List ℕ) where
         some = omega arith;
         past = omega arith;
         within = rw eof (omega arith);
-        ending = bare (loose-is mode (and-left (isLoose mode) due lo)) (and-right (isLoose mode) due lo) eof refl refl;
+        ending = bare (not-true (isExact mode) (and-left (not (isExact mode)) due lo)) (and-right (not (isExact mode)) due lo) eof refl refl;
       }
 
   view : View (lineOf mode due bs)
@@ -119,7 +115,7 @@ module _ (mode : Mode) (due : Bool) (bs : List ℕ) where
       go : (x : Bool) → ltb (run notLF bs) (length bs) ≡ x → View (lineOf mode due bs)
       go true t = view-line (run notLF bs) refl (ltb-true (run notLF bs) (length bs) t)
       go false t = rw (no-LF mode due bs (run notLF bs) refl (ltb-false (run notLF bs) (length bs) t))
-          (cond-elim View (isLoose mode && due && same bs wordEOF) _ _ view-EOF (λ _. tt))
+          (cond-elim View (not (isExact mode) && due && same bs wordEOF) _ _ view-EOF (λ _. tt))
 
 -- a record that is found has a content, a line end and a rest, or is the loose `EOF`
 pub line-view : (mode : Mode) (due : Bool) (bs : List ℕ) (len width : ℕ) → lineOf mode due bs ≡ Got len width → IsLine mode due bs len width
@@ -142,32 +138,70 @@ line-make mode due c e rest p h (lf m q) =
     let l : length c < length bs = omega (arith, length-append c (10 ∷ rest)) in
     rw q (at-LF bs (length c) n mode due l (getD-append-seam c 10 rest 0) ∙ rw (m, le-leb (length c) recordMost h))
 
--- in loose mode, where a keyword is due, `EOF` alone is a record
-pub eof-make : lineOf Loose true wordEOF ≡ Got 3 3
+-- in a mode that is not exact, where a keyword is due, `EOF` alone is a record
+pub eof-make : (mode : Mode) → isExact mode ≡ false → lineOf mode true wordEOF ≡ Got 3 3
 unfolding lineOf run same
-eof-make = refl
+eof-make mode m = rw m
 
 -- ---- the modes, and whether a keyword is due
 
--- what exact mode finds, loose mode finds
-pub line-widens : (due due′ : Bool) (bs : List ℕ) (l w : ℕ) → lineOf Exact due bs ≡ Got l w → lineOf Loose due′ bs ≡ Got l w
-line-widens due due′ bs l w h = let v = line-view Exact due bs l w h in go v (v .ending)
-  where
-    loose : (e : List ℕ) → LineEnd Exact e → LineEnd Loose e
-    loose e (crlf q) = crlf q
-    loose e (lf m q) = crlf (cc)
+-- a mode that is not exact widens to none that is
+pub still-loose : (from to : Mode) → widens from to ≡ true → isExact from ≡ false → isExact to ≡ false
+still-loose Loose Loose w e = refl
+still-loose Loose Exact w e = absurd (false≢true w)
+still-loose Loose Former w e = refl
+still-loose Exact to w e = absurd (false≢true (sym e))
+still-loose Former Loose w e = refl
+still-loose Former Exact w e = absurd (false≢true w)
+still-loose Former Former w e = refl
 
-    go : IsLine Exact due bs l w → Ending Exact due bs l w → lineOf Loose due′ bs ≡ Got l w
-    go v (lineEnded e k d r) =
-        ap (lineOf Loose due′) d
-        ∙ line-make Loose due′ (take l bs) e (drop w bs) (v .allPlain) (omega (arith, v .counted, v .most)) (loose e k)
-        ∙ rw (v .counted, r)
-    go v (bare m d q l₁ w₁) = cc
+-- loose mode is the least of those that are not exact
+pub loose-widens : (mode : Mode) → isExact mode ≡ false → widens Loose mode ≡ true
+loose-widens Loose e = refl
+loose-widens Exact e = absurd (true≢false e)
+loose-widens Former e = refl
+
+-- and the former reading is the widest
+pub former-widest : (mode : Mode) → widens mode Former ≡ true
+former-widest Loose = refl
+former-widest Exact = refl
+former-widest Former = refl
+
+-- what exact mode alone asks is not asked where the mode is wider
+pub rule-widens : (from to : Mode) → widens from to ≡ true → (x : Bool) → (not (isExact from) || x) ≡ true → (not (isExact to) || x) ≡ true
+rule-widens from to wide x e = go (isExact from) refl (isExact to) refl e
+  where
+    go : (f : Bool) → isExact from ≡ f → (t : Bool) → isExact to ≡ t → (not f || x) ≡ true → (not t || x) ≡ true
+    go true p true q h = h
+    go true p false q h = refl
+    go false p true q h = absurd (true≢false (sym q ∙ still-loose from to wide p))
+    go false p false q h = refl
+
+-- two modes that are both exact, or both not, find the same
+pub line-alike : (mode mode′ : Mode) (due : Bool) (bs : List ℕ) → isExact mode ≡ isExact mode′ → lineOf mode due bs ≡ lineOf mode′ due bs
+unfolding lineOf lineIs
+line-alike mode mode′ due bs e = rw e
+
+module _ (from to : Mode) (wide : widens from to ≡ true) where
+  pub end-widens : (e : List ℕ) → LineEnd from e → LineEnd to e
+  end-widens e (crlf q) = crlf q
+  end-widens e (lf m q) = lf (still-loose from to wide m) q
+
+  -- what one mode finds, a wider one finds
+  pub line-widens : (due : Bool) (bs : List ℕ) (l w : ℕ) → lineOf from due bs ≡ Got l w → lineOf to due bs ≡ Got l w
+  line-widens due bs l w h = let v = line-view from due bs l w h in go v (v .ending)
+    where
+      go : IsLine from due bs l w → Ending from due bs l w → lineOf to due bs ≡ Got l w
+      go v (lineEnded e k d r) =
+          ap (lineOf to due) d
+          ∙ line-make to due (take l bs) e (drop w bs) (v .allPlain) (omega (arith, v .counted, v .most)) (end-widens e k)
+          ∙ rw (v .counted, r)
+      go v (bare m d q l₁ w₁) = rw (d, q, l₁, w₁) (eof-make to (still-loose from to wide m))
 
 -- what is not exactly `EOF` is the same whether a keyword is due or not
 pub due-matters-for-EOF-alone : (mode : Mode) (due due′ : Bool) (bs : List ℕ) → (bs ≡ wordEOF → ⊥) → lineOf mode due bs ≡ lineOf mode due′ bs
 unfolding lineOf
-due-matters-for-EOF-alone mode due due′ bs n = rw (no (same bs wordEOF) refl, and-false (isLoose mode && due), and-false (isLoose mode && due′))
+due-matters-for-EOF-alone mode due due′ bs n = rw (no (same bs wordEOF) refl, and-false (not (isExact mode) && due), and-false (not (isExact mode) && due′))
   where
     no : (x : Bool) → same bs wordEOF ≡ x → same bs wordEOF ≡ false
     no true e = absurd (n (same-is bs wordEOF e))
@@ -181,6 +215,8 @@ unfolding lineOf run same
 line-none Loose true = refl
 line-none Loose false = refl
 line-none Exact due = refl
+line-none Former true = refl
+line-none Former false = refl
 
 module _ (s : List ℕ) (at : ℕ) (mode : Mode) (due : Bool) where
   -- a file that is too long is always refused 1
@@ -219,9 +255,9 @@ module _ (s : List ℕ) (at : ℕ) (mode : Mode) (due : Bool) (start len next : 
       let l = length-drop at s in
       record { here = r .here; most = v .most; past = omega arith; on = omega arith; within = omega arith }
 
--- what exact mode finds in a file, loose mode finds
-pub record-widens : (s : List ℕ) (at : ℕ) (due due′ : Bool) (start len next : ℕ) → recordAt s at Exact due ≡ Record start len next
-    → recordAt s at Loose due′ ≡ Record start len next
-record-widens s at due due′ start len next e =
-    let r = record-view s at Exact due start len next e in
-    record-line s at Loose due′ (r .small) ∙ ap (placed at) (line-widens due due′ (drop at s) len (r .width) (r .line)) ∙ cc (r .here, r .after)
+-- what one mode finds in a file, a wider one finds
+pub record-widens : (from to : Mode) → widens from to ≡ true → (s : List ℕ) (at : ℕ) (due : Bool) (start len next : ℕ) → recordAt s at from due ≡ Record start len next
+    → recordAt s at to due ≡ Record start len next
+record-widens from to wide s at due start len next e =
+    let r = record-view s at from due start len next e in
+    record-line s at to due (r .small) ∙ ap (placed at) (line-widens from to wide due (drop at s) len (r .width) (r .line)) ∙ cc (r .here, r .after)

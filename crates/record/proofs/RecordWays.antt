@@ -12,32 +12,42 @@ use mir.Syntax.{w64}
 use borrow.Author.Tests.{le-leb, lt-leb, ltb-true, ltb-false, not-true, not-false}
 use Rattle.laws.specs.Lists.{run, all, same, tail}
 use Rattle.laws.proofs.Choice.{and-false, false≢true, true≢false}
-use Rattle.laws.proofs.ListLaws.{rest-is, run-on, run-le, run-whole, all-whole, all-not}
+use Rattle.laws.proofs.ListLaws.{rest-is, run-on, run-whole, all-not}
 use Rattle.record.specs.Refusals.{cut, lineEnd, recordLength, badByte, fileMost, recordMost}
 use Rattle.record.specs.declared.Mode.{Mode}
-use Rattle.record.specs.declared.Mode.the-variants.{Loose, Exact}
+use Rattle.record.specs.declared.Mode.the-variants.{Loose, Exact, Former}
 use Rattle.record.specs.declared.Line.{Line}
 use Rattle.record.specs.declared.Line.the-variants.{Got, Bad}
 use Rattle.record.specs.declared.Found.the-variants.{Record, Refused}
-use Rattle.record.specs.Record.{isLoose, plain, notLF, wordEOF, contentIs, lineOf, placed, recordAt}
+use Rattle.record.specs.Record.{isExact, isFormer, plain, notLF, wordEOF, contentIs, lineOf, placed, recordAt}
 use Rattle.record.specs.Scan.{crlfAt, Spoilt}
 use Rattle.record.proofs.RecordCases.{lf-not, plain-no-LF, LF-at, no-CR, no-LF, to-CR, to-bare, content-long, content-bad, crlf-yes, front-plain, front-LF, front-bad, front-all, at-LF, at-CRLF}
 use Rattle.record.proofs.RecordLaws.{line-view, due-matters-for-EOF-alone, record-line}
 
--- ---- every byte is plain
+-- ---- the mode
 
-module _ (bs : List ℕ) (n : ℕ) (q : n ≡ run plain bs) where
-  pub plain-not : n < length bs → false ≡ all plain bs
-  plain-not h = go (all plain bs) refl
-    where
-      go : (x : Bool) → all plain bs ≡ x → false ≡ x
-      go true e = absurd (omega (arith, run-whole plain bs e))
-      go false e = refl
+module _ (mode : Mode) where
+  pub exact-loose : mode ≡ Loose → false ≡ isExact mode
+  exact-loose m = rw m
 
-  pub plain-all : length bs ≤ n → true ≡ all plain bs
-  plain-all h = sym (all-whole plain bs (omega (arith, run-le plain bs)))
+  pub exact-yes : mode ≡ Exact → true ≡ isExact mode
+  exact-yes m = rw m
 
-pub ruleset plain-ways = (plain-not, plain-all)
+  pub exact-former : mode ≡ Former → false ≡ isExact mode
+  exact-former m = rw m
+
+  pub former-loose : mode ≡ Loose → false ≡ isFormer mode
+  former-loose m = rw m
+
+  pub former-exact : mode ≡ Exact → false ≡ isFormer mode
+  former-exact m = rw m
+
+  pub former-yes : mode ≡ Former → true ≡ isFormer mode
+  former-yes m = rw m
+
+pub ruleset exact-ways = (exact-loose, exact-yes, exact-former)
+
+pub ruleset former-ways = (former-loose, former-exact, former-yes)
 
 -- ---- plain bytes before a line end
 
@@ -53,20 +63,21 @@ pub ruleset sized-ways = (sized-yes, sized-no)
 -- ---- no byte is left behind the plain ones
 
 module _ (mode : Mode) (due : Bool) (bs : List ℕ) (p : all plain bs ≡ true) where
-  unended-is : lineOf mode due bs ≡ cond (isLoose mode && due && same bs wordEOF) (Got 3 3) (Bad cut)
+  unended-is : lineOf mode due bs ≡ cond (not (isExact mode) && due && same bs wordEOF) (Got 3 3) (Bad cut)
   unended-is = no-LF mode due bs (length bs) (sym (run-whole notLF bs (plain-no-LF bs p))) (omega arith)
 
-  pub unended-exact : mode ≡ Exact → Bad cut ≡ lineOf mode due bs
-  unended-exact m = sym (unended-is ∙ rw m)
+  module _ (x : Bool) (m : x ≡ isExact mode) where
+    pub unended-exact : x ≡ true → Bad cut ≡ lineOf mode due bs
+    unended-exact y = sym (unended-is ∙ rw (← m, y))
 
-  pub unended-not-due : mode ≡ Loose → not due ≡ true → Bad cut ≡ lineOf mode due bs
-  unended-not-due m d = sym (unended-is ∙ rw (m, not-true due d))
+    pub unended-not-due : x ≡ false → not due ≡ true → Bad cut ≡ lineOf mode due bs
+    unended-not-due y d = sym (unended-is ∙ rw (← m, y, not-true due d))
 
-  pub unended-EOF : mode ≡ Loose → not due ≡ false → (r : Bool) → r ≡ same bs wordEOF → r ≡ true → Got 3 3 ≡ lineOf mode due bs
-  unended-EOF m d r e t = sym (unended-is ∙ rw (m, not-false due d, ← e, t))
+    pub unended-EOF : x ≡ false → not due ≡ false → (r : Bool) → r ≡ same bs wordEOF → r ≡ true → Got 3 3 ≡ lineOf mode due bs
+    unended-EOF y d r e t = sym (unended-is ∙ rw (← m, y, not-false due d, ← e, t))
 
-  pub unended-other : mode ≡ Loose → not due ≡ false → (r : Bool) → r ≡ same bs wordEOF → r ≡ false → Bad cut ≡ lineOf mode due bs
-  unended-other m d r e t = sym (unended-is ∙ rw (m, not-false due d, ← e, t))
+    pub unended-other : x ≡ false → not due ≡ false → (r : Bool) → r ≡ same bs wordEOF → r ≡ false → Bad cut ≡ lineOf mode due bs
+    unended-other y d r e t = sym (unended-is ∙ rw (← m, y, not-false due d, ← e, t))
 
 pub ruleset unended-ways = (unended-exact, unended-not-due, unended-EOF, unended-other)
 
@@ -102,7 +113,7 @@ module _ (bs : List ℕ) (n : ℕ) (s : Spoilt bs n) where
 
     module _ (mode : Mode) where
       pub spoilt-cut : length bs ≤ end → Bad cut ≡ lineOf mode false bs
-      spoilt-cut h = sym (no-LF mode false bs end q h ∙ rw (and-false (isLoose mode)))
+      spoilt-cut h = sym (no-LF mode false bs end q h ∙ rw (and-false (not (isExact mode))))
 
       module _ (h : end < length bs) where
         module _ (e : getD bs (end - 1) 0 ≡ 13) where
@@ -120,21 +131,22 @@ module _ (bs : List ℕ) (n : ℕ) (s : Spoilt bs n) where
               sym (ended-CR ∙ content-bad (take (end - 1) bs) (end + 1) (omega (arith, short-CR)) (spoilt-in (end - 1) (spoilt-CR h e) (omega arith)))
 
         module _ (e : getD bs (end - 1) 0 ≡ 13 → ⊥) where
-          bare : lineOf mode false bs ≡ cond (isLoose mode) (contentIs (take end bs) (end + 1)) (Bad lineEnd)
+          bare : lineOf mode false bs ≡ cond (not (isExact mode)) (contentIs (take end bs) (end + 1)) (Bad lineEnd)
           bare = to-bare mode false bs end q h (no-CR bs end h spoilt-some e)
 
           short-bare : length (take end bs) ≡ end
           short-bare = length-take-le end bs (omega arith)
 
-          pub spoilt-exact : mode ≡ Exact → Bad lineEnd ≡ lineOf mode false bs
-          spoilt-exact m = sym (bare ∙ rw m)
+          module _ (x : Bool) (m : x ≡ isExact mode) where
+            pub spoilt-exact : x ≡ true → Bad lineEnd ≡ lineOf mode false bs
+            spoilt-exact y = sym (bare ∙ rw (← m, y))
 
-          pub spoilt-long : mode ≡ Loose → recordMost < end → Bad recordLength ≡ lineOf mode false bs
-          spoilt-long m l = sym (bare ∙ rw m (content-long (take end bs) (end + 1) (omega (arith, short-bare))))
+            pub spoilt-long : x ≡ false → recordMost < end → Bad recordLength ≡ lineOf mode false bs
+            spoilt-long y l = sym (bare ∙ rw (← m, y) (content-long (take end bs) (end + 1) (omega (arith, short-bare))))
 
-          pub spoilt-byte : mode ≡ Loose → end ≤ recordMost → Bad badByte ≡ lineOf mode false bs
-          spoilt-byte m l =
-              sym (bare ∙ rw m (content-bad (take end bs) (end + 1) (omega (arith, short-bare)) (spoilt-in end spoilt-past (omega arith))))
+            pub spoilt-byte : x ≡ false → end ≤ recordMost → Bad badByte ≡ lineOf mode false bs
+            spoilt-byte y l =
+                sym (bare ∙ rw (← m, y) (content-bad (take end bs) (end + 1) (omega (arith, short-bare)) (spoilt-in end spoilt-past (omega arith))))
 
 pub ruleset spoilt-ways =
     (spoilt-front, spoilt-some, spoilt-cut, spoilt-CR-long, spoilt-CR-byte, spoilt-exact, spoilt-long, spoilt-byte)
@@ -142,9 +154,9 @@ pub ruleset spoilt-ways =
 -- ---- the ways of `line_at`
 
 module _ (mode : Mode) (due : Bool) (bs : List ℕ) (n : ℕ) (q : n ≡ run plain bs) (f : Line) where
-  pub line-LF : n < length bs → getD bs n 0 ≡ 10 → mode ≡ Loose
+  pub line-LF : n < length bs → getD bs n 0 ≡ 10 → (x : Bool) → x ≡ isExact mode → x ≡ false
       → f ≡ cond (leb n recordMost) (Got n (n + 1)) (Bad recordLength) → f ≡ lineOf mode due bs
-  line-LF h e m t = t ∙ sym (at-LF bs n q mode due h e ∙ rw m)
+  line-LF h e x m y t = t ∙ sym (at-LF bs n q mode due h e ∙ rw (← m, y))
 
   pub line-CRLF : (r : Bool) → r ≡ crlfAt bs n → r ≡ true
       → f ≡ cond (leb n recordMost) (Got n (n + 2)) (Bad recordLength) → f ≡ lineOf mode due bs
@@ -157,9 +169,9 @@ module _ (mode : Mode) (due : Bool) (bs : List ℕ) (n : ℕ) (q : n ≡ run pla
       not-EOF : bs ≡ wordEOF → ⊥
       not-EOF z = true≢false (sym (ap (all plain) z) ∙ all-not plain bs n h (front-bad bs n q h))
 
-pub line-bare : (mode : Mode) (due : Bool) (bs : List ℕ) (n : ℕ) → n ≡ run plain bs → n < length bs → getD bs n 0 ≡ 10 → mode ≡ Exact
-    → Bad lineEnd ≡ lineOf mode due bs
-line-bare mode due bs n q h e m = sym (at-LF bs n q mode due h e ∙ rw m)
+pub line-bare : (mode : Mode) (due : Bool) (bs : List ℕ) (n : ℕ) → n ≡ run plain bs → n < length bs → getD bs n 0 ≡ 10
+    → (x : Bool) → x ≡ isExact mode → x ≡ true → Bad lineEnd ≡ lineOf mode due bs
+line-bare mode due bs n q h e x m y = sym (at-LF bs n q mode due h e ∙ rw (← m, y))
 
 pub ruleset line-ways = (front-all, line-LF, line-bare, line-CRLF, line-spoilt)
 

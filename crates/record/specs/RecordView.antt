@@ -2,24 +2,23 @@
 use Prim.Native.Nat.{ℕ, _+_, _≤_, _<_}
 use mathlib.Core.Path.{_≡_}
 use mathlib.Core.List.{List, [], _∷_, _++_}
-use mathlib.Core.Bool.{Bool, true}
+use mathlib.Core.Bool.{Bool, true, false}
 use lib.ListN.{length, take, drop}
 use Rattle.laws.specs.Lists.{all}
 use Rattle.record.specs.Refusals.{fileMost, recordMost}
 use Rattle.record.specs.declared.Mode.{Mode}
-use Rattle.record.specs.declared.Mode.the-variants.{Loose}
 use Rattle.record.specs.declared.Line.the-variants.{Got}
-use Rattle.record.specs.Record.{plain, wordEOF, lineOf}
+use Rattle.record.specs.Record.{isExact, plain, wordEOF, lineOf}
 
--- a line end: CR LF, or in loose mode an LF alone
+-- a line end: CR LF, or where the mode is not exact an LF alone
 pub data LineEnd (mode : Mode) (e : List ℕ) : Type 0 where
   crlf : e ≡ 13 ∷ 10 ∷ [] → LineEnd mode e
-  lf : mode ≡ Loose → e ≡ 10 ∷ [] → LineEnd mode e
+  lf : isExact mode ≡ false → e ≡ 10 ∷ [] → LineEnd mode e
 
 -- the bytes are a content, a line end and a rest, or they are the loose `EOF`
 pub data Ending (mode : Mode) (due : Bool) (bs : List ℕ) (len width : ℕ) : Type 0 where
   lineEnded : (e : List ℕ) → LineEnd mode e → bs ≡ take len bs ++ (e ++ drop width bs) → width ≡ len + length e → Ending mode due bs len width
-  bare : mode ≡ Loose → due ≡ true → bs ≡ wordEOF → len ≡ 3 → width ≡ 3 → Ending mode due bs len width
+  bare : isExact mode ≡ false → due ≡ true → bs ≡ wordEOF → len ≡ 3 → width ≡ 3 → Ending mode due bs len width
 
 -- a record with `len` bytes of content stands at the front of the bytes, `width` bytes long
 pub record IsLine (mode : Mode) (due : Bool) (bs : List ℕ) (len width : ℕ) : Type 0 where

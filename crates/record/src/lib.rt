@@ -1,4 +1,4 @@
-// The records of a file (document 01, "Records"): what stands at a place of it, in either mode.
+// The records of a file (document 01, "Records"; 02, T-09): what stands at a place of it, in each mode.
 // All of it is proved, and no public function has a `requires`. A record is found in one pass over its bytes.
 pub mod refusal;
 
@@ -10,7 +10,7 @@ ghost use lib.Dec.{leb};
 ghost use Rattle.laws.specs.Lists.{run, all, same};
 ghost use Rattle.record.specs.declared.Line.the-variants.{Got, Bad};
 ghost use Rattle.record.specs.Refusals.{recordLength, recordMost};
-ghost use Rattle.record.specs.Record.{plain, notLF, lineOf, recordAt};
+ghost use Rattle.record.specs.Record.{isExact, isFormer, plain, notLF, lineOf, recordAt};
 ghost use Rattle.record.specs.Scan.{crlfAt, Spoilt};
 use refusal::BYTE;
 use refusal::CUT;
@@ -18,9 +18,11 @@ use refusal::LENGTH;
 use refusal::LINE_END;
 use refusal::TOO_LONG;
 
+// How a file is read. Former is the loose mode as it was before T-09, for the conversion of files with notes behind their numbers.
 pub enum Mode {
     Loose,
     Exact,
+    Former,
 }
 
 // The record at the front of some bytes: its content's length and its own with the line end, or the refusal's number.
@@ -47,6 +49,28 @@ const RECORD_MOST: usize = 255;
 const LF: u8 = 10;
 
 const CR: u8 = 13;
+
+// Only the printed layout is taken.
+pub fn is_exact(mode: Mode) -> bool
+    ensures { λ r. ⌜ r ≡ isExact mode ⌝ }
+{
+    match mode {
+        Mode::Loose => false,
+        Mode::Exact => true,
+        Mode::Former => false,
+    }
+}
+
+// Notes may stand behind numbers.
+pub fn is_former(mode: Mode) -> bool
+    ensures { λ r. ⌜ r ≡ isFormer mode ⌝ }
+{
+    match mode {
+        Mode::Loose => false,
+        Mode::Exact => false,
+        Mode::Former => true,
+    }
+}
 
 // How many bytes at the front a content may hold.
 fn plain_run(bs: &[u8]) -> usize
@@ -150,15 +174,13 @@ fn spoilt(bs: &[u8], n: usize, mode: Mode) -> Line
         }
         return Line::Bad(BYTE);
     }
-    match mode {
-        Mode::Exact => Line::Bad(LINE_END),
-        Mode::Loose => {
-            if end > RECORD_MOST {
-                return Line::Bad(LENGTH);
-            }
-            Line::Bad(BYTE)
-        }
+    if is_exact(mode) {
+        return Line::Bad(LINE_END);
     }
+    if end > RECORD_MOST {
+        return Line::Bad(LENGTH);
+    }
+    Line::Bad(BYTE)
 }
 
 // No byte is left behind the plain ones, so there is no LF: cut, but for the loose EOF.
@@ -166,18 +188,16 @@ fn unended(bs: &[u8], mode: Mode, due: bool) -> Line
     requires { ⌜ all plain (now bs) ≡ true ⌝ }
     ensures { λ r. ⌜ r ≡ lineOf mode due (now (bs .entry)) ⌝ }
 {
-    match mode {
-        Mode::Exact => Line::Bad(CUT),
-        Mode::Loose => {
-            if !due {
-                return Line::Bad(CUT);
-            }
-            if is_same(bs, b"EOF") {
-                return Line::Got { len: 3, width: 3 };
-            }
-            Line::Bad(CUT)
-        }
+    if is_exact(mode) {
+        return Line::Bad(CUT);
     }
+    if !due {
+        return Line::Bad(CUT);
+    }
+    if is_same(bs, b"EOF") {
+        return Line::Got { len: 3, width: 3 };
+    }
+    Line::Bad(CUT)
 }
 
 // The record at the front of the bytes, in one pass over them.
@@ -189,10 +209,10 @@ pub fn line_at(bs: &[u8], mode: Mode, due: bool) -> Line
         return unended(bs, mode, due);
     }
     if bs[n] == LF {
-        match mode {
-            Mode::Loose => return sized(n, n + 1),
-            Mode::Exact => return Line::Bad(LINE_END),
+        if is_exact(mode) {
+            return Line::Bad(LINE_END);
         }
+        return sized(n, n + 1);
     }
     if is_line_end(bs, n) {
         return sized(n, n + 2);

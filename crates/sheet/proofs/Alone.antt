@@ -1,7 +1,7 @@
 -- What is made of a record depends on its own bytes: those up to its LF, or to the end of the file. Document 01, "Records". Assumes nothing.
 use mathlib.Core.Path.{_≡_, refl, _∙_, ap, subst}
 use mathlib.Core.List.{List, [], _∷_}
-use mathlib.Core.Bool.{Bool, true, false, cond, _&&_, _||_}
+use mathlib.Core.Bool.{Bool, true, false, cond, not, _&&_, _||_}
 use Prim.Native.Nat.{ℕ, zero, suc, _+_, _<_}
 use native.Mathlib.Omega.{arith}
 use lib.ListN.{length, take, length-take}
@@ -14,7 +14,7 @@ use Rattle.laws.proofs.ListLaws.{same-is}
 use Rattle.record.specs.declared.Mode.{Mode}
 use Rattle.record.specs.declared.Line.{Line}
 use Rattle.record.specs.declared.Line.the-variants.{Got, Bad}
-use Rattle.record.specs.Record.{isLoose, plain, notLF, wordEOF, endsCR, content, contentIs, lineIs, lineOf}
+use Rattle.record.specs.Record.{isExact, plain, notLF, wordEOF, endsCR, content, contentIs, lineIs, lineOf}
 use Rattle.record.specs.Refusals.{cut}
 use Rattle.record.proofs.RecordLaws.{line-view, line-none}
 use Rattle.number.specs.Number.{realOf}
@@ -44,10 +44,10 @@ wide-line mode due bs =
     let n = length-take (r + 1) bs in
     cond-elim (Wide bs) (ltb r (length bs)) _ _
     (λ t. let h = ltb-true r (length bs) t in
-    cond-elim (Wide bs) (endsCR (take r bs) || isLoose mode) _ _
+    cond-elim (Wide bs) (endsCR (take r bs) || not (isExact mode)) _ _
     (λ _. wide-content bs (content (take r bs)) (length (take r bs) + 1) (omega (arith, n, length-take r bs))) (λ _. tt))
-    (λ t. cond-elim (Wide bs) (isLoose mode && due && same bs wordEOF) _ _
-    (λ e. let q : bs ≡ wordEOF = same-is bs wordEOF (and-right (isLoose mode && due) (same bs wordEOF) e) in
+    (λ t. cond-elim (Wide bs) (not (isExact mode) && due && same bs wordEOF) _ _
+    (λ e. let q : bs ≡ wordEOF = same-is bs wordEOF (and-right (not (isExact mode) && due) (same bs wordEOF) e) in
     omega (arith, n, ltb-false r (length bs) t, ap length q))
     (λ _. tt))
 

@@ -167,7 +167,7 @@ module _ (mode : Mode) (file : List ℕ) where
 
   -- ---- the file
 
-  file-answers : Answers mode word 1 0 file (sectionsOf mode file)
+  pub file-answers : Answers mode word 1 0 file (sectionsOf mode file)
   unfolding sectionsOf walkFrom
   file-answers = by (headed mode file .ahead) head-answers
     where

@@ -4,10 +4,11 @@ pub mod Okay
 pub mod Pass
 pub mod Whole
 pub mod Meaning
-pub mod Exact
+pub mod Modes
 pub mod Join
 pub mod Alone
 pub mod First
 pub mod Located
 pub mod Numbered
 pub mod Stored
+pub mod Notes

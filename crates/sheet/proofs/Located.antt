@@ -6,7 +6,7 @@ use native.Mathlib.Omega.{arith}
 use lib.ListN.{length, length-take, length-drop}
 use Rattle.laws.specs.Lists.{run}
 use Rattle.record.specs.declared.Mode.{Mode}
-use Rattle.record.specs.declared.Mode.the-variants.{Loose, Exact}
+use Rattle.record.specs.declared.Mode.the-variants.{Loose, Exact, Former}
 use Rattle.record.specs.Record.{notLF}
 use Rattle.record.specs.Refusals.{cut}
 use Rattle.sheet.specs.Tables.{Tables}
@@ -59,6 +59,7 @@ ended-at : (mode : Mode) (o : Tables) (eof k a : ℕ) (bs : List ℕ) → StopAt
 ended-at Exact o eof k a [] = tt
 ended-at Exact o eof k a (b ∷ bs) = here k a (b ∷ bs)
 ended-at Loose o eof k a bs = tt
+ended-at Former o eof k a bs = tt
 
 -- a record that is not cut has bytes
 not-cut : (mode : Mode) (w : Stage) (bs : List ℕ) (v : Given) → givenBy mode w (frontOf bs) ≡ v → (fault cut ≡ v → ⊥) → 0 < length bs

@@ -8,14 +8,14 @@ use lib.ListN.{length, take, drop}
 use lib.Dec.{leb, ltb, eqb}
 use lib.IntN.{pos}
 use lib.Signed.{ltZ}
-use borrow.Author.Tests.{leb-true, leb-false, not-true}
+use borrow.Author.Tests.{leb-true, leb-false, not-false}
 use Rattle.laws.specs.Lists.{run, all, same, place}
 use Rattle.laws.proofs.Choice.{and-left, and-right, cond-elim, true≢false, false≢true}
 use Rattle.record.specs.declared.Mode.{Mode}
-use Rattle.record.specs.declared.Mode.the-variants.{Loose, Exact}
+use Rattle.record.specs.declared.Mode.the-variants.{Loose, Exact, Former}
 use Rattle.record.specs.declared.Line.{Line}
 use Rattle.record.specs.declared.Line.the-variants.{Got, Bad}
-use Rattle.record.specs.Record.{isLoose, plain, notLF, wordEOF, endsCR, content, contentIs, lineIs, lineOf}
+use Rattle.record.specs.Record.{isExact, plain, notLF, wordEOF, endsCR, content, contentIs, lineIs, lineOf}
 use Rattle.record.specs.Refusals.{tooLong, lineEnd, unlistedCode, afterEOF, fileMost}
 use Rattle.number.specs.declared.Word.{Word}
 use Rattle.number.specs.declared.Word.the-variants as Word
@@ -44,14 +44,15 @@ use Rattle.sheet.proofs.First.{meaning-first}
 
 -- the numbers that a record's refusal can have: 2 to 13, and 3, 10 and 13 in exact mode alone
 abbrev pub mayGive : Mode → ℕ → Bool
-mayGive mode m = leb 2 m && leb m 13 && (not (eqb m lineEnd || eqb m unlistedCode || eqb m afterEOF) || not (isLoose mode))
+mayGive mode m = leb 2 m && leb m 13 && (not (eqb m lineEnd || eqb m unlistedCode || eqb m afterEOF) || isExact mode)
 
 abbrev Known : Mode → ℕ → Type 0
 Known mode m = mayGive mode m ≡ true
 
-exactly : (mode : Mode) (m : ℕ) → isLoose mode ≡ false → Known Exact m → Known mode m
+exactly : (mode : Mode) (m : ℕ) → isExact mode ≡ true → Known Exact m → Known mode m
 exactly Exact m e k = k
-exactly Loose m e k = absurd (true≢false e)
+exactly Loose m e k = absurd (false≢true e)
+exactly Former m e k = absurd (false≢true e)
 
 or-right : (a b : Bool) → (a || b) ≡ false → b ≡ false
 or-right true b e = absurd (true≢false e)
@@ -69,10 +70,10 @@ line-known mode due bs =
     let Q = LineKnown mode in
     let line = take (run notLF bs) bs in
     cond-elim Q (ltb (run notLF bs) (length bs)) _ _
-    (λ _. cond-elim Q (endsCR line || isLoose mode) _ _
+    (λ _. cond-elim Q (endsCR line || not (isExact mode)) _ _
     (λ _. cond-elim Q (leb (length (content line)) 255) _ _ (λ _. cond-elim Q (all plain (content line)) _ _ (λ _. tt) (λ _. refl)) (λ _. refl))
-    (λ e. exactly mode lineEnd (or-right (endsCR line) (isLoose mode) e) refl))
-    (λ _. cond-elim Q (isLoose mode && due && same bs wordEOF) _ _ (λ _. tt) (λ _. refl))
+    (λ e. exactly mode lineEnd (not-false (isExact mode) (or-right (endsCR line) (not (isExact mode)) e)) refl))
+    (λ _. cond-elim Q (not (isExact mode) && due && same bs wordEOF) _ _ (λ _. tt) (λ _. refl))
 
 abbrev TokenKnown : Mode → Token → Type 0
 TokenKnown mode (Token.Say t) = Unit {0}
@@ -132,8 +133,8 @@ step-known mode Due t next =
     cond-elim Q (eqb t 0) _ _ (λ _. tt) (λ _. cond-elim Q (eqb (nextOf (t / 2) 0) 0) _ _ (λ _. refl) (λ _. tt))
 step-known mode (Field kind p i) t next =
     let Q = StepKnown mode in
-    cond-elim Q (eqb p 2 && not (isLoose mode) && not (isListed kind t)) _ _
-    (λ e. exactly mode unlistedCode (not-true (isLoose mode) (and-right (eqb p 2) (not (isLoose mode)) (and-left (eqb p 2 && not (isLoose mode)) (not (isListed kind t)) e))) refl)
+    cond-elim Q (eqb p 2 && isExact mode && not (isListed kind t)) _ _
+    (λ e. exactly mode unlistedCode (and-right (eqb p 2) (isExact mode) (and-left (eqb p 2 && isExact mode) (not (isListed kind t)) e)) refl)
     (λ _. cond-elim Q (eqb p 11) _ _ (λ _. vertices-known mode kind i t)
     (λ _. cond-elim Q (eqb (nextOf kind p) 0) _ _ (λ _. fields-known mode kind) (λ _. tt)))
 step-known mode (Island l s r) t next =
@@ -206,6 +207,7 @@ ended-known : (mode : Mode) (o : Tables) (eof k a : ℕ) (bs : List ℕ) → Sec
 ended-known Exact o eof k a [] = tt
 ended-known Exact o eof k a (b ∷ bs) = refl
 ended-known Loose o eof k a bs = tt
+ended-known Former o eof k a bs = tt
 
 answers-known : {mode : Mode} {w : Stage} {k a : ℕ} {bs : List ℕ} {s : Sections} → Answers mode w k a bs s → SectionsKnown mode s
 answers-known {mode} {w} {bs = bs} (refuses e) = subst (GivenKnown mode) e (given-known mode w (frontOf bs))
@@ -232,7 +234,7 @@ by-length mode bs m k at P q f g = by (leb (length bs) fileMost) refl q
 pub reading-numbers : (mode : Mode) (bs : List ℕ) (m k at : ℕ) → reading mode bs ≡ refused m k at → (1 ≤ m) × (m ≤ 13)
 reading-numbers mode bs m k at q =
     by-length mode bs m k at ((1 ≤ m) × (m ≤ 13)) q (λ l e. (omega (arith, e), omega (arith, e)))
-    (λ r. let v = and-left (leb 2 m && leb m 13) (not (eqb m lineEnd || eqb m unlistedCode || eqb m afterEOF) || not (isLoose mode)) (meaning-numbers mode bs m k at r) in
+    (λ r. let v = and-left (leb 2 m && leb m 13) (not (eqb m lineEnd || eqb m unlistedCode || eqb m afterEOF) || isExact mode) (meaning-numbers mode bs m k at r) in
     (omega (arith, leb-true 2 m (and-left (leb 2 m) (leb m 13) v)), leb-true m 13 (and-right (leb 2 m) (leb m 13) v)))
 
 -- **1 is the file's own**: it is given only where the file is too long (and there it is: `reading-long`)
@@ -240,11 +242,11 @@ pub long-reading : (mode : Mode) (bs : List ℕ) (k at : ℕ) → reading mode b
 long-reading mode bs k at q =
     by-length mode bs tooLong k at (fileMost < length bs) q (λ l e. l) (λ r. absurd (false≢true (meaning-numbers mode bs tooLong k at r)))
 
--- **3, 10 and 13 cannot come in loose mode**
-pub loose-never : (bs : List ℕ) (m k at : ℕ) → reading Loose bs ≡ refused m k at → (m ≡ lineEnd → ⊥) × (m ≡ unlistedCode → ⊥) × (m ≡ afterEOF → ⊥)
-loose-never bs m k at q = (never lineEnd (omega arith) refl, never unlistedCode (omega arith) refl, never afterEOF (omega arith) refl)
+-- **3, 10 and 13 come in exact mode alone**
+pub loose-never : (mode : Mode) (bs : List ℕ) (m k at : ℕ) → isExact mode ≡ false → reading mode bs ≡ refused m k at → (m ≡ lineEnd → ⊥) × (m ≡ unlistedCode → ⊥) × (m ≡ afterEOF → ⊥)
+loose-never mode bs m k at x q = (never lineEnd (omega arith) x, never unlistedCode (omega arith) x, never afterEOF (omega arith) x)
   where
-    never : (n : ℕ) → 1 < n → mayGive Loose n ≡ false → m ≡ n → ⊥
+    never : (n : ℕ) → 1 < n → mayGive mode n ≡ false → m ≡ n → ⊥
     never n above f e =
-        by-length Loose bs m k at ⊥ q (λ l one. omega (arith, one))
-        (λ r. true≢false (sym (subst (λ (j : ℕ). mayGive Loose j ≡ true) e (meaning-numbers Loose bs m k at r)) ∙ f))
+        by-length mode bs m k at ⊥ q (λ l one. omega (arith, one))
+        (λ r. true≢false (sym (subst (λ (j : ℕ). mayGive mode j ≡ true) e (meaning-numbers mode bs m k at r)) ∙ f))

@@ -10,7 +10,7 @@ use lib.Dec.{leb, eqb}
 use lib.IntN.{ℤ}
 use borrow.Author.Tests.{leb-true, leb-false}
 use Rattle.record.specs.declared.Mode.{Mode}
-use Rattle.record.specs.Record.{isLoose}
+use Rattle.record.specs.Record.{isExact}
 use Rattle.laws.proofs.Choice.{cond-elim}
 use Rattle.kinds.specs.Kinds.{rowWidth, nextOf, fixedVertices, isListed, wantAt}
 use Rattle.machine.specs.Machine.{verticesOf, fieldsEnd, fieldOf, islandOf, isShut, ringStep, vertexOf, keyStep, stepOf}
@@ -58,7 +58,7 @@ field-okay : (mode : Mode) (kind p i n : ℕ) (o : Tables) → rowWidth ≤ leng
 unfolding fieldOf
 field-okay mode kind p i n o h =
     let Q = StepOkay o in
-    cond-elim Q (eqb p 2 && not (isLoose mode) && not (isListed kind n)) _ _ (λ _. tt)
+    cond-elim Q (eqb p 2 && isExact mode && not (isListed kind n)) _ _ (λ _. tt)
     (λ _. cond-elim Q (eqb p 11) _ _ (λ _. vertices-okay kind i n o)
     (λ _. cond-elim Q (eqb (nextOf kind p) 0) _ _ (λ _. end-okay kind o) (λ _. (h, next-most kind p))))
 

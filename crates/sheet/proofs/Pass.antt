@@ -10,9 +10,9 @@ use lib.Dec.{leb, eqb}
 use Rattle.laws.specs.Lists.{run, kept, all, same}
 use Rattle.laws.proofs.Choice.{cond-elim}
 use Rattle.record.specs.declared.Mode.{Mode}
-use Rattle.record.specs.declared.Mode.the-variants.{Loose, Exact}
+use Rattle.record.specs.declared.Mode.the-variants.{Loose, Exact, Former}
 use Rattle.record.specs.declared.Line.{Line}
-use Rattle.record.specs.Record.{isLoose, plain, wordEOF, lineOf}
+use Rattle.record.specs.Record.{isExact, plain, wordEOF, lineOf}
 use Rattle.record.specs.RecordView.{LineEnd, crlf, lf, Ending, lineEnded, bare, IsLine}
 use Rattle.record.proofs.RecordLaws.{line-view, line-make}
 use Rattle.number.specs.Words.{unled, trimmed, wordOf}
@@ -85,7 +85,7 @@ no-end mode Due t next =
     cond-elim (NoEnd Due) (eqb t 0) _ _ (λ _. refl) (λ _. cond-elim (NoEnd Due) (eqb (nextOf (t / 2) 0) 0) _ _ (λ _. tt) (λ _. tt))
 no-end mode (Field kind p i) t next =
     let Q = NoEnd (Field kind p i) in
-    cond-elim Q (eqb p 2 && not (isLoose mode) && not (isListed kind t)) _ _ (λ _. tt)
+    cond-elim Q (eqb p 2 && isExact mode && not (isListed kind t)) _ _ (λ _. tt)
     (λ _. cond-elim Q (eqb p 11) _ _ (λ _. no-end-vertices (Field kind p i) kind i t)
     (λ _. cond-elim Q (eqb (nextOf kind p) 0) _ _ (λ _. no-end-fields (Field kind p i) kind) (λ _. tt)))
 no-end mode (Island l s r) t next =
@@ -130,18 +130,20 @@ due-is (Island l s r) e = absurd (let z : _≡_ {A = ℕ} 0 1 = cc in omega arit
 due-is (X r) e = absurd (let z : _≡_ {A = ℕ} 0 1 = cc in omega arith)
 due-is (Y r x) e = absurd (let z : _≡_ {A = ℕ} 0 1 = cc in omega arith)
 
-says-EOF : lexOf Loose Key wordEOF ≡ Token.Say 0
+says-EOF : (mode : Mode) → lexOf mode Key wordEOF ≡ Token.Say 0
 unfolding lexOf wordOf trimmed unled run kept keyOf same
-says-EOF = refl
+says-EOF Loose = refl
+says-EOF Exact = refl
+says-EOF Former = refl
 
--- the loose `EOF` ends the file
-bare-ends : (mode : Mode) (st : State) (next t : ℕ) → mode ≡ Loose → isDue st ≡ true → lexOf mode (wantOf st) wordEOF ≡ Token.Say t
+-- `EOF` ends the file
+bare-ends : (mode : Mode) (st : State) (next t : ℕ) → isDue st ≡ true → lexOf mode (wantOf st) wordEOF ≡ Token.Say t
     → (st′ : State) → stepOf mode st t next ≡ Go st′ → ⊥
 unfolding wantOf stepOf keyStep
-bare-ends mode st next t m d e st′ g =
+bare-ends mode st next t d e st′ g =
     let s : st ≡ Due = due-is st d in
-    let e₁ : lexOf Loose Key wordEOF ≡ Token.Say t = subst (λ (x : State). lexOf Loose (wantOf x) wordEOF ≡ Token.Say t) s (subst (λ (x : Mode). lexOf x (wantOf st) wordEOF ≡ Token.Say t) m e) in
-    let t₀ : t ≡ 0 = cc (says-EOF) in
+    let e₁ : lexOf mode Key wordEOF ≡ Token.Say t = subst (λ (x : State). lexOf mode (wantOf x) wordEOF ≡ Token.Say t) s e in
+    let t₀ : t ≡ 0 = cc (says-EOF mode) in
     let g₁ : keyStep t ≡ Go st′ = subst (λ (x : State). stepOf mode x t next ≡ Go st′) s g in
     let g₂ : keyStep 0 ≡ Go st′ = subst (λ (n : ℕ). keyStep n ≡ Go st′) t₀ g₁ in
     let z : _≡_ {A = ℕ} 0 1 = cc in omega arith
@@ -156,7 +158,7 @@ module _ (mode : Mode) (st : State) (next : ℕ) (bs : List ℕ) where
           record { e = e; goes = record { good = l .allPlain; most = omega (arith, l .counted, l .most); end = k; says = q; steps = g }; split = d; wide = w; line = l; found = f }
       by (bare m d q₁ l₁ w₁) =
           let c : take len bs ≡ wordEOF = rw (l₁, q₁) in
-          absurd (bare-ends mode st next t m d (rw c at q) st′ g)
+          absurd (bare-ends mode st next t d (rw c at q) st′ g)
   view-step len width f l t q (No m) g = tt
   view-step len width f l t q End g = record { due = end-due mode st t next g; len = len; t = t; line = l; found = f; says = q; steps = g }
 
@@ -191,6 +193,7 @@ due-next mode a b bs = by-line (lineOf mode true bs)
 abbrev pub TailOk : Mode → List ℕ → Type 0
 TailOk Exact rest = rest ≡ []
 TailOk Loose rest = Unit {0}
+TailOk Former rest = Unit {0}
 
 -- the end of a file: its EOF record, and what may follow it
 pub record IsEnd (mode : Mode) (z : List ℕ) : Type 0 where
@@ -214,11 +217,13 @@ ended-read : (mode : Mode) (o o′ : Tables) (at eof k a : ℕ) (rest : List ℕ
 ended-read Exact o o′ at eof k a [] e = (cc, cc, refl)
 ended-read Exact o o′ at eof k a (b ∷ bs) e = absurd (stop≢read e)
 ended-read Loose o o′ at eof k a rest e = (cc, cc, tt)
+ended-read Former o o′ at eof k a rest e = (cc, cc, tt)
 
 read-ended : (mode : Mode) (o : Tables) (at k a : ℕ) (rest : List ℕ) → TailOk mode rest → Reading.behindEof mode o at k a rest ≡ read o at
 read-ended Exact o at k a [] h = refl
 read-ended Exact o at k a (b ∷ bs) h = absurd (let z : _≡_ {A = ℕ} 0 1 = cc in omega arith)
 read-ended Loose o at k a rest h = refl
+read-ended Former o at k a rest h = refl
 
 accepts-one : (mode : Mode) (st : State) (o o′ : Tables) (k a eof : ℕ) (bs : List ℕ) (go : State → Tables → ℕ → List ℕ → Sections)
     → ((st₁ : State) (o₁ : Tables) (a₁ : ℕ) (bs₁ : List ℕ) → go st₁ o₁ a₁ bs₁ ≡ read o′ eof → Accepts mode st₁ o₁ a₁ bs₁ o′ eof)

@@ -8,7 +8,7 @@ use lib.ListN.{length, length-append, length-set}
 use lib.Dec.{leb, eqb}
 use Rattle.laws.proofs.Choice.{cond-elim}
 use Rattle.record.specs.declared.Mode.{Mode}
-use Rattle.record.specs.Record.{isLoose}
+use Rattle.record.specs.Record.{isExact}
 use Rattle.token.specs.Lex.{unlift}
 use Rattle.kinds.specs.Kinds.{rowWidth, nextOf, fixedVertices, isListed}
 use Rattle.machine.specs.declared.State.{State}
@@ -59,7 +59,7 @@ step-odd mode Due t next =
     cond-elim Q (eqb t 0) _ _ (λ _. tt) (λ _. cond-elim Q (eqb (nextOf (t / 2) 0) 0) _ _ (λ _. tt) (λ _. refl))
 step-odd mode (Field kind p i) t next =
     let Q = StepOdd 0 in
-    cond-elim Q (eqb p 2 && not (isLoose mode) && not (isListed kind t)) _ _ (λ _. tt)
+    cond-elim Q (eqb p 2 && isExact mode && not (isListed kind t)) _ _ (λ _. tt)
     (λ _. cond-elim Q (eqb p 11) _ _ (λ _. vertices-odd kind i t)
     (λ _. cond-elim Q (eqb (nextOf kind p) 0) _ _ (λ _. end-odd kind) (λ _. refl)))
 step-odd mode (Island l s r) t next =

@@ -7,7 +7,7 @@ use lib.IntN.{pos, negsuc}
 use Rattle.laws.specs.Lists.{run, kept, all, same, allAt, holds, place}
 use Rattle.laws.specs.Text.{text}
 use Rattle.record.specs.declared.Mode.{Mode}
-use Rattle.record.specs.declared.Mode.the-variants.{Loose, Exact}
+use Rattle.record.specs.declared.Mode.the-variants.{Loose, Exact, Former}
 use Rattle.record.specs.Record.{endsCR, content, contentIs, lineIs, lineOf}
 use Rattle.number.specs.Words.{unled, trimmed, wordOf}
 use Rattle.number.specs.Number as Number
@@ -22,7 +22,7 @@ use Rattle.sheet.specs.Reading.{Reading, sheet, refused, walk, walkFrom,
 
 -- `reading` with every definition opened, so that it computes
 unfoldable pub computed : Mode → List ℕ → Reading
-unfolding run kept all same allAt holds place endsCR content contentIs lineIs lineOf unled trimmed wordOf Number.value Number.ended Number.lean Number.integerIs Number.integerAt Number.integerOf Number.signOf Number.signs Number.signed Number.thousandths Number.isToken Number.isNeat Number.realIs Number.realAt Number.realSigned Number.realOf firstWords nameByte isName kindSaid isNamed headScale headName headed keywords mayLieOutside schedule nextIn nextOf fixed fixedVertices codes isListed lift unlift unmarked isMarked keyOf lexOf wantAt wantOf verticesOf fieldsEnd fieldOf islandOf isShut ringStep vertexOf keyStep stepOf oneOf setLast put ringAfter walk walkFrom sectionsOf meaning reading sectionsAt eofAt sectionBytes joined
+unfolding run kept all same allAt holds place endsCR content contentIs lineIs lineOf unled trimmed wordOf Number.value Number.ended Number.parted Number.lean Number.integerIs Number.integerAt Number.integerOf Number.signOf Number.signs Number.signed Number.thousandths Number.isToken Number.isNeat Number.realIs Number.realAt Number.realSigned Number.realOf firstWords nameByte isName kindSaid isNamed headScale headName headed keywords mayLieOutside schedule nextIn nextOf fixed fixedVertices codes isListed lift unlift unmarked isMarked keyOf lexOf wantAt wantOf verticesOf fieldsEnd fieldOf islandOf isShut ringStep vertexOf keyStep stepOf oneOf setLast put ringAfter walk walkFrom sectionsOf meaning reading sectionsAt eofAt sectionBytes joined
 computed mode bs = reading mode bs
 
 -- ---- the specification's own examples (1.1.3, 1.1.6, 1.1.9 to 1.1.12)
@@ -88,9 +88,10 @@ specimen-loose : reading Loose padded ≡ specimen
 unfolding computed padded specimen
 specimen-loose = refl
 
-specimen-printed : reading Loose printed ≡ specimen
+-- notes are the former reading's; loose mode refuses the first of them
+specimen-printed : (reading Former printed ≡ specimen) × (reading Loose printed ≡ refused 8 12 88)
 unfolding computed printed specimen
-specimen-printed = refl
+specimen-printed = (refl, refl)
 
 -- ---- the listing example of document 01: a TESTO may say EOF, and the last record has no line end
 

@@ -1,11 +1,11 @@
--- What the bytes of a file mean, in either mode: document 01, "Header and EOF", "Sections", "Sheet tables". Assumes nothing: these are definitions.
+-- What the bytes of a file mean, in each mode: document 01, "Header and EOF", "Sections", "Sheet tables". Assumes nothing: these are definitions.
 use Prim.Native.Nat.{ℕ, zero, suc, _+_, _-_, min}
 use mathlib.Core.List.{List, [], _∷_, _++_}
 use mathlib.Core.Bool.{Bool, cond}
 use lib.ListN.{length, take, drop}
 use lib.Dec.{leb}
 use Rattle.record.specs.declared.Mode.{Mode}
-use Rattle.record.specs.declared.Mode.the-variants.{Loose, Exact}
+use Rattle.record.specs.declared.Mode.the-variants.{Loose, Exact, Former}
 use Rattle.laws.specs.Lists.{run}
 use Rattle.record.specs.Record.{notLF}
 use Rattle.record.specs.Refusals.{tooLong, cut, afterEOF, fileMost}
@@ -26,11 +26,12 @@ pub data Sections : Type 0 where
   read : Tables → ℕ → Sections
   stop : ℕ → ℕ → ℕ → Sections
 
--- what follows the EOF record, which stands at `eof`, is ignored in loose mode and refused (13) in exact mode, located at the next record
+-- what follows the EOF record, which stands at `eof`, is refused (13) in exact mode and else ignored, located at the next record
 abbrev pub behindEof : Mode → Tables → ℕ → ℕ → ℕ → List ℕ → Sections
 behindEof Exact o eof k at [] = read o eof
 behindEof Exact o eof k at (b ∷ bs) = stop afterEOF k at
 behindEof Loose o eof k at bs = read o eof
+behindEof Former o eof k at bs = read o eof
 
 -- after one record: `k` is its number, `at` its offset, `bs` the bytes from there on
 abbrev pub after : Mode → State → Tables → ℕ → ℕ → List ℕ → (State → Tables → ℕ → List ℕ → Sections) → One → Sections

@@ -59,7 +59,7 @@ no-blank s e = run-none blank s (ne-eqb (getD s 0 0) 32 (λ q. omega (arith, dig
 -- lean digits, aligned, are read as their value
 integer-reads : (s : List ℕ) → all digit s ≡ true → lean s (length s) ≡ true → 1 ≤ length s → length s ≤ 4
     → integerOf Exact (aligned 4 s) ≡ Whole.Is (value 0 s)
-unfolding integerOf integerAt integerIs ended
+unfolding integerOf integerAt integerIs ended all
 integer-reads s e l h k =
     rw (
       aligned-length 4 s k,
@@ -93,12 +93,12 @@ integer-taken : (size : ℕ) (t : List ℕ) (n v : ℕ) → integerIs Exact size
 unfolding integerIs
 integer-taken size t n v q =
     let refused : Whole.Malformed ≡ Whole.Is v → ⊥ = λ x. let i : _≡_ {A = ℕ} 0 1 = cc in omega arith in
-    let row = leb 1 n && leb n 4 && ended (drop n t) in
+    let row = leb 1 n && leb n 4 && ended Exact (drop n t) in
     let more = eqb size 4 && eqb (length t) n in
     let r = cond-first (row && (more && lean t n)) (Whole.Is (value 0 (take n t))) Whole.Malformed (Whole.Is v) refused q in
     let a = and-left row (more && lean t n) (r .0) in
     let b = and-right row (more && lean t n) (r .0) in
-    let c = and-left (leb 1 n && leb n 4) (ended (drop n t)) a in
+    let c = and-left (leb 1 n && leb n 4) (ended Exact (drop n t)) a in
     let d = and-left more (lean t n) b in
     let e : Whole.Is (value 0 (take n t)) ≡ Whole.Is v = r .1 in
     record {
@@ -164,13 +164,16 @@ module _ (sign : ℕ) (d p : List ℕ) (digits-in : all digit d ≡ true) (neat 
     (places-in : all digit p ≡ true) (three : length p ≡ 3) (fits : signs sign + length d ≤ 8) (plus : sign ≡ 43 → ⊥)
     (nought : sign ≡ 45 → value 0 d * 1000 + value 0 p ≡ 0 → ⊥) where
   token-is : isToken sign (token d p) (length d) ≡ true
-  unfolding isToken ended
+  unfolding isToken
   token-is =
-      let x : drop (length d + 4) (token d p) ≡ [] = drop-of-length-le (token d p) {i = length d + 4} (omega (arith, token-length d p three)) in
       let y : run digit p ≡ 3 = run-whole digit p places-in ∙ three in
       let a : length d ≤ 8 = omega arith in
       let b : signs sign + length d + 4 ≤ 12 = omega arith in
-      rw (le-leb 1 (length d) some, le-leb (length d) 8 a, token-point d p, token-places d p, y, x, le-leb (signs sign + length d + 4) 12 b)
+      rw (le-leb 1 (length d) some, le-leb (length d) 8 a, token-point d p, token-places d p, y, le-leb (signs sign + length d + 4) 12 b)
+
+  token-ends : ended Exact (drop (length d + 4) (token d p)) ≡ true
+  unfolding ended all
+  token-ends = rw (drop-of-length-le (token d p) {i = length d + 4} (omega (arith, token-length d p three)))
 
   token-neat : isNeat 12 sign (token d p) (length d) ≡ true
   unfolding isNeat lean
@@ -187,7 +190,7 @@ module _ (sign : ℕ) (d p : List ℕ) (digits-in : all digit d ≡ true) (neat 
 
   token-reads : realAt Exact 12 sign (token d p) ≡ Decimal.Is (signed sign (value 0 d * 1000 + value 0 p))
   unfolding realAt realIs
-  token-reads = rw (token-run d p digits-in, token-is, token-neat, token-value d p three)
+  token-reads = rw (token-run d p digits-in, token-is, token-ends, token-neat, token-value d p three)
 
 -- the digits and places of a number in thousandths make such a token
 module _ (m : ℕ) where
@@ -282,19 +285,19 @@ real-read size sign u n z q =
     let front = leb 1 n && leb n 8 in
     let point = eqb (getD u n 0) 46 in
     let three = eqb (run digit (drop (n + 1) u)) 3 in
-    let end = ended (drop (n + 4) u) in
+    let end = ended Exact (drop (n + 4) u) in
     let width = leb (signs sign + n + 4) 12 in
     let size-is = eqb size 12 in
     let full = eqb (length u) (n + 4) in
     let plus = not (eqb sign 43) in
     let nought = not (eqb sign 45 && eqb (thousandths u n) 0) in
-    let whole = front && point && three && end && width in
+    let whole = front && point && three && width in
     let rest = size-is && full && plus && nought && lean u n in
-    let r = cond-first (whole && rest) (Decimal.Is (signed sign (thousandths u n))) Decimal.Malformed (Decimal.Is z) refused q in
-    let a = and-left (front && point && three) end (and-left (front && point && three && end) width (and-left whole rest (r .0))) in
+    let r = cond-first (whole && end && rest) (Decimal.Is (signed sign (thousandths u n))) Decimal.Malformed (Decimal.Is z) refused q in
+    let a = and-left (front && point && three) width (and-left whole end (and-left (whole && end) rest (r .0))) in
     let b = and-left (front && point) three a in
     let c = and-left front point b in
-    let d = and-right whole rest (r .0) in
+    let d = and-right (whole && end) rest (r .0) in
     let e = and-left (size-is && full && plus && nought) (lean u n) d in
     let f = and-left (size-is && full && plus) nought e in
     let g = and-left (size-is && full) plus f in

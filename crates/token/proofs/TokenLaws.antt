@@ -1,4 +1,4 @@
--- The theorems on tokens: lifted reals, the bound of every token, and the keywords spelt back. Assumes nothing.
+-- The theorems on tokens: lifted reals, the bound of every token, the keywords spelt back, and how the modes relate. Assumes nothing.
 use Prim.Native.Nat.{ℕ, _+_, _-_, _*_, _/_, _%_, _≤_, _<_}
 use mathlib.Core.Path.{_≡_, refl, sym, _∙_, ap}
 use mathlib.Core.List.{List, [], _∷_, _++_, append-nil}
@@ -10,12 +10,12 @@ use lib.Dec.{leb, eqb}
 use lib.IntN.{ℤ, pos, negsuc}
 use lib.Signed.{leZ}
 use borrow.Author.Tests.{ne-eqb, eqb-true, le-leb, leb-true, lt-ltb, le-ltb}
-use Rattle.laws.specs.Lists.{run, kept, same, place, below}
+use Rattle.laws.specs.Lists.{run, kept, all, same, place, below}
 use Rattle.laws.proofs.Choice.{and-left, and-right, cond-elim, false≢true}
 use Rattle.laws.proofs.ListLaws.{same-is, place-is, front, below-at}
 use Rattle.record.specs.declared.Mode.{Mode}
-use Rattle.record.specs.declared.Mode.the-variants.{Exact}
-use Rattle.record.specs.Record.{wordEOF}
+use Rattle.record.specs.declared.Mode.the-variants.{Loose, Exact, Former}
+use Rattle.record.specs.Record.{widens, wordEOF}
 use Rattle.record.specs.Refusals.{notKeyword, malformed, badLetters, recordMost}
 use Rattle.number.specs.declared.Word.{Word}
 use Rattle.number.specs.declared.Word.the-variants as Word
@@ -24,14 +24,14 @@ use Rattle.number.specs.declared.Whole.the-variants as Whole
 use Rattle.number.specs.declared.Decimal.{Decimal}
 use Rattle.number.specs.declared.Decimal.the-variants as Decimal
 use Rattle.number.specs.Words.{unled, trimmed, wordOf}
-use Rattle.number.specs.Number.{integerOf, realOf, realLeast, realMost, isReal}
-use Rattle.number.proofs.NumberLaws.{integer-most, real-in}
-use Rattle.number.proofs.WordLaws.{word-is, word-exact}
+use Rattle.number.specs.Number.{parted, isNote, integerOf, realOf, realLeast, realMost, isReal}
+use Rattle.number.proofs.NumberLaws.{integer-most, real-in, integer-widens, real-widens, integer-former, real-former, integer-noted, real-noted}
+use Rattle.number.proofs.WordLaws.{word-is, word-exact, word-widens}
 use Rattle.token.specs.declared.Token.{Token}
 use Rattle.token.specs.declared.Token.the-variants.{Say, Bad}
 use Rattle.token.specs.declared.Want.{Want}
 use Rattle.token.specs.declared.Want.the-variants.{Key, Text, Int, Real}
-use Rattle.token.specs.Lex.{lift, unlift, keywords, kindMost, mayLieOutside, unmarked, isMarked, keyOf, isKey, keyText, ofKey, ofText, ofWhole, ofDecimal, lexOf}
+use Rattle.token.specs.Lex.{lift, unlift, keywords, kindMost, mayLieOutside, unmarked, isMarked, keyOf, isKey, keyText, ofKey, ofText, ofWhole, ofDecimal, lexOf, behindNumber}
 use Rattle.token.proofs.TokenWays.{kind-most, marked-kind}
 
 no-say : (n t : ℕ) → Bad n ≡ Say t → ⊥
@@ -179,7 +179,7 @@ module _ (mode : Mode) (c : List ℕ) (t : ℕ) (P : Type 0) where
       by (Word.Is start len) q d = f start len q (ap keyOf (sym (word-is mode c start len q .1)) ∙ d)
       by Word.Padded q d = absurd (no-say notKeyword t d)
 
--- in either mode its word is the text
+-- in every mode its word is the text
 pub key-text : (mode : Mode) (c : List ℕ) (t : ℕ) → lexOf mode Key c ≡ Say t → (isKey t ≡ true) × (trimmed c ≡ keyText t)
 key-text mode c t e = key-word mode c t ((isKey t ≡ true) × (trimmed c ≡ keyText t)) e (λ start len q d. key-read (trimmed c) t d)
 
@@ -210,3 +210,45 @@ says-most mode Real c t h e = by (realOf mode c) refl e
     by : (x : Decimal) → realOf mode c ≡ x → ofDecimal x ≡ Say t → t ≤ 109999999999
     by (Decimal.Is z) q d = omega (arith, say-is (lift z) t d, lift-most z (real-in mode c z q) .1)
     by Decimal.Malformed q d = absurd (no-say malformed t d)
+
+-- ---- the modes
+
+-- what a content says in one mode, it says in a wider one
+pub lex-widens : (from to : Mode) → widens from to ≡ true → (w : Want) (c : List ℕ) (t : ℕ) → lexOf from w c ≡ Say t → lexOf to w c ≡ Say t
+unfolding lexOf
+lex-widens from to wide Key c t = go (wordOf from c) refl
+  where
+    go : (w : Word) → wordOf from c ≡ w → ofKey c w ≡ Say t → ofKey c (wordOf to c) ≡ Say t
+    go (Word.Is start len) e q = rw (word-widens from to wide c start len e) q
+    go Word.Padded e q = absurd (no-say notKeyword t q)
+lex-widens from to wide Text c t = go (wordOf from c) refl
+  where
+    go : (w : Word) → wordOf from c ≡ w → ofText w ≡ Say t → ofText (wordOf to c) ≡ Say t
+    go (Word.Is start len) e q = rw (word-widens from to wide c start len e) q
+    go Word.Padded e q = absurd (no-say badLetters t q)
+lex-widens from to wide Int c t = go (integerOf from c) refl
+  where
+    go : (w : Whole) → integerOf from c ≡ w → ofWhole w ≡ Say t → ofWhole (integerOf to c) ≡ Say t
+    go (Whole.Is n) e q = rw (integer-widens from to wide c n e) q
+    go Whole.Malformed e q = absurd (no-say malformed t q)
+lex-widens from to wide Real c t = go (realOf from c) refl
+  where
+    go : (w : Decimal) → realOf from c ≡ w → ofDecimal w ≡ Say t → ofDecimal (realOf to c) ≡ Say t
+    go (Decimal.Is z) e q = rw (real-widens from to wide c z e) q
+    go Decimal.Malformed e q = absurd (no-say malformed t q)
+
+-- loose mode reads a content as the former reading does, or there is a note behind its number
+pub lex-former : (w : Want) (c : List ℕ) (P : Type 0) → (lexOf Loose w c ≡ lexOf Former w c → P) → (isNote (behindNumber w c) ≡ true → P) → P
+unfolding lexOf
+lex-former Key c P same note = same (unfold wordOf in refl)
+lex-former Text c P same note = same (unfold wordOf in refl)
+lex-former Int c P same note = integer-former c P (λ e. same (ap ofWhole e)) note
+lex-former Real c P same note = real-former c P (λ e. same (ap ofDecimal e)) note
+
+-- a note is 8 in loose mode
+pub lex-noted : (w : Want) (c : List ℕ) → isNote (behindNumber w c) ≡ true → lexOf Loose w c ≡ Bad malformed
+unfolding lexOf
+lex-noted Key c e = absurd (false≢true (unfold isNote parted all in e))
+lex-noted Text c e = absurd (false≢true (unfold isNote parted all in e))
+lex-noted Int c e = rw (integer-noted c e)
+lex-noted Real c e = rw (real-noted c e)

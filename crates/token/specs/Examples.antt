@@ -8,7 +8,7 @@ use lib.IntN.{pos, negsuc}
 use Rattle.laws.specs.Lists.{same, place}
 use Rattle.laws.specs.Text.{text}
 use Rattle.record.specs.declared.Mode.{Mode}
-use Rattle.record.specs.declared.Mode.the-variants.{Loose, Exact}
+use Rattle.record.specs.declared.Mode.the-variants.{Loose, Exact, Former}
 use Rattle.number.specs.Examples.{computedInteger, computedReal, computedWord}
 use Rattle.token.specs.declared.Token.{Token}
 use Rattle.token.specs.declared.Token.the-variants.{Say, Bad}
@@ -60,6 +60,12 @@ numbers-said : (lexOf Exact Int (text "  18") ≡ Say 18) × (lexOf Exact Int (t
     × (lexOf Loose Real (text "-0.005") ≡ Say 9999999995) × (lexOf Exact Real (text "-9999999.999") ≡ Say 1) × (lexOf Loose Real (text "5") ≡ Bad 8)
 unfolding computed
 numbers-said = (refl, refl, refl, refl, refl, refl)
+
+-- a tail is 8, but in the former reading
+tails-said : (lexOf Former Int (text "18 8") ≡ Say 18) × (lexOf Loose Int (text "18 8") ≡ Bad 8) × (lexOf Former Real (text "0.000 x1") ≡ Say 10000000000)
+    × (lexOf Loose Real (text "0.000 x1") ≡ Bad 8) × (lexOf Former Text (text "18 8") ≡ Say 4) × (lexOf Former Key (text "EOF 8") ≡ Bad 7)
+unfolding computed
+tails-said = (refl, refl, refl, refl, refl, refl)
 
 -- a lifted real is had back
 lifted-back : (unlift (lift (negsuc 4)) ≡ negsuc 4) × (unlift (lift (pos 7)) ≡ pos 7) × (unlift 0 ≡ negsuc 9999999999)

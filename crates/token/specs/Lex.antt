@@ -17,7 +17,7 @@ use Rattle.number.specs.declared.Whole.the-variants as Whole
 use Rattle.number.specs.declared.Decimal.{Decimal}
 use Rattle.number.specs.declared.Decimal.the-variants as Decimal
 use Rattle.number.specs.Words.{wordOf}
-use Rattle.number.specs.Number.{integerOf, realOf}
+use Rattle.number.specs.Number.{integerOf, behindInteger, realOf, behindReal}
 use Rattle.token.specs.declared.Token.{Token}
 use Rattle.token.specs.declared.Token.the-variants.{Say, Bad}
 use Rattle.token.specs.declared.Want.{Want}
@@ -89,3 +89,10 @@ lexOf mode Key c = ofKey c (wordOf mode c)
 lexOf mode Text c = ofText (wordOf mode c)
 lexOf mode Int c = ofWhole (integerOf mode c)
 lexOf mode Real c = ofDecimal (realOf mode c)
+
+-- what stands behind the number that a content is to be read as; letters and keywords are none
+abbrev pub behindNumber : Want → List ℕ → List ℕ
+behindNumber Key c = []
+behindNumber Text c = []
+behindNumber Int c = behindInteger c
+behindNumber Real c = behindReal c

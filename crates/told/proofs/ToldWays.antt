@@ -14,7 +14,7 @@ use borrow.Author.Tests.{eq-eqb, ne-eqb}
 use native.Mathlib.Omega.{arith}
 use Rattle.laws.proofs.Choice.{cond-true, cond-false}
 use Rattle.record.specs.declared.Mode.{Mode}
-use Rattle.record.specs.declared.Mode.the-variants.{Loose, Exact}
+use Rattle.record.specs.declared.Mode.the-variants.{Loose, Exact, Former}
 use Rattle.number.proofs.NumberLaws.{integer-most}
 use Rattle.column.specs.declared.PlacedInteger.the-variants as PlacedInteger
 use Rattle.column.specs.Columns.{integerPlaced, unplacedWhole}
@@ -48,10 +48,13 @@ asked f p e = p ∙ ap f e
 -- ---- the mode and the header
 
 pub is-loose : (m : ℕ) → m ≡ 0 → Loose ≡ modeOf m
-is-loose m e = sym (cond-true (eqb m 0) Loose Exact (eq-eqb m 0 e))
+is-loose m e = rw (eq-eqb m 0 e)
 
-pub is-exact : (m : ℕ) → (m ≡ 0 → ⊥) → Exact ≡ modeOf m
-is-exact m f = sym (cond-false (eqb m 0) Loose Exact (ne-eqb m 0 f))
+pub is-former : (m : ℕ) → (m ≡ 0 → ⊥) → m ≡ 2 → Former ≡ modeOf m
+is-former m f e = rw (ne-eqb m 0 f, eq-eqb m 2 e)
+
+pub is-exact : (m : ℕ) → (m ≡ 0 → ⊥) → (m ≡ 2 → ⊥) → Exact ≡ modeOf m
+is-exact m f g = rw (ne-eqb m 0 f, ne-eqb m 2 g)
 
 pub no-header : (kind : ℕ) (name : List ℕ) (scale : ℤ) → (length name ≡ 11 → ⊥) → noHeader ≡ headerOf kind name scale
 unfolding headerOf

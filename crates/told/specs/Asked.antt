@@ -7,13 +7,13 @@ use lib.ListN.{length}
 use lib.Dec.{eqb}
 use lib.IntN.{ℤ}
 use Rattle.record.specs.declared.Mode.{Mode}
-use Rattle.record.specs.declared.Mode.the-variants.{Loose, Exact}
+use Rattle.record.specs.declared.Mode.the-variants.{Loose, Exact, Former}
 use Rattle.heading.specs.declared.Header.{Header}
 use Rattle.heading.specs.Heading.{noHeader, isHeader}
 
--- 0 is loose, anything else is exact
+-- 0 is loose, 2 is the former reading, anything else is exact
 abbrev pub modeOf : ℕ → Mode
-modeOf m = cond (eqb m 0) Loose Exact
+modeOf m = cond (eqb m 0) Loose (cond (eqb m 2) Former Exact)
 
 -- 0 is no, anything else is yes
 abbrev pub isKeywordDue : ℕ → Bool

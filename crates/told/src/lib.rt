@@ -71,12 +71,15 @@ pub struct CxfListed {
     pub length: usize,
 }
 
-// 0 is loose, anything else is exact.
+// 0 is loose, 2 is the former reading, anything else is exact.
 pub fn mode_of(mode: usize) -> Mode
     ensures { λ r. ⌜ r ≡ modeOf mode ⌝ }
 {
     if mode == 0 {
         return Mode::Loose;
+    }
+    if mode == 2 {
+        return Mode::Former;
     }
     Mode::Exact
 }

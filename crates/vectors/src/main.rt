@@ -1,4 +1,4 @@
-// Runs the examples that document 01 wants run: the specification's own (000, 1.1.3 to 1.1.12), read in loose mode as they are printed, its
+// Runs the examples that document 01 wants run: the specification's own (000, 1.1.3 to 1.1.12), read in the former mode as they are printed, its
 // blanks and notes kept, and written padded, in the exact layout; that text, read in exact mode and written again, gives the same
 // bytes; then the tile example. Its file `stdin` has the printed form, its file `stdout` the padded one.
 // Where 000 prints a part of a section alone, `stdin` has records of our own: before the vertices of 1.1.6 the first eight of its BORDO (the
@@ -69,7 +69,7 @@ fn pad(mode: Mode, src: &[u8], out: &mut [u8]) -> usize
 }
 
 fn print_sheet(src: &[u8], text: &mut [u8], again: &mut [u8]) {
-    let n = pad(Mode::Loose, src, text);
+    let n = pad(Mode::Former, src, text);
     io::write_all(STDOUT_FILENO, &text[..n]);
     let m = pad(Mode::Exact, &text[..n], again);
     if is_same(&text[..n], &again[..m]) {

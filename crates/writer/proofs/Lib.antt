@@ -1,5 +1,6 @@
 -- The laws of `writer` and the ways through its code; `pub mod` lets other crates cite a file.
 pub mod WriteLaws
+pub mod SizeLaws
 pub mod Putting
 mod RowFacts
 mod RowWays

@@ -229,3 +229,10 @@ row-most rows n =
     let i = cellIn rows 10 in
     let v = cellIn rows 11 in
     omega (arith, row-fits rows n k o l i v refl refl refl refl refl, row-summed rows n k o l i v refl refl refl refl refl)
+
+-- a row's keyword and fields without its letters take 98 bytes at most
+pub row-bound : (t : Tables) → isMade t ≡ true → length (rowText t) ≤ 98 + countAt t 9 + 6 * countAt t 10 + 28 * countAt t 11
+unfolding rowSize
+row-bound t e =
+    let n : areNumbers (t .rows) ≡ true = row-is t e .numbers in
+    omega (arith, row-size t e, frame-most (kindOf t) (kind-in (t .rows) n .1), outside-in (t .rows) n)

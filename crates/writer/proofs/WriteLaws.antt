@@ -10,7 +10,7 @@ use borrow.Author.Tests.{le-leb}
 use Rattle.laws.specs.Lists.{over}
 use Rattle.laws.proofs.Choice.{cond-first}
 use Rattle.record.specs.declared.Mode.{Mode}
-use Rattle.record.specs.declared.Mode.the-variants.{Loose, Exact}
+use Rattle.record.specs.declared.Mode.the-variants.{Loose, Exact, Former}
 use Rattle.record.specs.Refusals.{fileMost}
 use Rattle.heading.specs.declared.Header.{Header}
 use Rattle.heading.specs.Heading.{isHeader}
@@ -18,10 +18,11 @@ use Rattle.kinds.specs.Kinds.{rowWidth}
 use Rattle.sheet.specs.Tables.{Tables, _then_, overOf, rowCount}
 use Rattle.sheet.specs.Reading.{sheet, meaning, reading}
 use Rattle.sheet.proofs.Meaning.{reading-meaning}
-use Rattle.sheet.proofs.Exact.{exact-loose}
+use Rattle.record.proofs.RecordLaws.{former-widest}
+use Rattle.sheet.proofs.Modes.{reading-widens}
 use Rattle.made.specs.declared.Verdict.the-variants.{Fine, BadHeader}
 use Rattle.made.specs.Made.{noneBefore, judgeRows, judgeOf, usedOf}
-use Rattle.made.proofs.UsedLaws.{behindOf, used-front, used-behind, judge-used, Long, fine-long}
+use Rattle.made.proofs.UsedLaws.{behindOf, used-front, used-behind, judge-used, judge-alike, Long, fine-long}
 use Rattle.layout.specs.Sheet.{sheetText}
 use Rattle.writer.specs.Write.{writeOf, outputOf, numberOf}
 use Rattle.writer.specs.declared.Written.{Written}
@@ -133,12 +134,9 @@ read-write-over bs h o old room l e r =
     let z = read-write bs h o room l e r in
     (w ∙ z .0, ap₂ (λ (x : Written) (y : List ℕ). outputOf x y l) w s ∙ z .1)
 
--- **what was read is well made**, in either mode, on the tables as the reading leaves them: the premise of every question that is asked of a row alone
+-- **what was read is well made**, in every mode, on the tables as the reading leaves them: the premise of every question that is asked of a row alone
 pub read-fine-over : (mode : Mode) (bs : List ℕ) (h : Header) (o old : Tables) → reading mode bs ≡ sheet h o → judgeOf Loose h (rowCount o) (overOf o old) ≡ Fine
 read-fine-over mode bs h o old e =
-    let l = reading-meaning Loose bs h o (widened mode e) .1 in
-    sym (judge-used Loose h (rowCount o) (overOf o old)) ∙ ap (judgeOf Loose h (rowCount o)) (read-used Loose bs h o _ l) ∙ comes-made Loose bs h o l .0
-  where
-    widened : (mode : Mode) → reading mode bs ≡ sheet h o → reading Loose bs ≡ sheet h o
-    widened Loose q = q
-    widened Exact q = exact-loose bs h o q
+    let l = reading-meaning Former bs h o (reading-widens mode Former (former-widest mode) bs h o e) .1 in
+    judge-alike Loose Former refl h (rowCount o) (overOf o old)
+    ∙ sym (judge-used Former h (rowCount o) (overOf o old)) ∙ ap (judgeOf Former h (rowCount o)) (read-used Former bs h o _ l) ∙ comes-made Former bs h o l .0

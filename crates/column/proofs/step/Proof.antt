@@ -115,6 +115,9 @@ by-digit-requires-6 c κs = search needs
 enum-told-6 : tie.Need-enum-told-6
 enum-told-6 c = search needs
 
+by-requires-4 : tie.Need-by-requires-4
+by-requires-4 c κs = search needs
+
 returns-4 : tie.Need-returns-4
 returns-4 c = search (step-ways, needs)
 
@@ -201,6 +204,7 @@ step-spec =
     sub-t29
     by-digit-requires-6
     enum-told-6
+    by-requires-4
     returns-4
     returns-5
     returns-6

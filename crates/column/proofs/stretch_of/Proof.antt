@@ -9,19 +9,19 @@ use Rattle.column.proofs.stretch_of.Statement.{statement}
 use Rattle.column.proofs.stretch_of.Tie as tie
 
 abbrev Inv-loop : tie.InvT-loop
-Inv-loop c at₀ i₀ at i = (i ≤ length c) × (stretch at₀ c ≡ i + stretch at (drop i c))
+Inv-loop c mode at₀ i₀ at i = (i ≤ length c) × (stretch mode at₀ c ≡ i + stretch mode at (drop i c))
 
 abbrev μ-loop : tie.MeasureT-loop
-μ-loop c at₀ i₀ at i = length c - i
+μ-loop c mode at₀ i₀ at i = length c - i
 
 loop-holds : tie.Need-loop-holds Inv-loop μ-loop
 loop-holds c = search (stretch-ways, needs)
 
-shared-slice-read-step : tie.Need-shared-slice-read-step Inv-loop μ-loop
-shared-slice-read-step c = search (stretch-ways, needs)
+shared-slice-read-step-in : tie.Need-shared-slice-read-step-in Inv-loop μ-loop
+shared-slice-read-step-in c = search (stretch-ways, needs)
 
-step-requires : tie.Need-step-requires Inv-loop μ-loop
-step-requires c κs = search (stretch-ways, needs)
+step-in-requires : tie.Need-step-in-requires Inv-loop μ-loop
+step-in-requires c κs = search (stretch-ways, needs)
 
 is-stuck-requires : tie.Need-is-stuck-requires Inv-loop μ-loop
 is-stuck-requires c κs = search (stretch-ways, needs)
@@ -48,8 +48,8 @@ stretch-of-spec =
     Inv-loop
     μ-loop
     loop-holds
-    shared-slice-read-step
-    step-requires
+    shared-slice-read-step-in
+    step-in-requires
     is-stuck-requires
     returns
     add-i

@@ -7,11 +7,8 @@ use Rattle.machine.proofs.is_refused_code.Tie as tie
 returns : tie.Need-returns
 returns c = search (code-ways, needs)
 
-enum-told : tie.Need-enum-told
-enum-told c = search needs
-
-enum-told-2 : tie.Need-enum-told-2
-enum-told-2 c = search needs
+is-exact-requires : tie.Need-is-exact-requires
+is-exact-requires c κs = search needs
 
 is-listed-requires : tie.Need-is-listed-requires
 is-listed-requires c κs = search needs
@@ -23,5 +20,4 @@ returns-3 : tie.Need-returns-3
 returns-3 c = search (code-ways, needs)
 
 pub is-refused-code-spec : {M : Type 1} → statement M
-is-refused-code-spec =
-    tie.close (tie.spec returns enum-told enum-told-2 is-listed-requires returns-2 returns-3)
+is-refused-code-spec = tie.close (tie.spec returns is-exact-requires is-listed-requires returns-2 returns-3)

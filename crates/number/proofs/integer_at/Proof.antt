@@ -30,8 +30,8 @@ is-ended-requires c κs = search needs
 returns-3 : tie.Need-returns-3
 returns-3 c = search (integer-ways, runs, needs)
 
-enum-told : tie.Need-enum-told
-enum-told c = search needs
+is-exact-requires : tie.Need-is-exact-requires
+is-exact-requires c κs = search needs
 
 slice-aggregate-value-of : tie.Need-slice-aggregate-value-of
 slice-aggregate-value-of c = search (integer-ways, runs, needs)
@@ -39,14 +39,14 @@ slice-aggregate-value-of c = search (integer-ways, runs, needs)
 value-of-requires : tie.Need-value-of-requires
 value-of-requires c κs = four-ask _ _ (c .before .before .before .before .before .before .before .before .digits .ensures) (c .before .before .before .before .before .before .if2 .left)
 
-enum-told-2 : tie.Need-enum-told-2
-enum-told-2 c = search needs
-
 returns-4 : tie.Need-returns-4
 returns-4 c = search (integer-ways, runs, needs)
 
 returns-5 : tie.Need-returns-5
 returns-5 c = search (integer-ways, runs, needs)
+
+returns-6 : tie.Need-returns-6
+returns-6 c = search (integer-ways, runs, needs)
 
 is-lean-requires : tie.Need-is-lean-requires
 is-lean-requires c κs = search needs
@@ -56,9 +56,6 @@ slice-aggregate-value-of-2 c = run-count digit _ _ (c .before .before .before .b
 
 value-of-requires-2 : tie.Need-value-of-requires-2
 value-of-requires-2 c κs = four-ask _ _ (c .before .before .before .before .before .before .before .before .before .before .before .before .digits .ensures) (c .before .before .before .before .before .before .before .before .before .before .if2 .left)
-
-returns-6 : tie.Need-returns-6
-returns-6 c = search (integer-ways, runs, needs)
 
 returns-7 : tie.Need-returns-7
 returns-7 c = search (integer-ways, runs, needs)
@@ -78,15 +75,14 @@ integer-at-spec =
     part-is-ended-end
     is-ended-requires
     returns-3
-    enum-told
+    is-exact-requires
     slice-aggregate-value-of
     value-of-requires
-    enum-told-2
     returns-4
     returns-5
+    returns-6
     is-lean-requires
     slice-aggregate-value-of-2
     value-of-requires-2
-    returns-6
     returns-7
     returns-8)

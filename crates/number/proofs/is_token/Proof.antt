@@ -1,7 +1,6 @@
 -- `is_token` meets its contract: the ways are in `RealWays`. Assumes nothing.
-use denote.Ref.{now}
 use borrow.Author.Needs.{needs}
-use Rattle.number.proofs.RealWays.{token-ways, places-in, width-fits-4}
+use Rattle.number.proofs.RealWays.{token-ways, width-fits-4}
 use Rattle.number.proofs.is_token.Statement.{statement}
 use Rattle.number.proofs.is_token.Tie as tie
 
@@ -23,9 +22,6 @@ returns-4 c = search (token-ways, needs)
 add-a : tie.Need-add-a
 add-a c = search needs
 
-add-e : tie.Need-add-e
-add-e c = search needs
-
 sub-digits : tie.Need-sub-digits
 sub-digits c = search needs
 
@@ -41,35 +37,20 @@ digits-requires c κs = search needs
 returns-5 : tie.Need-returns-5
 returns-5 c = search (token-ways, needs)
 
-sub-is-ended : tie.Need-sub-is-ended
-sub-is-ended c = let a = c .before .before .before .before .before .before .before .before .before .args in places-in (now (a .u)) (a .n) _ (c .before .digits .ensures) (c .if5 .left)
+sign-len-requires : tie.Need-sign-len-requires
+sign-len-requires c κs = search needs
 
-part-is-ended-start : tie.Need-part-is-ended-start
-part-is-ended-start c = sub-is-ended c
+add-if6 : tie.Need-add-if6
+add-if6 c = search (token-ways, needs)
 
-part-is-ended-end : tie.Need-part-is-ended-end
-part-is-ended-end c = search needs
-
-is-ended-requires : tie.Need-is-ended-requires
-is-ended-requires c κs = search needs
+add-if6-2 : tie.Need-add-if6-2
+add-if6-2 c = search (width-fits-4, needs)
 
 returns-6 : tie.Need-returns-6
 returns-6 c = search (token-ways, needs)
 
-sign-len-requires : tie.Need-sign-len-requires
-sign-len-requires c κs = search needs
-
-add-if7 : tie.Need-add-if7
-add-if7 c = search (token-ways, needs)
-
-add-if7-2 : tie.Need-add-if7-2
-add-if7-2 c = search (width-fits-4, needs)
-
 returns-7 : tie.Need-returns-7
 returns-7 c = search (token-ways, needs)
-
-returns-8 : tie.Need-returns-8
-returns-8 c = search (token-ways, needs)
 
 pub is-token-spec : {M : Type 1} → statement M
 is-token-spec =
@@ -81,19 +62,13 @@ is-token-spec =
     shared-slice-read-if4
     returns-4
     add-a
-    add-e
     sub-digits
     part-digits-start
     part-digits-end
     digits-requires
     returns-5
-    sub-is-ended
-    part-is-ended-start
-    part-is-ended-end
-    is-ended-requires
-    returns-6
     sign-len-requires
-    add-if7
-    add-if7-2
-    returns-7
-    returns-8)
+    add-if6
+    add-if6-2
+    returns-6
+    returns-7)

@@ -20,11 +20,8 @@ part-unpadded-end c = search needs
 unpadded-requires : tie.Need-unpadded-requires
 unpadded-requires c κs = search needs
 
-enum-told : tie.Need-enum-told
-enum-told c = search needs
-
-enum-told-2 : tie.Need-enum-told-2
-enum-told-2 c = search needs
+is-exact-requires : tie.Need-is-exact-requires
+is-exact-requires c κs = search needs
 
 returns : tie.Need-returns
 returns c = search (word-ways, runs, needs)
@@ -44,8 +41,7 @@ word-of-spec =
     part-unpadded-start
     part-unpadded-end
     unpadded-requires
-    enum-told
-    enum-told-2
+    is-exact-requires
     returns
     returns-2
     returns-3)

@@ -24,22 +24,19 @@ shared-slice-read-if4 : tie.Need-shared-slice-read-if4
 shared-slice-read-if4 c = search needs
 
 returns-3 : tie.Need-returns-3
-returns-3 c = λ h. ends-cr ((c .before .before .before .before .before .before) .args .mode) ((c .before .before .before .before .before .before) .args .s .now) ((c .before .before .before .before .before .before) .args .at) (c .before .before .before .before .before .if1 .left) (c .before .before .before .before .if2 .left) (c .before .before .if3 .taken) (c .if4 .taken)
+returns-3 c = λ h. ends-cr ((c .before .before .before .before .before .before .before) .args .mode) ((c .before .before .before .before .before .before .before) .args .s .now) ((c .before .before .before .before .before .before .before) .args .at) (c .before .before .before .before .before .if1 .left) (c .before .before .before .before .if2 .left) (c .before .before .if3 .taken) (c .if4 .taken)
 
 returns-4 : tie.Need-returns-4
 returns-4 c = λ h. never h
 
-enum-told : tie.Need-enum-told
-enum-told c = search needs
-
-enum-told-2 : tie.Need-enum-told-2
-enum-told-2 c = search needs
+is-exact-requires : tie.Need-is-exact-requires
+is-exact-requires c κs = search needs
 
 returns-5 : tie.Need-returns-5
-returns-5 c = λ h. ends-lf ((c .before .before .before .before .before .before .before) .args .mode) ((c .before .before .before .before .before .before .before) .args .s .now) ((c .before .before .before .before .before .before .before) .args .at) (c .before .before .before .before .before .before .if1 .left) (c .before .before .before .before .before .if2 .left) (c .before .enum-told2 .given .1) (c .if5 .taken)
+returns-5 c = λ h. never h
 
 returns-6 : tie.Need-returns-6
-returns-6 c = λ h. never h
+returns-6 c = λ h. ends-lf (c .before .before .before .before .before .before .before .before .args .mode) (c .before .before .before .before .before .before .before .before .args .s .now) (c .before .before .before .before .before .before .before .before .args .at) (c .before .before .before .before .before .before .if1 .left) (c .before .before .before .before .before .if2 .left) _ (c .before .before .is-exact .ensures) (c .before .if5 .left) (c .if6 .taken)
 
 returns-7 : tie.Need-returns-7
 returns-7 c = λ h. never h
@@ -56,8 +53,7 @@ ending-spec =
     shared-slice-read-if4
     returns-3
     returns-4
-    enum-told
-    enum-told-2
+    is-exact-requires
     returns-5
     returns-6
     returns-7)

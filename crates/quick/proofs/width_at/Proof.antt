@@ -11,29 +11,17 @@ padded-width-requires c κs = search needs
 returns : tie.Need-returns
 returns c = search needs
 
-enum-told : tie.Need-enum-told
-enum-told c = search needs
-
-enum-told-2 : tie.Need-enum-told-2
-enum-told-2 c = search needs
-
-bare-requires : tie.Need-bare-requires
-bare-requires c κs = search needs
+is-exact-requires : tie.Need-is-exact-requires
+is-exact-requires c κs = search needs
 
 returns-2 : tie.Need-returns-2
 returns-2 c = λ h. never h
 
+bare-requires : tie.Need-bare-requires
+bare-requires c κs = search needs
+
 returns-3 : tie.Need-returns-3
-returns-3 c = loose-width ((c .before .before .before .before .before .before) .args .mode) ((c .before .before .before .before .before .before) .args .s .now) ((c .before .before .before .before .before .before) .args .at) (c .bare .result) (c .before .enum-told2 .given .1) (c .bare .ensures)
+returns-3 c = loose-width (c .before .before .before .before .before .before .args .mode) (c .before .before .before .before .before .before .args .s .now) (c .before .before .before .before .before .before .args .at) (c .bare .result) _ (c .before .before .is-exact .ensures) (c .before .if2 .left) (c .bare .ensures)
 
 pub width-at-spec : {M : Type 1} → statement M
-width-at-spec =
-    tie.close
-    (tie.spec
-    padded-width-requires
-    returns
-    enum-told
-    enum-told-2
-    bare-requires
-    returns-2
-    returns-3)
+width-at-spec = tie.close (tie.spec padded-width-requires returns is-exact-requires returns-2 bare-requires returns-3)

@@ -17,20 +17,17 @@ returns c = search needs
 shared-slice-read-if2 : tie.Need-shared-slice-read-if2
 shared-slice-read-if2 c = search needs
 
-enum-told : tie.Need-enum-told
-enum-told c = search needs
+is-exact-requires : tie.Need-is-exact-requires
+is-exact-requires c κs = search needs
+
+returns-2 : tie.Need-returns-2
+returns-2 c = search (line-ways, needs)
 
 add-sized : tie.Need-add-sized
 add-sized c = search needs
 
 sized-requires : tie.Need-sized-requires
 sized-requires c κs = search needs
-
-returns-2 : tie.Need-returns-2
-returns-2 c = search (line-ways, needs)
-
-enum-told-2 : tie.Need-enum-told-2
-enum-told-2 c = search needs
 
 returns-3 : tie.Need-returns-3
 returns-3 c = search (line-ways, needs)
@@ -48,7 +45,7 @@ returns-4 : tie.Need-returns-4
 returns-4 c = search (line-ways, needs)
 
 spoilt-requires : tie.Need-spoilt-requires
-spoilt-requires c κs = record { front = c .before .before .before .before .before .plain-run .ensures; inside = c .before .before .before .before .if1 .left; noLF = c .before .before .if2 .left; noEnd = sym (c .before .is-line-end .ensures) ∙ c .if3 .left }
+spoilt-requires c κs = record { front = c .before .before .before .before .before .plain-run .ensures; inside = c .before .before .before .before .if1 .left; noLF = c .before .before .if2 .left; noEnd = sym (c .before .is-line-end .ensures) ∙ c .if4 .left }
 
 returns-5 : tie.Need-returns-5
 returns-5 c = search (line-ways, needs)
@@ -61,11 +58,10 @@ line-at-spec =
     unended-requires
     returns
     shared-slice-read-if2
-    enum-told
+    is-exact-requires
+    returns-2
     add-sized
     sized-requires
-    returns-2
-    enum-told-2
     returns-3
     is-line-end-requires
     add-sized-2

@@ -25,11 +25,8 @@ returns-2 c = search (spoilt-ways, needs)
 returns-3 : tie.Need-returns-3
 returns-3 c = search (spoilt-ways, needs)
 
-enum-told : tie.Need-enum-told
-enum-told c = search needs
-
-enum-told-2 : tie.Need-enum-told-2
-enum-told-2 c = search needs
+is-exact-requires : tie.Need-is-exact-requires
+is-exact-requires c κs = search needs
 
 returns-4 : tie.Need-returns-4
 returns-4 c = search (spoilt-ways, needs)
@@ -51,8 +48,7 @@ spoilt-spec =
     sub-if3
     returns-2
     returns-3
-    enum-told
-    enum-told-2
+    is-exact-requires
     returns-4
     returns-5
     returns-6)

@@ -4,23 +4,20 @@ use borrow.Author.Needs.{needs}
 use Rattle.record.proofs.unended.Statement.{statement}
 use Rattle.record.proofs.unended.Tie as tie
 
-enum-told : tie.Need-enum-told
-enum-told c = search needs
-
-enum-told-2 : tie.Need-enum-told-2
-enum-told-2 c = search needs
+is-exact-requires : tie.Need-is-exact-requires
+is-exact-requires c κs = search needs
 
 returns : tie.Need-returns
 returns c = search (unended-ways, needs)
+
+returns-2 : tie.Need-returns-2
+returns-2 c = search (unended-ways, needs)
 
 slice-aggregate-is-same : tie.Need-slice-aggregate-is-same
 slice-aggregate-is-same c = search needs
 
 is-same-requires : tie.Need-is-same-requires
 is-same-requires c κs = search needs
-
-returns-2 : tie.Need-returns-2
-returns-2 c = search (unended-ways, needs)
 
 returns-3 : tie.Need-returns-3
 returns-3 c = search (unended-ways, needs)
@@ -32,11 +29,10 @@ pub unended-spec : {M : Type 1} → statement M
 unended-spec =
     tie.close
     (tie.spec
-    enum-told
-    enum-told-2
+    is-exact-requires
     returns
+    returns-2
     slice-aggregate-is-same
     is-same-requires
-    returns-2
     returns-3
     returns-4)

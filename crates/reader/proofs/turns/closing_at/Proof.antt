@@ -10,6 +10,9 @@ enum-told c = search needs
 enum-told-2 : tie.Need-enum-told-2
 enum-told-2 c = search needs
 
+enum-told-3 : tie.Need-enum-told-3
+enum-told-3 c = search needs
+
 returns : tie.Need-returns
 returns c = rw (c .before .enum-told2 .given .1, le-leb _ _ (c .if1 .taken))
 
@@ -19,5 +22,8 @@ returns-2 c = search needs
 returns-3 : tie.Need-returns-3
 returns-3 c = rw (c .before .enum-told2 .given .1, lt-leb _ _ (c .if1 .left))
 
+returns-4 : tie.Need-returns-4
+returns-4 c = search needs
+
 pub closing-at-spec : {M : Type 1} → statement M
-closing-at-spec = tie.close (tie.spec enum-told enum-told-2 returns returns-2 returns-3)
+closing-at-spec = tie.close (tie.spec enum-told enum-told-2 enum-told-3 returns returns-2 returns-3 returns-4)

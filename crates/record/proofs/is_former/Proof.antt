@@ -1,0 +1,26 @@
+-- `record::is_former` meets its contract. Assumes nothing.
+use borrow.Author.Needs.{needs}
+use Rattle.record.proofs.RecordWays.{former-ways}
+use Rattle.record.proofs.is_former.Statement.{statement}
+use Rattle.record.proofs.is_former.Tie as tie
+
+enum-told : tie.Need-enum-told
+enum-told c = search needs
+
+returns : tie.Need-returns
+returns c = search (former-ways, needs)
+
+enum-told-2 : tie.Need-enum-told-2
+enum-told-2 c = search needs
+
+returns-2 : tie.Need-returns-2
+returns-2 c = search (former-ways, needs)
+
+enum-told-3 : tie.Need-enum-told-3
+enum-told-3 c = search needs
+
+returns-3 : tie.Need-returns-3
+returns-3 c = search (former-ways, needs)
+
+pub is-former-spec : {M : Type 1} → statement M
+is-former-spec = tie.close (tie.spec enum-told enum-told-2 enum-told-3 returns returns-2 returns-3)
