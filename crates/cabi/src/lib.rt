@@ -92,7 +92,7 @@ use writer::write;
 pub extern "C" fn cxf_interface() -> usize
     ensures { λ r. ⌜ r ≡ interfaceNumber ⌝ }
 {
-    3
+    4
 }
 
 // Reads a sheet into the tables that are lent.

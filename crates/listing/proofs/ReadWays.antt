@@ -180,7 +180,7 @@ module _ (s out : List ℕ) where
   pub text-wrote : length s ≤ length out → (d : List ℕ) (r : ℕ) → Stored out 0 s d r → (Wrote (length s) ≡ listedOf s (length out)) × (d ≡ listedIn (Wrote (length s)) s out)
   unfolding listedOf
   text-wrote h d r w =
-      let p = stored-put h w in
+      let p = stored-put (omega (arith, h)) w in
       let z : 0 + length s ≡ length s = omega arith in
       (rw (le-leb (length s) (length out) h), p .is ∙ rw z)
 

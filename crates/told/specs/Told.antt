@@ -29,7 +29,7 @@ use Rattle.told.specs.declared.CxfListed.{CxfListed}
 
 -- the number of the interface: it rises whenever a struct, a width or a meaning changes, so that an old binding can refuse a new library
 abbrev pub interfaceNumber : ℕ
-interfaceNumber = 3
+interfaceNumber = 4
 
 -- a value of a record that is found; 0 where it is refused
 abbrev pub ofFound : (ℕ → ℕ → ℕ → ℕ) → Found → ℕ
