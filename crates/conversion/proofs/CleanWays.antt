@@ -153,10 +153,14 @@ module _ (bs : List ℕ) (r : Rooms) (short : length bs ≤ inputMost) (enough :
 
     -- what stands behind what was read matters neither to the verdict nor to the text
     text-same : sheetText (x .header) (a .rows) (tablesOf rows letters islands points) ≡ sheetText (x .header) (rowCount o) o
-    text-same = rw (held, counted) (sym (text-used (x .header) (rowCount o) (overOf o old)) ∙ ap (sheetText (x .header) (rowCount o)) used)
+    text-same =
+        ap (sheetText (x .header) (a .rows)) held ∙ ap (λ (n : ℕ). sheetText (x .header) n (overOf o old)) counted
+        ∙ sym (text-used (x .header) (rowCount o) (overOf o old)) ∙ ap (sheetText (x .header) (rowCount o)) used
 
     judge-same : judgeOf Exact (x .header) (a .rows) (tablesOf rows letters islands points) ≡ judgeOf Exact (x .header) (rowCount o) o
-    judge-same = rw (held, counted) (sym (judge-used Exact (x .header) (rowCount o) (overOf o old)) ∙ ap (judgeOf Exact (x .header) (rowCount o)) used)
+    judge-same =
+        ap (judgeOf Exact (x .header) (a .rows)) held ∙ ap (λ (n : ℕ). judgeOf Exact (x .header) n (overOf o old)) counted
+        ∙ sym (judge-used Exact (x .header) (rowCount o) (overOf o old)) ∙ ap (judgeOf Exact (x .header) (rowCount o)) used
 
     pub told-fits : length (sheetText (x .header) (a .rows) (tablesOf rows letters islands points)) ≤ fileMost
     told-fits = rw text-same (omega (arith, clean-most bs (x .header) o short sound))
