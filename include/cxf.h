@@ -1,4 +1,4 @@
-/* cxf.h: reads, writes, questions and alters CXF sheets of the Italian cadastre.
+/* cxf.h: reads, writes, questions, alters and converts CXF sheets of the Italian cadastre.
  *
  * Link with libcxf.a or libcxf.so (see README.md). Every function answers for every input, allocates nothing, keeps nothing
  * between calls and has no state, so calls may run side by side.
@@ -29,7 +29,9 @@ extern "C" {
 
 /* It rises whenever a struct, a width or a meaning changes. A program that was compiled with one number, or a binding that was
    written for one, is to refuse a library that answers another, rather than read rows wrongly:
-       if (cxf_interface() != CXF_INTERFACE) .. */
+       if (cxf_interface() != CXF_INTERFACE) ..
+   What changed with 4: mode 2, which was exact, is the former reading, and loose mode refuses a note behind a number (8). With 3: a row has
+   15 numbers. With 2: cxf_reading and cxf_number say the column. */
 #define CXF_INTERFACE 4
 
 /* The library's number. Stack: 24 bytes. */
@@ -49,7 +51,7 @@ enum {
     CXF_CELL_MOST = 10000,       /* millimetres of a cell's side, from 1 on */
     CXF_MASK_REACH = 40000000,   /* millimetres from a mask's corner to a vertex of its border, in x and in y */
     CXF_LISTING_MOST = 640,      /* bytes of a listing's text */
-    CXF_LISTING_FILE_MOST = 8192 /* bytes of a file that is listed */
+    CXF_LISTING_FILE_MOST = 8192 /* bytes of a file that is listed or converted */
 };
 
 /* A real, in thousandths, is CXF_REAL_LEAST to CXF_REAL_MOST; a figure of a tally 0 to CXF_TALLY_MOST. */
@@ -59,7 +61,7 @@ enum {
 /* A part of a move, in millimetres, either way: what the real range is wide. */
 #define CXF_MOVE_MOST INT64_C(109999999998)
 
-/* What a file of n bytes can need at most, read in either mode: rows, letters, island counts, points. Who lends so much needs no
+/* What a file of n bytes can need at most, read in any mode: rows, letters, island counts, points. Who lends so much needs no
    call that asks for the needs, which judges the whole file once more. Proved: `counts-most`, `enough-read` in
    crates/reader/proofs/NeedLaws.antt. Rows and points are counted here, numbers in a length: rows_len is CXF_ROWS_MOST(n) * CXF_ROW,
    and points_len CXF_POINTS_MOST(n) * 2. */
@@ -78,7 +80,7 @@ enum {
     CXF_BYTE = 5,       /* a byte that is not 32 to 126 */
     CXF_HEADER = 6,     /* a wrong first word, name or scale; of a sheet handed in also a wrong kind */
     CXF_KEYWORD = 7,    /* not a keyword, where one is due */
-    CXF_NUMBER = 8,     /* a malformed number */
+    CXF_NUMBER = 8,     /* a malformed number, or one with a note behind it (the former mode takes notes) */
     CXF_LETTERS = 9,    /* empty letters; exact mode: a blank at an end */
     CXF_CODE = 10,      /* an unlisted code (exact reading, writing) */
     CXF_COUNT = 11,     /* a count of vertices or islands that cannot be */
@@ -131,8 +133,14 @@ static inline const char *cxf_refusal_text(uint64_t number)
 
 /* ---- modes ----------------------------------------------------------------------------------------------------------- */
 
-/* Loose takes what is met in practice, exact only the layout of the specification. The former reading is the loose one with notes behind
-   numbers, as hand-made files of the first year have them: for the conversion of such files. Any mode but 0 and 2 is exact. */
+/* Every mode gives a file that it takes the same meaning: what exact takes, loose takes as the same sheet, and what loose takes, former does.
+     CXF_LOOSE   takes what is met in practice: an LF alone, an EOF with no line end, blanks at the ends of words and round numbers, a plus,
+                 minus zero, needless zeros, unlisted codes, anything that follows EOF.
+     CXF_EXACT   takes only the layout of the specification, which cxf_write writes. Any mode but 0 and 2 is exact.
+     CXF_FORMER  is loose mode as it was before notes were retired: behind a number it also takes a blank and then any note, as hand-made
+                 files of the first year have them ("   1          numero isole"). It drops the note, be it a second number. Use it to
+                 convert such files, or to see what they said (cxf_convert does both at once); else use CXF_LOOSE, which refuses a note
+                 with 8 at its record, with the column of the note's first byte that is no blank. */
 enum { CXF_LOOSE = 0, CXF_EXACT = 1, CXF_FORMER = 2 };
 
 /* ---- reading a file -------------------------------------------------------------------------------------------------- */
@@ -177,7 +185,9 @@ typedef struct {
     uint8_t name[CXF_NAME_LENGTH];           /* the sheet's name, with no 0 at its end */
 } cxf_reading;
 
-/* Reads a whole file into four lent tables: rows, 15 numbers each; letters; island counts; points, x and y after each other.
+/* Reads a whole file into four lent tables: rows, 15 numbers each; letters; island counts; points, x and y after each other. The mode is
+   CXF_LOOSE for work on what comes in, CXF_EXACT for a sheet that goes out (cxf_write then gives its very bytes again), CXF_FORMER for a
+   file of the first year that is to be converted (see above): a file without notes is answered by it as by CXF_LOOSE, refused or not.
    The room of a table is rows_len / 15 rows, letters_len letters, islands_len counts, points_len / 2 points. CXF_ROWS_MOST and
    the three beside it are enough for any file. To learn what a file needs, ask with four lengths of 0: the answer is 14 and the
    needs (0 where the sheet has no rows). Past the used part no table is altered. Stack: 1,928 bytes. */
@@ -417,7 +427,7 @@ typedef struct {
     uint64_t next;          /* where the next record starts */
 } cxf_record;
 
-/* The record that starts at a byte. keyword_due: 0 is no, anything else is yes. Stack: 136 bytes. */
+/* The record that starts at a byte. keyword_due: 0 is no, anything else is yes. CXF_FORMER is as CXF_LOOSE here. Stack: 136 bytes. */
 cxf_record cxf_record_at(const uint8_t *src, size_t src_len, uint64_t at, uint64_t mode, uint64_t keyword_due);
 
 typedef struct {
@@ -426,7 +436,8 @@ typedef struct {
     int64_t value;   /* a real in thousandths */
 } cxf_number;
 
-/* The content of a record as an integer, 0 to 9999, or as a real; 8 where it is malformed. The column, from 1, is that of the first
+/* The content of a record as an integer, 0 to 9999, or as a real; 8 where it is malformed. Behind the number only blanks may stand, in
+   CXF_FORMER a blank and anything, in CXF_EXACT nothing. The column, from 1, is that of the first
    byte that no accepted number of that form and mode has there after the same beginning, however long the record, or one past the end if
    the content only stops early. Stack: 184 bytes and 288. */
 cxf_number cxf_integer(const uint8_t *content, size_t content_len, uint64_t mode);
@@ -447,9 +458,15 @@ cxf_listed cxf_listing(const uint8_t *src, size_t src_len, uint8_t *out, size_t 
 
 /* ---- conversion ------------------------------------------------------------------------------------------------------ */
 
-/* What the conversion program writes for this input, at most 8,192 bytes in the former reading: the clean file, as cxf_write writes it, or
-   a line as the listing has it, REFUSED with number, record, offset and column; an unlisted code is REFUSED 10 with the row, 0 and 0,
-   and a longer input REFUSED 1 0 0 0. Number is 0 whenever the text stands in out, else 14. The clean file may be longer than the input. */
+/* What the conversion program writes for a file of the first year, or any other: the clean file, which is what CXF_FORMER reads in src, as
+   cxf_write writes it, without the notes. CXF_EXACT accepts it, with the same header and elements; a file that is clean comes out as it is.
+   Or one line that ends in LF, as the listing has it:
+       REFUSED, number, record, offset, column   what CXF_FORMER refuses: 2, 4 to 9, 11 or 12; the column with 8, else 0
+       REFUSED 10, row, 0, 0                     the first row, from 0, with an unlisted code, which no clean file may have
+       REFUSED 1 0 0 0                           src has more than CXF_LISTING_FILE_MOST bytes
+   Such a line is an answer as well: number is 0 whenever the text stands in out, and 14, with the length that is needed, is the only
+   refusal of the call. The clean file may be longer than src; no text has more than 53,248 bytes. Past the text out is not altered. The
+   tables are on the stack. Stack: ? bytes. */
 cxf_listed cxf_convert(const uint8_t *src, size_t src_len, uint8_t *out, size_t out_len);
 
 #ifdef __cplusplus
