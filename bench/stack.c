@@ -168,7 +168,10 @@ static uint64_t call_move(work *w) { return cxf_move(TABLES(w), 1, -1).number; }
 
 static uint64_t call_convert(work *w)
 {
-    return cxf_convert((const uint8_t *)w->listed.at, w->listed.len, w->out, w->out_len).number;
+    *last_digit(w->listed) = 'x';
+    const uint64_t broken = cxf_convert((const uint8_t *)w->listed.at, w->listed.len, w->out, w->out_len).number;
+    *last_digit(w->listed) = '0';
+    return broken | cxf_convert((const uint8_t *)w->listed.at, w->listed.len, w->out, w->out_len).number;
 }
 
 static const struct { const char *name; uint64_t (*call)(work *); } FUNCTIONS[] = {

@@ -51,7 +51,8 @@ enum {
     CXF_CELL_MOST = 10000,       /* millimetres of a cell's side, from 1 on */
     CXF_MASK_REACH = 40000000,   /* millimetres from a mask's corner to a vertex of its border, in x and in y */
     CXF_LISTING_MOST = 640,      /* bytes of a listing's text */
-    CXF_LISTING_FILE_MOST = 8192 /* bytes of a file that is listed or converted */
+    CXF_LISTING_FILE_MOST = 8192, /* bytes of a file that is listed or converted */
+    CXF_CONVERT_MOST = 53248     /* bytes of a conversion's text */
 };
 
 /* A real, in thousandths, is CXF_REAL_LEAST to CXF_REAL_MOST; a figure of a tally 0 to CXF_TALLY_MOST. */
@@ -465,7 +466,7 @@ cxf_listed cxf_listing(const uint8_t *src, size_t src_len, uint8_t *out, size_t 
        REFUSED 10, row, 0, 0                     the first row, from 0, with an unlisted code, which no clean file may have
        REFUSED 1 0 0 0                           src has more than CXF_LISTING_FILE_MOST bytes
    Such a line is an answer as well: number is 0 whenever the text stands in out, and 14, with the length that is needed, is the only
-   refusal of the call. The clean file may be longer than src; no text has more than 53,248 bytes. Past the text out is not altered. The
+   refusal of the call. The clean file may be longer than src; no text is longer than CXF_CONVERT_MOST. Past the text out is not altered. The
    tables are on the stack. Stack: ? bytes. */
 cxf_listed cxf_convert(const uint8_t *src, size_t src_len, uint8_t *out, size_t out_len);
 

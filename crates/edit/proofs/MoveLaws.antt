@@ -363,7 +363,7 @@ module _ (dx dy : ℤ) where
       ∙ fine-before mode n b (x then u) made starts code
       (ap₂ (judgeRows mode n) past (moved-rest dx dy t r u) ∙ rows-moved-fine mode n (pastRow b t) (restOf t) (g .1) (and-right (rowStays dx dy (t .rows)) (rowsStay dx dy n (drop rowWidth (t .rows))) s) (q .1))
 
--- **a well made sheet that is moved is well made**, in either mode
+-- **a well made sheet that is moved is well made**, in every mode
 module _ (mode : Mode) (h : Header) (n : ℕ) (t : Tables) (dx dy : ℤ) (e : judgeOf mode h n t ≡ Fine) (m : isMove dx dy n t ≡ true) where
   pub move-has : (rowsStay dx dy n (t .rows) ≡ true) × (areReals (moved dx dy (usedOf n t .points)) ≡ true)
   unfolding isMove

@@ -113,7 +113,7 @@ square low high = pos low ∷ pos low ∷ pos high ∷ pos low ∷ pos high ∷ 
 cases : List (Question × Answer)
 unfolding bowtie
 cases =
-    -- (a) to (d), in both modes
+    -- (a) to (d), in loose and in exact mode
     (real Exact "      -0.005", numbers (negℤ (pos 5) ∷ [])) ∷
     (real Loose "      -0.005", numbers (negℤ (pos 5) ∷ [])) ∷
     (real Exact "-9999999.999", numbers (negℤ (pos 9999999999) ∷ [])) ∷

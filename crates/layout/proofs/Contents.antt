@@ -1,4 +1,4 @@
--- The contents that a writer gives are read as what they spell, in either mode. Assumes nothing.
+-- The contents that a writer gives are read as what they spell, in every mode. Assumes nothing.
 use Prim.Native.Nat.{ℕ, _+_, _-_, _≤_}
 use mathlib.Core.Path.{_≡_, refl, sym, subst}
 use mathlib.Core.List.{List, [], _∷_, _++_, append-assoc}

@@ -32,7 +32,7 @@ three-words : length firstWords ≡ 3
 unfolding firstWords
 three-words = refl
 
--- the first word of a header that was read is in either mode one of the list, and its place is the kind
+-- the first word of a header that was read is in every mode one of the list, and its place is the kind
 pub kind-says : (mode : Mode) (c : List ℕ) (kind : ℕ) → kindSaid mode c ≡ kind → (kind ≡ 0 → ⊥)
     → (isWord (wordOf mode c) ≡ true) × (kind ≤ 3) × (trimmed c ≡ getD firstWords (kind - 1) [])
 unfolding kindSaid

@@ -86,7 +86,7 @@ judge-rows-used mode (suc n) b t =
       cell codePlace (omega arith),
     )
 
--- **what stands behind the used part never matters** to the verdict, in either mode, of any tables
+-- **what stands behind the used part never matters** to the verdict, in every mode, of any tables
 pub judge-used : (mode : Mode) (h : Header) (n : ℕ) (t : Tables) → judgeOf mode h n (usedOf n t) ≡ judgeOf mode h n t
 unfolding judgeOf
 judge-used mode h n t = rw (judge-rows-used mode n noneBefore t)

@@ -44,7 +44,7 @@ struct Digits {
     value: usize,
 }
 
-// The bytes of a record whose line end stands behind 12 characters: 14, or 13 in loose mode; or 0.
+// The bytes of a record whose line end stands behind 12 characters: 14, or 13 where the mode is not exact; or 0.
 fn ending(s: &[u8], at: usize, mode: Mode) -> usize
     ensures { λ r. ⌜ (0 < r → Ends mode (now (s .entry)) at r) ⌝ }
 {

@@ -31,7 +31,7 @@ needs-most mode bs h o q =
     let (r, w) = tables-most mode bs h o q in
     record { rows = omega (arith, r); letters = omega (arith, w); islands = omega (arith, w); points = omega (arith, w) }
 
--- **a file of n bytes, read in either mode, uses or needs at most these**
+-- **a file of n bytes, read in any mode, uses or needs at most these**
 pub counts-most : (mode : Mode) (bs : List ℕ) (r : Rooms) → Most (length bs) (countsOf (readOf mode bs r .answer))
 unfolding readOf
 counts-most mode bs r = by (reading mode bs) refl

@@ -1,4 +1,4 @@
--- The numbers that a reading refuses by: 1 to 13, in loose mode without 3, 10 and 13, and 1 for a file that is too long alone. Assumes nothing.
+-- The numbers that a reading refuses by: 1 to 13, where the mode is not exact without 3, 10 and 13, and 1 for a file that is too long alone. Assumes nothing.
 use mathlib.Core.Path.{_≡_, refl, sym, _∙_, subst}
 use mathlib.Core.List.{List, [], _∷_}
 use mathlib.Core.Bool.{Bool, true, false, cond, not, _&&_, _||_}

@@ -1,4 +1,4 @@
--- Small sheets, computed: the specification's own examples in both modes, the listing example of document 01, an island, and refusals.
+-- Small sheets, computed: the specification's own examples as they are printed in the former reading, and padded in exact mode, the listing example of document 01, an island, and refusals.
 use Prim.Native.Nat.{ℕ, _+_}
 use mathlib.Core.Path.{_≡_, refl}
 use mathlib.Core.List.{List, [], _∷_, _++_}
@@ -309,7 +309,7 @@ two-x : reading Loose (text "MAPPA\nZ999_000100\n1000.000\nLINEA\n6\n2\nEOF") �
 unfolding computed
 two-x = refl
 
--- a text's inner blanks are kept as they are, in both modes
+-- a text's inner blanks are kept as they are, in loose and in exact mode
 inner-blanks : Tables
 inner-blanks =
     record {

@@ -26,7 +26,7 @@ keys : Mode → List String → List Token
 unfolding computed
 keys mode ss = map (λ s. lexOf mode Key (text s)) ss
 
--- EOF says 0, a keyword twice its kind, one more with its `\`; both modes
+-- EOF says 0, a keyword twice its kind, one more with its `\`, in exact and in loose mode
 keywords-said : (keys Exact ("EOF" ∷ "BORDO" ∷ "TESTO" ∷ "SIMBOLO" ∷ "FIDUCIALE" ∷ "LINEA" ∷ "RIFERIMENTO_RASTER" ∷ "LIBRETTO" ∷ []) ≡ Say 0 ∷ Say 2 ∷ Say 4 ∷ Say 6 ∷ Say 8 ∷ Say 10 ∷ Say 12 ∷ Say 14 ∷ [])
     × (keys Loose ("TESTO\\" ∷ "SIMBOLO\\" ∷ "FIDUCIALE\\" ∷ "LINEA\\" ∷ []) ≡ Say 5 ∷ Say 7 ∷ Say 9 ∷ Say 11 ∷ [])
 unfolding keys

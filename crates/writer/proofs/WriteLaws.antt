@@ -38,7 +38,7 @@ judged-fine : (mode : Mode) (h : Header) (count : ℕ) (t : Tables) → isHeader
 unfolding judgeOf
 judged-fine mode h count t e q = rw e q
 
--- in both modes (in exact mode with listed codes), and its tables hold nothing but what its rows use
+-- in every mode (in exact mode with listed codes), and its tables hold nothing but what its rows use
 pub comes-made : (mode : Mode) (bs : List ℕ) (h : Header) (o : Tables) → meaning mode bs ≡ sheet h o
     → (judgeOf mode h (rowCount o) o ≡ Fine) × (usedOf (rowCount o) o ≡ o)
 comes-made mode bs h o e = let m = reading-made mode bs h o e in (judged-fine mode h (rowCount o) o (m .0) (m .1), m .2)
@@ -63,7 +63,7 @@ module _ (mode : Mode) (h : Header) (count : ℕ) (t : Tables) where
   pub made-long : judgeOf mode h count t ≡ Fine → Long count t
   made-long e = fine-long mode count noneBefore t (rows-fine e)
 
-  -- **well made, exactly**, one way: in either mode (in exact mode with listed codes)
+  -- **well made, exactly**, one way: in every mode (in exact mode with listed codes)
   pub made-comes : judgeOf mode h count t ≡ Fine → CouldCome mode h count t
   made-comes e =
       record {
