@@ -188,7 +188,8 @@ typedef struct {
 
 /* Reads a whole file into four lent tables: rows, 15 numbers each; letters; island counts; points, x and y after each other. The mode is
    CXF_LOOSE for work on what comes in, CXF_EXACT for a sheet that goes out (cxf_write then gives its very bytes again), CXF_FORMER for a
-   file of the first year that is to be converted (see above): a file without notes is answered by it as by CXF_LOOSE, refused or not.
+   file of the first year that is to be converted (see above): a file without notes has the same number, record and offset with it as with
+   CXF_LOOSE.
    The room of a table is rows_len / 15 rows, letters_len letters, islands_len counts, points_len / 2 points. CXF_ROWS_MOST and
    the three beside it are enough for any file. To learn what a file needs, ask with four lengths of 0: the answer is 14 and the
    needs (0 where the sheet has no rows). Past the used part no table is altered. Stack: 1,928 bytes. */
