@@ -14,4 +14,5 @@ pub mod Tallies
 pub mod RunningTallies
 pub mod Interfaces
 pub mod SupFiles
+pub mod SupChecks
 pub mod Masks

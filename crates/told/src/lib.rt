@@ -3,6 +3,7 @@
 // field that the answer does not name is 0.
 pub mod masks;
 pub mod question;
+pub mod sup_checks;
 pub mod sup_files;
 pub mod tallies;
 
