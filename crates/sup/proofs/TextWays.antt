@@ -267,7 +267,7 @@ module _ (h : Header) (count : ℕ) (t : Tables) (f : List ℤ) (date : List ℕ
 
 -- ---- the answers
 
-past-is : (z : ℤ) → totalOf z ≡ Past → isLimited z ≡ false
+pub past-is : (z : ℤ) → totalOf z ≡ Past → isLimited z ≡ false
 unfolding totalOf
 past-is z = go (isLimited z)
   where
@@ -275,7 +275,7 @@ past-is z = go (isLimited z)
     go true q = absurd (let k : _≡_ {A = ℕ} 0 1 = cc in omega arith)
     go false q = refl
 
-is-is : (z d : ℤ) → totalOf z ≡ Is d → (isLimited z ≡ true) × (d ≡ z)
+pub is-is : (z d : ℤ) → totalOf z ≡ Is d → (isLimited z ≡ true) × (d ≡ z)
 unfolding totalOf
 is-is z d = go (isLimited z)
   where
@@ -284,7 +284,7 @@ is-is z d = go (isLimited z)
     go false q = absurd (let k : _≡_ {A = ℕ} 0 1 = cc in omega arith)
 
 -- what keeps the limit fits
-limited-small : (z : ℤ) → isLimited z ≡ true → mag z < 2 ^ 63
+pub limited-small : (z : ℤ) → isLimited z ≡ true → mag z < 2 ^ 63
 unfolding isLimited
 limited-small (pos a) e = omega (arith, le-yes (pos a) (pos 9000000000000000000) (and-right (leZ (negsuc 8999999999999999999) (pos a)) (leZ (pos a) (pos 9000000000000000000)) e))
 limited-small (negsuc a) e = omega (arith, le-yes (negsuc 8999999999999999999) (negsuc a) (and-left (leZ (negsuc 8999999999999999999) (negsuc a)) (leZ (negsuc a) (pos 9000000000000000000)) e))

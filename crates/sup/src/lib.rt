@@ -1,10 +1,10 @@
 // The SUP file of a sheet (document 02, T-01; the specification's section 1.2): a name and a date, counts, areas in square metres.
 // All of it is proved, and no public function has a `requires`. All is judged before anything is stored; past the text nothing is altered.
-mod dating;
+pub mod dating;
 mod listed;
 mod printing;
 mod rounding;
-mod totalling;
+pub mod totalling;
 
 ghost use mathlib.Core.Path.{_≡_};
 ghost use mathlib.Core.Bool.{true};

@@ -49,7 +49,7 @@ fn low_sum(a: i64, b: i64, c: i64, d: i64) -> i64
 }
 
 // The sum of four numbers, where it keeps the limit on either side of zero.
-pub(crate) fn total_of(a: i64, b: i64, c: i64, d: i64) -> Total
+pub fn total_of(a: i64, b: i64, c: i64, d: i64) -> Total
     ensures { λ r. ⌜ r ≡ totalOf (a +ℤ (b +ℤ (c +ℤ d))) ⌝ }
 {
     let high = high_sum(a, b, c, d);
