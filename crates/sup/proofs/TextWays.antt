@@ -50,6 +50,7 @@ use Rattle.sup.specs.Lines.{FigureLine, leftField, fieldsLine, dateText,
 use Rattle.sup.specs.Sup.{exactTotal, isLimited, headLines, footLines, listedLines, figureLines, figuresIn, wideFrom, firstWide, supText, CodeNet}
 use Rattle.sup.specs.Answer.{codeNets, codesInOrder, sheetSup, storedSup, linedSup, printedSup, afterCodes, datedSup, afterTally, supOf}
 use Rattle.sup.specs.Printing.{areNarrow, namedText, metresLeft, isAnyWideFrom}
+use Rattle.sup.specs.ExactAreas.{exactAreas, exactOf}
 use Rattle.sup.specs.Totals.{totalOf}
 use Rattle.sup.proofs.SupLaws.{sup-length}
 use Rattle.sup.proofs.ListedWays.{Narrow, none-wide}
@@ -384,3 +385,14 @@ module _ (h : Header) (count : ℕ) (t : Tables) (date : List ℕ) (room : ℕ) 
     pub tally-text : supText h date (x .tally .figures) (codesInOrder h count t) ≡ sheetSup h count t date
     unfolding sheetSup
     tally-text = rw e
+
+-- ---- a sheet's exact areas
+
+module _ (h : Header) (count : ℕ) (t : Tables) (x : Taken) (e : x ≡ tallyOf h count t) where
+  pub exact-good : Good (x .tally .figures)
+  exact-good = rw e (tally-good h count t)
+
+  pub exact-is : (y : Total) → y ≡ totalOf (exactTotal (h .kind) (x .tally .figures)) → (a : List ℤ) → a ≡ exactAreas (h .kind) (x .tally .figures)
+      → record { refusal = x .refusal; figures = x .tally .figures; total = y; areas = a } ≡ exactOf h count t
+  unfolding exactOf
+  exact-is y ey a ea = rw (ey, ea, e)

@@ -4,6 +4,7 @@ pub mod Date
 pub mod Lines
 pub mod Sup
 pub mod Answer
+pub mod ExactAreas
 pub mod ListedSums
 pub mod Examples
 pub mod AnswerExamples

@@ -5,27 +5,34 @@ use mathlib.Core.Path.{_≡_, refl, sym, ap, ap₂, subst, _∙_}
 use mathlib.Core.List.{List, [], _∷_, _++_, append-assoc}
 use mathlib.Core.Bool.{Bool, true, false, cond, _&&_}
 use native.Mathlib.Omega.{arith}
-use lib.ListN.{length, getD, drop, length-append, length-drop}
+use lib.ListN.{length, getD, take, drop, length-append, length-drop}
 use lib.Dec.{eqb}
 use lib.IntN.{ℤ, pos, _-ℤ_}
 use borrow.Author.Tests.{eqb-true, eq-eqb}
 use Rattle.laws.proofs.Choice.{cond-first, and-left, and-right}
 use Rattle.laws.proofs.ListLaws.{left-none}
 use Rattle.heading.specs.declared.Header.{Header}
+use Rattle.sheet.specs.Tables.{Tables}
+use Rattle.classes.specs.declared.Class.the-variants.{Confine, Road, Water, Building, Parcel}
+use Rattle.tally.specs.declared.Refusal.{Refusal}
+use Rattle.tally.specs.declared.Refusal.the-variants.{None, Sheet, Missing, Full, Wide}
+use Rattle.tally.specs.Take.{tallyOf}
 use Rattle.spelling.specs.Figures.{figureText}
 use Rattle.spelling.proofs.FigureLaws.{figure-length}
 use Rattle.sup.specs.Lines.{FigureLine, fieldsLine, dateText, linesText}
-use Rattle.sup.specs.Sup.{CodeNet, figureLines}
+use Rattle.sup.specs.Sup.{CodeNet, bordersIn, islandsIn, exactTotal, isLimited, headLines, figureLines, figuresIn}
+use Rattle.sup.specs.Answer.{codesInOrder}
 use Rattle.sup.proofs.SupLaws.{line-length}
 use Rattle.supcheck.specs.declared.SupChecked.{SupChecked}
-use Rattle.supcheck.specs.declared.SupChecked.the-variants.{Accepted, WrongLine}
-use Rattle.supcheck.specs.Right.{DueLine, lineFrom, figureIn, dateIn, isRightLine, isRightDate}
-use Rattle.supcheck.specs.Due.{dueWith, balanceIn, dueLines}
-use Rattle.supcheck.specs.Checked.{rightFrom, rightLines, lineCount, checkedLines}
+use Rattle.supcheck.specs.declared.SupChecked.the-variants.{Accepted, PastTotal, WrongLine}
+use Rattle.supline.specs.Right.{counted, DueLine, dueLine, lineFrom, figureIn, dateIn, isRightLine, isRightDate}
+use Rattle.supcheck.specs.Due.{dueUnder, headDues, headDue, dueWith, balanceIn, dueLines}
+use Rattle.supcheck.specs.Checked.{rightFrom, rightLines, lineCount, checkedLines, totalChecked, afterTally, supChecked}
 use Rattle.supcheck.specs.Allowed.{linesWith, Allowed, Allowed.noneDue, Allowed.nextDue, balanceOf, textWith, AllowedFile}
 use Rattle.supcheck.proofs.RightLaws.{AllRight, AllRight.nothing, AllRight.onward, right-all, all-right}
 use Rattle.supcheck.proofs.DueLaws.{SameNames, SameNames.nameless, SameNames.alike, due-count, due-names}
-use Rattle.supcheck.proofs.LineLaws.{next-line, behind-line, figure-back, line-right, right-line, date-long, date-right, right-date}
+use Rattle.supline.proofs.NearWays.{near-itself}
+use Rattle.supline.proofs.LineLaws.{next-line, behind-line, figure-back, line-right, right-line, date-long, date-right, right-date}
 
 append-none : (s : List ℕ) → s ++ [] ≡ s
 append-none [] = refl
@@ -211,3 +218,39 @@ module _ (h : Header) (f : List ℤ) (c : List CodeNet) (s : List ℕ) where
     pub file-accepted : checkedLines h f c s ≡ Accepted
     unfolding checkedLines
     file-accepted = rw (eq-eqb (rightLines h f c s) (14 + size) file-lines, eq-eqb (length s) (23 * (14 + size)) file-long)
+
+-- ---- of the whole sheet
+
+-- an accepted file's sheet has its tally, whose combined total keeps the limit
+pub accepted-sheet : (h : Header) (count : ℕ) (t : Tables) (s : List ℕ) → supChecked h count t s ≡ Accepted
+    → (tallyOf h count t .refusal ≡ None) × AllowedFile h (tallyOf h count t .tally .figures) (codesInOrder h count t) s
+unfolding supChecked totalChecked
+accepted-sheet h count t s e = go (tallyOf h count t .refusal) refl e
+  where
+    f : List ℤ
+    f = tallyOf h count t .tally .figures
+
+    c : List CodeNet
+    c = codesInOrder h count t
+
+    go : (r : Refusal) → tallyOf h count t .refusal ≡ r → afterTally r (cond (isLimited (exactTotal (h .kind) f)) (checkedLines h f c s) PastTotal) ≡ Accepted
+        → (tallyOf h count t .refusal ≡ None) × AllowedFile h f c s
+    go None q g =
+        (q, accepted-file h f c s (cond-first (isLimited (exactTotal (h .kind) f)) (checkedLines h f c s) PastTotal Accepted (λ x. let z : _≡_ {A = ℕ} 0 1 = cc in omega arith) g .1))
+    go (Sheet v) q g = absurd (let z : _≡_ {A = ℕ} 0 1 = cc in omega arith)
+    go Missing q g = absurd (let z : _≡_ {A = ℕ} 0 1 = cc in omega arith)
+    go (Full k) q g = absurd (let z : _≡_ {A = ℕ} 0 1 = cc in omega arith)
+    go (Wide k) q g = absurd (let z : _≡_ {A = ℕ} 0 1 = cc in omega arith)
+
+-- ---- its counts are T-01's
+
+five-counted : (a b c d e : ℤ) (na nb nc nd ne : List ℕ) (l : List DueLine) {z : List ℤ}
+    → Allowed (dueLine na (counted a) ∷ dueLine nb (counted b) ∷ dueLine nc (counted c) ∷ dueLine nd (counted d) ∷ dueLine ne (counted e) ∷ l) z
+    → take 5 z ≡ a ∷ b ∷ c ∷ d ∷ e ∷ []
+five-counted a b c d e na nb nc nd ne l (nextDue {y = v} i j p (nextDue {y = w} k m q (nextDue {y = x} n o r (nextDue {y = y} f g u (nextDue {y = z} h t v1 rest))))) =
+    rw (near-itself v a p, near-itself w b q, near-itself x c r, near-itself y d u, near-itself z e v1)
+
+pub counts-are : (h : Header) (f : List ℤ) (c : List CodeNet) (s : List ℕ) (g : AllowedFile h f c s) → take 5 (g .figures) ≡ take 5 (figuresIn (headLines f))
+unfolding dueWith headDue headDues headLines dueUnder figuresIn
+counts-are h f c s g =
+    five-counted (bordersIn f Building) (bordersIn f Parcel) (bordersIn f Road) (bordersIn f Water) (islandsIn f Confine) _ _ _ _ _ _ (g .allowed)

@@ -25,13 +25,14 @@ use Rattle.tally.proofs.TallyWays.{tally-at, figure-fits}
 use Rattle.spelling.specs.Figures.{isNarrow, figureText}
 use Rattle.sup.specs.Lines.{leftField, fieldsLine}
 use Rattle.sup.specs.Sup.{bordersIn, outerIn, islandsIn, innerIn, netIn, exactTotal, exactConfine, headLines, footLines}
+use Rattle.sup.specs.ExactAreas.{exactAreas}
 use Rattle.sup.proofs.TextWays.{headNames, footNames}
-use Rattle.supcheck.specs.Right.{Due, due, counted, DueLine, dueLine, lineFrom, figureIn, isFields, isNear, isRightLine}
+use Rattle.supline.specs.Right.{Due, due, counted, DueLine, dueLine, lineFrom, figureIn, isFields, isNear, isRightLine}
 use Rattle.supcheck.specs.Due.{dueUnder, headDues, headDue, totalAllowance, confineAllowance, footDues, footDue, balanceIn}
 use Rattle.supcheck.specs.Checked.{rightFrom}
 use Rattle.supcheck.specs.Walking.{packedFrom, packedDue, countExact, headExact, headAllowed, footExact, partsAllowed, footAllowed}
-use Rattle.supcheck.proofs.NearWays.{metre, times, near-yes, near-no, narrow-within}
-use Rattle.supcheck.proofs.LineLaws.{narrow-line}
+use Rattle.supline.proofs.NearWays.{metre, times, near-yes, near-no, narrow-within}
+use Rattle.supline.proofs.LineLaws.{narrow-line}
 
 -- ---- lines with the same right texts
 
@@ -214,7 +215,7 @@ module _ (f : List ℤ) (g : Good f) where
   at : (k : ℕ) → isFigure (getD f k (pos 0)) ≡ true
   at k = tally-at f k (g .each)
 
-  head-lines : SameLines (packedDue headNames (headExact f) (headAllowed f)) (headDue f)
+  head-lines : SameLines (packedDue headNames (headExact f (netIn f Building ∷ [])) (headAllowed f)) (headDue f)
   unfolding packedFrom headExact headAllowed headDue headDues headLines dueUnder leftField
   head-lines =
       sameLine (right-same (text "N.FABBRIC  ") (text "N.FABBRIC") (due (countExact (bordersIn f Building)) (pos 0)) (counted (bordersIn f Building)) refl (count-same (bordersIn f Building) (at 16)))
@@ -224,8 +225,13 @@ module _ (f : List ℤ) (g : Good f) where
       (sameLine (right-same (text "N.SVIL-ALL ") (text "N.SVIL-ALL") (due (countExact (islandsIn f Confine)) (pos 0)) (counted (islandsIn f Confine)) refl (count-same (islandsIn f Confine) (at 2)))
       (sameLine (right-same (text "FABBRIC    ") (text "FABBRIC") (due (netIn f Building) (bordersIn f Building)) (due (netIn f Building) (bordersIn f Building)) refl (near-self (netIn f Building) (bordersIn f Building))) noLine)))))
 
-  pub head-known : (s : List ℕ) (x a : List ℤ) → x ≡ headExact f → a ≡ headAllowed f → (r : ℕ) → r ≡ rightFrom 1 (packedDue headNames x a) s → r ≡ rightFrom 1 (headDue f) s
-  head-known s x a ex ea r er = er ∙ rw (ex, ea) (lines-same s 1 head-lines)
+  head-by : (v : List ℤ) → getD v 0 (pos 0) ≡ netIn f Building → headExact f v ≡ headExact f (netIn f Building ∷ [])
+  unfolding headExact
+  head-by v e = rw e
+
+  pub head-known : (s : List ℕ) (v : List ℤ) → getD v 0 (pos 0) ≡ netIn f Building → (x a : List ℤ) → x ≡ headExact f v → a ≡ headAllowed f
+      → (r : ℕ) → r ≡ rightFrom 1 (packedDue headNames x a) s → r ≡ rightFrom 1 (headDue f) s
+  head-known s v ev x a ex ea r er = er ∙ rw (ex, head-by v ev, ea) (lines-same s 1 head-lines)
 
   module _ (kind : ℕ) (b : ℤ) (fits : SFits w64 (exactTotal kind f)) where
     total-by : (z : ℤ) → isNarrow z ≡ true → (t : Bool) → eqb kind 3 ≡ t
@@ -238,8 +244,8 @@ module _ (f : List ℤ) (g : Good f) where
     unfolding partsAllowed totalAllowance
     total-same z n = total-by z n (eqb kind 3) refl
 
-    foot-lines : SameLines (packedDue footNames (footExact kind f b) (footAllowed kind f)) (footDue kind f b)
-    unfolding packedFrom footExact footAllowed footDue footDues footLines dueUnder leftField
+    foot-lines : SameLines (packedDue footNames (footExact (exactAreas kind f) (exactTotal kind f) b) (footAllowed kind f)) (footDue kind f b)
+    unfolding packedFrom exactAreas footExact footAllowed footDue footDues footLines dueUnder leftField
     foot-lines =
         sameLine (right-same (text "PARTIC     ") (text "PARTIC") (due (netIn f Parcel) (bordersIn f Parcel)) (due (netIn f Parcel) (bordersIn f Parcel)) refl (near-self (netIn f Parcel) (bordersIn f Parcel)))
         (sameLine (right-same (text "STRADE     ") (text "STRADE") (due (netIn f Road) (bordersIn f Road)) (due (netIn f Road) (bordersIn f Road)) refl (near-self (netIn f Road) (bordersIn f Road)))
@@ -249,8 +255,9 @@ module _ (f : List ℤ) (g : Good f) where
         (sameLine (right-same (text "CONFINE    ") (text "CONFINE") (due (exactConfine kind f) (confineAllowance kind f)) (due (exactConfine kind f) (confineAllowance kind f)) refl (near-self (exactConfine kind f) (confineAllowance kind f)))
         (sameLine (right-same (text "SBILANCIO  ") (text "SBILANCIO") (counted b) (counted b) refl (near-self (metre *ℤ b) (pos 0))) noLine))))))
 
-    pub foot-known : (s : List ℕ) (k : ℕ) (x a : List ℤ) → x ≡ footExact kind f b → a ≡ footAllowed kind f → (r : ℕ) → r ≡ rightFrom k (packedDue footNames x a) s → r ≡ rightFrom k (footDue kind f b) s
-    foot-known s k x a ex ea r er = er ∙ rw (ex, ea) (lines-same s k foot-lines)
+    pub foot-known : (s : List ℕ) (k : ℕ) (v : List ℤ) → v ≡ exactAreas kind f → (t : ℤ) → t ≡ exactTotal kind f → (x a : List ℤ) → x ≡ footExact v t b
+        → a ≡ footAllowed kind f → (r : ℕ) → r ≡ rightFrom k (packedDue footNames x a) s → r ≡ rightFrom k (footDue kind f b) s
+    foot-known s k v ev t et x a ex ea r er = er ∙ rw (ex, ev, et, ea) (lines-same s k foot-lines)
 
 -- ---- what the arrays of the code hold
 
@@ -269,55 +276,47 @@ pub head-exact-is : (f : List ℤ) → mag (bordersIn f Building) < 2 ^ 63 → m
     → mag (bordersIn f Water) < 2 ^ 63 → mag (islandsIn f Confine) < 2 ^ 63
     → (a : ℤ) → a ≡ countExact (held (bordersIn f Building)) → mag a < 2 ^ 63 → (b : ℤ) → b ≡ countExact (held (bordersIn f Parcel)) → mag b < 2 ^ 63
     → (c : ℤ) → c ≡ countExact (held (bordersIn f Road)) → mag c < 2 ^ 63 → (d : ℤ) → d ≡ countExact (held (bordersIn f Water)) → mag d < 2 ^ 63
-    → (e : ℤ) → e ≡ countExact (held (islandsIn f Confine)) → mag e < 2 ^ 63 → (n : ℤ) → n ≡ netIn f Building → mag n < 2 ^ 63
-    → held a ∷ held b ∷ held c ∷ held d ∷ held e ∷ held n ∷ [] ≡ headExact f
+    → (e : ℤ) → e ≡ countExact (held (islandsIn f Confine)) → mag e < 2 ^ 63 → (v : List ℤ) → mag (getD v 0 (pos 0)) < 2 ^ 63
+    → held a ∷ held b ∷ held c ∷ held d ∷ held e ∷ held (getD v 0 (pos 0)) ∷ [] ≡ headExact f v
 unfolding headExact
-head-exact-is f i j k l m a ea ma b eb mb c ec mc d ed md e ee me n en mn =
+head-exact-is f i j k l m a ea ma b eb mb c ec mc d ed md e ee me v mv =
     rw (
       exact-held (bordersIn f Building) i a ea ma,
       exact-held (bordersIn f Parcel) j b eb mb,
       exact-held (bordersIn f Road) k c ec mc,
       exact-held (bordersIn f Water) l d ed md,
       exact-held (islandsIn f Confine) m e ee me,
-      back n mn,
-      en,
+      back (getD v 0 (pos 0)) mv,
     )
 
 pub head-allowed-is : (f : List ℤ) → mag (bordersIn f Building) < 2 ^ 63 → pos 0 ∷ pos 0 ∷ pos 0 ∷ pos 0 ∷ pos 0 ∷ held (bordersIn f Building) ∷ [] ≡ headAllowed f
 unfolding headAllowed
 head-allowed-is f i = rw (back (bordersIn f Building) i)
 
-module _ (kind : ℕ) (f : List ℤ) where
-  balance-holds : (b : ℤ) → SFits w64 b → Within 460000000000 b → Holds 460000000000 b (ofZ w64 b)
-  balance-holds b s w = holds-of s w
-
+module _ (b : ℤ) (fb : SFits w64 b) (w : Within 460000000000 b) where
   unit-holds : Holds 2000000 (pos 2000000) 2000000
   unit-holds = holds-bits {n = 2000000} {b = 2000000} (within-lit tt)
 
-  pub balance-asks : (b : ℤ) → SFits w64 b → Within 460000000000 b → SFits w64 (pos 2000000 *ℤ held b)
-  balance-asks b s w = ask-mul unit-holds (balance-holds b s w) (lit< tt)
+  pub balance-asks : SFits w64 (pos 2000000 *ℤ held b)
+  balance-asks = ask-mul unit-holds (holds-of fb w) (lit< tt)
 
-  pub foot-exact-is : (b : ℤ) → SFits w64 b → Within 460000000000 b → (t : ℤ) → t ≡ exactTotal kind f → mag t < 2 ^ 63
-      → (x : ℤ) → x ≡ netIn f Parcel → mag x < 2 ^ 63 → (y : ℤ) → y ≡ netIn f Road → mag y < 2 ^ 63 → (z : ℤ) → z ≡ netIn f Water → mag z < 2 ^ 63
-      → mag (innerIn f Confine) < 2 ^ 63 → (u : ℤ) → u ≡ exactConfine kind f → mag u < 2 ^ 63
-      → held x ∷ held y ∷ held z ∷ held (innerIn f Confine) ∷ held t ∷ held u ∷ held (pos 2000000 *ℤ held b) ∷ [] ≡ footExact kind f b
+  pub foot-exact-is : (v : List ℤ) (t : ℤ) → mag t < 2 ^ 63 → mag (getD v 1 (pos 0)) < 2 ^ 63 → mag (getD v 2 (pos 0)) < 2 ^ 63
+      → mag (getD v 3 (pos 0)) < 2 ^ 63 → mag (getD v 4 (pos 0)) < 2 ^ 63 → mag (getD v 5 (pos 0)) < 2 ^ 63
+      → held (getD v 1 (pos 0)) ∷ held (getD v 2 (pos 0)) ∷ held (getD v 3 (pos 0)) ∷ held (getD v 4 (pos 0)) ∷ held t ∷ held (getD v 5 (pos 0)) ∷ held (pos 2000000 *ℤ held b) ∷ []
+      ≡ footExact v t b
   unfolding footExact
-  foot-exact-is b s w t et mt x ex mx y ey my z ez mz mi u eu mu =
+  foot-exact-is v t mt m1 m2 m3 m4 m5 =
       rw (
-        holds-mul unit-holds (balance-holds b s w) (lit< tt) .reads,
-        back x mx,
-        back y my,
-        back z mz,
-        back (innerIn f Confine) mi,
+        holds-mul unit-holds (holds-of fb w) (lit< tt) .reads,
+        back (getD v 1 (pos 0)) m1,
+        back (getD v 2 (pos 0)) m2,
+        back (getD v 3 (pos 0)) m3,
+        back (getD v 4 (pos 0)) m4,
+        back (getD v 5 (pos 0)) m5,
         back t mt,
-        back u mu,
-        ex,
-        ey,
-        ez,
-        et,
-        eu,
       )
 
+module _ (kind : ℕ) (f : List ℤ) where
   pub foot-allowed-is : mag (bordersIn f Parcel) < 2 ^ 63 → mag (bordersIn f Road) < 2 ^ 63 → mag (bordersIn f Water) < 2 ^ 63 → mag (islandsIn f Confine) < 2 ^ 63
       → (p : ℤ) → p ≡ partsAllowed kind f → mag p < 2 ^ 63 → (q : ℤ) → q ≡ confineAllowance kind f → mag q < 2 ^ 63
       → held (bordersIn f Parcel) ∷ held (bordersIn f Road) ∷ held (bordersIn f Water) ∷ held (islandsIn f Confine) ∷ held p ∷ held q ∷ pos 0 ∷ [] ≡ footAllowed kind f
@@ -336,17 +335,17 @@ module _ (kind : ℕ) (f : List ℤ) where
 
 -- ---- what the walks ask
 
-pub head-asks : (f x a : List ℤ) → x ≡ headExact f → a ≡ headAllowed f → (66 ≡ 11 * length x) × (length a ≡ length x) × (1 + length x < 2 ^ 64)
+pub head-asks : (f v x a : List ℤ) → x ≡ headExact f v → a ≡ headAllowed f → (66 ≡ 11 * length x) × (length a ≡ length x) × (1 + length x < 2 ^ 64)
 unfolding headExact headAllowed
-head-asks f x a ex ea =
+head-asks f v x a ex ea =
     let i : length x ≡ 6 = ap length ex in
     let j : length a ≡ 6 = ap length ea in
     (omega (arith, i), omega (arith, i, j), omega (arith, i))
 
-pub foot-asks : (kind : ℕ) (f : List ℤ) (b : ℤ) (x a : List ℤ) → x ≡ footExact kind f b → a ≡ footAllowed kind f → (n : ℕ) → n < 2 ^ 60
+pub foot-asks : (kind : ℕ) (f v : List ℤ) (t b : ℤ) (x a : List ℤ) → x ≡ footExact v t b → a ≡ footAllowed kind f → (n : ℕ) → n < 2 ^ 60
     → (77 ≡ 11 * length x) × (length a ≡ length x) × (7 + n + length x < 2 ^ 64)
 unfolding footExact footAllowed
-foot-asks kind f b x a ex ea n h =
+foot-asks kind f v t b x a ex ea n h =
     let i : length x ≡ 7 = ap length ex in
     let j : length a ≡ 7 = ap length ea in
     (omega (arith, i), omega (arith, i, j), omega (arith, i))

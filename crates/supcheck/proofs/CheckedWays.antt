@@ -14,22 +14,26 @@ use Rattle.record.specs.declared.Mode.the-variants.{Loose}
 use Rattle.heading.specs.declared.Header.{Header}
 use Rattle.sheet.specs.Tables.{Tables}
 use Rattle.made.specs.declared.Verdict.the-variants.{Fine}
-use Rattle.made.specs.Made.{judgeRows}
+use Rattle.made.specs.Made.{noneBefore, judgeRows}
+use Rattle.row.proofs.SeekLaws.{fine-rows}
 use Rattle.order.specs.SupBorders.{supBorders}
 use Rattle.tally.specs.declared.Refusal.{Refusal}
 use Rattle.tally.specs.declared.Refusal.the-variants.{None, Sheet, Missing, Full, Wide}
-use Rattle.tally.specs.declared.Taken.{Taken}
+use Rattle.tally.specs.Tally.{Good}
 use Rattle.tally.specs.Take.{isNone, tallyOf}
+use Rattle.tally.proofs.RunningLaws.{tally-good, tally-fine}
+use Rattle.sup.specs.declared.ExactSheet.{ExactSheet}
 use Rattle.sup.specs.declared.Total.{Total}
 use Rattle.sup.specs.declared.Total.the-variants.{Is, Past}
 use Rattle.sup.specs.Sup.{CodeNet, exactTotal, isLimited}
 use Rattle.sup.specs.Totals.{totalOf}
+use Rattle.sup.specs.ExactAreas.{exactAreas, exactOf}
 use Rattle.sup.specs.Answer.{codesInOrder}
 use Rattle.sup.proofs.TextWays.{past-is, is-is, limited-small}
 use Rattle.sup.proofs.ListedWays.{listed-held}
 use Rattle.supcheck.specs.declared.SupChecked.{SupChecked}
 use Rattle.supcheck.specs.declared.SupChecked.the-variants.{Accepted, Refused, PastTotal, WrongLine}
-use Rattle.supcheck.specs.Right.{DueLine, isRightDate}
+use Rattle.supline.specs.Right.{DueLine, isRightDate}
 use Rattle.supcheck.specs.Due.{headDue, listedDue, footDue, dueWith, balanceIn, dueLines}
 use Rattle.supcheck.specs.Checked.{rightFrom, rightLines, checkedLines, totalChecked, afterTally, supChecked}
 use Rattle.supcheck.proofs.RightLaws.{right-most, right-past, right-in}
@@ -85,7 +89,7 @@ module _ (h : Header) (count : ℕ) (t : Tables) (f : List ℤ) (s : List ℕ) (
           omega (arith, behind-head, q, r, size)
 
 -- no more lines than rows, and fourteen
-pub listed-small : (h : Header) (count : ℕ) (t : Tables) → judgeRows Loose count 0 t ≡ Fine → (n : ℕ) → n ≡ length (supBorders h count t) → n ≤ length (t .rows)
+pub listed-small : (h : Header) (count : ℕ) (t : Tables) → judgeRows Loose count noneBefore t ≡ Fine → (n : ℕ) → n ≡ length (supBorders h count t) → n ≤ length (t .rows)
 listed-small h count t f n e = omega (arith, e, listed-held h count t f)
 
 pub lines-most : (h : Header) (f : List ℤ) (c : List CodeNet) (s : List ℕ) → rightLines h f c s ≤ 14 + length c
@@ -134,10 +138,10 @@ module _ (h : Header) (count : ℕ) (t : Tables) (f : List ℤ) (s : List ℕ) w
       unfolding totalChecked
       total-on = rw (is-is (exactTotal (h .kind) f) d (sym e ∙ p) .0)
 
-module _ (h : Header) (count : ℕ) (t : Tables) (s : List ℕ) (x : Taken) (e : x ≡ tallyOf h count t) where
+module _ (h : Header) (count : ℕ) (t : Tables) (s : List ℕ) (x : ExactSheet) (e : x ≡ exactOf h count t) where
   pub tally-refused : (r : Refusal) → x .refusal ≡ r → isNone r ≡ false → Refused r ≡ supChecked h count t s
-  unfolding supChecked
-  tally-refused r q n = by r n ∙ rw (← e, q)
+  unfolding supChecked exactOf
+  tally-refused r q n = by r n ∙ ap (λ (v : Refusal). afterTally v (totalChecked h (tallyOf h count t .tally .figures) (codesInOrder h count t) s)) (sym q ∙ ap (λ (y : ExactSheet). y .refusal) e)
     where
       by : (v : Refusal) → isNone v ≡ false → Refused v ≡ afterTally v (totalChecked h (tallyOf h count t .tally .figures) (codesInOrder h count t) s)
       by None n = absurd (true≢false n)
@@ -146,9 +150,19 @@ module _ (h : Header) (count : ℕ) (t : Tables) (s : List ℕ) (x : Taken) (e :
       by (Full k) n = refl
       by (Wide k) n = refl
 
-  pub tally-checked : x .refusal ≡ None → totalChecked h (x .tally .figures) (codesInOrder h count t) s ≡ supChecked h count t s
-  unfolding supChecked
-  tally-checked q = rw (← e, q)
+  module _ (q : x .refusal ≡ None) where
+    none-is : tallyOf h count t .refusal ≡ None
+    unfolding exactOf
+    none-is = sym (ap (λ (y : ExactSheet). y .refusal) e) ∙ q
+
+    pub tally-asks : (judgeRows Loose count noneBefore t ≡ Fine) × Good (x .figures) × (x .areas ≡ exactAreas (h .kind) (x .figures)) × (x .total ≡ totalOf (exactTotal (h .kind) (x .figures)))
+    unfolding exactOf
+    tally-asks =
+        (fine-rows h count t (tally-fine h count t none-is), rw e (tally-good h count t), rw e, rw e)
+
+    pub tally-checked : totalChecked h (x .figures) (codesInOrder h count t) s ≡ supChecked h count t s
+    unfolding supChecked exactOf
+    tally-checked = rw (none-is, e)
 
 pub ruleset checked-ways =
-    (count-date, count-head, count-listed, count-foot, listed-small, right-few, lines-wrong, bytes-behind, lines-accepted, total-past, total-known, total-small, total-on, tally-refused, tally-checked)
+    (count-date, count-head, count-listed, count-foot, listed-small, right-few, lines-wrong, bytes-behind, lines-accepted, total-past, total-known, total-small, total-on, tally-refused, tally-asks, tally-checked)

@@ -14,7 +14,7 @@ use Rattle.sup.specs.Lines.{FigureLine}
 use Rattle.sup.specs.Sup.{CodeNet, headLines, listedLines, footLines, figureLines}
 use Rattle.sup.specs.Answer.{codeNets, codesInOrder}
 use Rattle.sup.proofs.SupLaws.{nets-count}
-use Rattle.supcheck.specs.Right.{Due, DueLine}
+use Rattle.supline.specs.Right.{Due, DueLine}
 use Rattle.supcheck.specs.Due.{dueUnder, headDues, headDue, listedDues, listedDue, footDues, footDue, dueWith}
 
 -- ---- as many

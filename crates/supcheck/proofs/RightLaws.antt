@@ -5,7 +5,7 @@ use mathlib.Core.List.{List, [], _∷_, _++_}
 use mathlib.Core.Bool.{Bool, true, false, cond}
 use native.Mathlib.Omega.{arith}
 use lib.ListN.{length}
-use Rattle.supcheck.specs.Right.{DueLine, lineFrom, isRightLine}
+use Rattle.supline.specs.Right.{DueLine, lineFrom, isRightLine}
 use Rattle.supcheck.specs.Checked.{rightFrom}
 
 module _ (s : List ℕ) where

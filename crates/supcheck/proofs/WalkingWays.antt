@@ -20,7 +20,7 @@ use Rattle.record.specs.declared.Mode.the-variants.{Loose}
 use Rattle.heading.specs.declared.Header.{Header}
 use Rattle.sheet.specs.Tables.{Tables}
 use Rattle.made.specs.declared.Verdict.the-variants.{Fine}
-use Rattle.made.specs.Made.{tablesOf, lettersOf, judgeRows}
+use Rattle.made.specs.Made.{tablesOf, lettersOf, noneBefore, judgeRows}
 use Rattle.row.specs.declared.Stand.{Stand}
 use Rattle.row.specs.Walk.{leftAt}
 use Rattle.area.specs.Questions.{netAreaOf}
@@ -34,41 +34,11 @@ use Rattle.order.proofs.TurnLaws.{Turning, turning-start, turning-end, turning-
 use Rattle.sup.specs.Sup.{CodeNet, listedLines}
 use Rattle.sup.specs.Answer.{codeNets, codesInOrder}
 use Rattle.sup.proofs.ListedWays.{listed-held}
-use Rattle.supcheck.specs.Right.{Due, due, DueLine, dueLine, lineFrom, figureIn, isFields, isNear, isRightLine}
+use Rattle.supline.specs.Right.{Due, due, DueLine, dueLine, lineFrom, figureIn, isFields, isNear, isRightLine}
 use Rattle.supcheck.specs.Due.{dueUnder, listedDues, listedDue}
 use Rattle.supcheck.specs.Checked.{rightFrom}
 use Rattle.supcheck.specs.Walking.{packedFrom, packedDue}
-use Rattle.supcheck.proofs.LineLaws.{narrow-line}
-
--- ---- one line
-
-pub line-narrow : (z : ℤ) (b : Bool) → b ≡ isNarrow (toZ w64 (ofZ w64 z)) → not b ≡ false → isNarrow (toZ w64 (ofZ w64 z)) ≡ true
-line-narrow z b e t = sym e ∙ not-false b t
-
-module _ (name : List ℕ) (exact allowed : ℤ) (s : List ℕ) (z : ℤ) (ez : (z ≡ figureIn s) × Within 230000000000 z) (mz : mag z < 2 ^ 63) where
-  abbrev line : DueLine
-  line = dueLine name (due exact allowed)
-
-  figure-held : toZ w64 (ofZ w64 z) ≡ figureIn s
-  figure-held = back z mz ∙ ez .0
-
-  module _ (b : Bool) (eb : b ≡ isNarrow (toZ w64 (ofZ w64 z))) where
-    pub line-wide : not b ≡ true → false ≡ isRightLine line s
-    line-wide t = sym (narrow-line line s (sym (ap isNarrow figure-held) ∙ sym eb ∙ not-true b t))
-
-    module _ (tb : not b ≡ false) where
-      module _ (l : Bool) (el : l ≡ isFields name (figureText (toZ w64 (ofZ w64 z))) s) where
-        form-is : isFields name (figureText (figureIn s)) s ≡ l
-        form-is = ap (λ (x : ℤ). isFields name (figureText x) s) (sym figure-held) ∙ sym el
-
-        pub line-form : not l ≡ true → false ≡ isRightLine line s
-        unfolding isRightLine
-        line-form t = sym (rw (form-is, not-true l t))
-
-        pub line-near : not l ≡ false → SFits w64 exact → SFits w64 allowed → (n : Bool)
-            → n ≡ isNear (toZ w64 (ofZ w64 z)) (toZ w64 (ofZ w64 exact)) (toZ w64 (ofZ w64 allowed)) → n ≡ isRightLine line s
-        unfolding isRightLine
-        line-near t fe fa n en = en ∙ rw (figure-held, toZ-ofZ fe, toZ-ofZ fa, form-is, not-false l t)
+use Rattle.supline.proofs.LineLaws.{narrow-line}
 
 -- ---- lines whose names stand one behind the other
 
@@ -144,7 +114,7 @@ pub record Counting (h : Header) (count : ℕ) (t : Tables) (s : List ℕ) (w : 
   pub turns : Turning h count t w i j
   pub rest : rightFrom 7 (listedFrom h count t 0) s ≡ i + rightFrom (7 + i) (listedFrom h count t i) s
 
-pub counting-start : (h : Header) (count : ℕ) (t : Tables) (s : List ℕ) → Small t → judgeRows Loose count 0 t ≡ Fine → (w : Window) → Shows w (windowOf h count t First)
+pub counting-start : (h : Header) (count : ℕ) (t : Tables) (s : List ℕ) → Small t → judgeRows Loose count noneBefore t ≡ Fine → (w : Window) → Shows w (windowOf h count t First)
     → Counting h count t s w 0 0
 counting-start h count t s m f w x = record { turns = turning-start h count t m f w x; rest = omega arith }
 
@@ -180,7 +150,7 @@ module _ {h : Header} {count : ℕ} {t : Tables} {s : List ℕ} {w : Window} {i 
     pub counting-next : not b ≡ false → (v : Window) → Shows v (windowOf h count t (Past (getD (w .items) j z))) → Counting h count t s v (i + 1) 0
     counting-next f v x = record { turns = turning-next (g .turns) e z v x; rest = counted-on f }
 
-pub ruleset line-ways = (line-wide, line-form, line-near, border-known)
+pub ruleset border-ways = (border-known)
 
 pub ruleset righting-ways = (righting-start, righting-end, righting-stop, righting-on)
 

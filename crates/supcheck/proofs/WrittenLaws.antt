@@ -24,11 +24,11 @@ use Rattle.sup.specs.Answer.{codesInOrder, sheetSup, supOf}
 use Rattle.sup.proofs.SupLaws.{metres-low, metres-high, Fitting, Fittings, Fittings.none, Fittings.more, lines-fit, listed-count}
 use Rattle.sup.proofs.WroteLaws.{SupWritten, wrote-sheet, header-named}
 use Rattle.supcheck.specs.declared.SupChecked.the-variants.{Accepted}
-use Rattle.supcheck.specs.Right.{Due, due, counted, DueLine, isNear}
+use Rattle.supline.specs.Right.{Due, due, counted, DueLine, isNear}
 use Rattle.supcheck.specs.Due.{dueUnder, headDues, headDue, listedDues, listedDue, totalAllowance, confineAllowance, footDues, footDue, dueWith}
 use Rattle.supcheck.specs.Checked.{checkedLines, totalChecked, supChecked}
 use Rattle.supcheck.specs.Allowed.{linesWith, Allowed, Allowed.noneDue, Allowed.nextDue, balanceOf, textWith, AllowedFile}
-use Rattle.supcheck.proofs.NearWays.{metre, times, near-yes}
+use Rattle.supline.proofs.NearWays.{metre, times, near-yes}
 use Rattle.supcheck.proofs.NoneLaws.{Four, Fours, tally-fours, class-four}
 use Rattle.supcheck.proofs.AcceptLaws.{file-accepted}
 

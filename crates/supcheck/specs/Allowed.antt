@@ -11,7 +11,7 @@ use Rattle.spelling.specs.Figures.{isNarrow}
 use Rattle.sup.specs.Date.{isDate}
 use Rattle.sup.specs.Lines.{nameWidth, FigureLine, figureLine, fieldsLine, dateText, linesText}
 use Rattle.sup.specs.Sup.{CodeNet, figureLines}
-use Rattle.supcheck.specs.Right.{DueLine, isNear}
+use Rattle.supline.specs.Right.{DueLine, isNear}
 use Rattle.supcheck.specs.Due.{dueWith}
 
 -- lines with other figures

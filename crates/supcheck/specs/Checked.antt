@@ -17,7 +17,7 @@ use Rattle.sup.specs.Sup.{CodeNet, exactTotal, isLimited}
 use Rattle.sup.specs.Answer.{codesInOrder}
 use Rattle.supcheck.specs.declared.SupChecked.{SupChecked}
 use Rattle.supcheck.specs.declared.SupChecked.the-variants.{Accepted, Refused, PastTotal, WrongLine}
-use Rattle.supcheck.specs.Right.{DueLine, lineFrom, isRightLine, isRightDate}
+use Rattle.supline.specs.Right.{DueLine, lineFrom, isRightLine, isRightDate}
 use Rattle.supcheck.specs.Due.{dueLines}
 
 -- ---- right lines at the beginning

@@ -19,7 +19,7 @@ use Rattle.sup.specs.Sup.{CodeNet, supText}
 use Rattle.sup.specs.AnswerExamples.{computed as computedSup}
 use Rattle.supcheck.specs.declared.SupChecked.{SupChecked}
 use Rattle.supcheck.specs.declared.SupChecked.the-variants.{Accepted, Refused, PastTotal, WrongLine}
-use Rattle.supcheck.specs.Right.{lineFrom, rightField, figureSaid, figureIn, dateIn, isFields, isNear, isRightLine, isRightDate}
+use Rattle.supline.specs.Right.{lineFrom, rightField, figureSaid, figureIn, dateIn, isFields, isNear, isRightLine, isRightDate}
 use Rattle.supcheck.specs.Due.{dueUnder, headDues, headDue, listedDues, listedDue, totalAllowance, confineAllowance, footDues, footDue, dueWith, balanceIn, dueLines}
 use Rattle.supcheck.specs.Checked.{rightFrom, rightLines, checkedLines, totalChecked, supChecked}
 

@@ -10,8 +10,8 @@ use Rattle.laws.specs.Whole.{lowZ}
 use Rattle.classes.specs.declared.Class.the-variants.{Confine, Other, Road, Water, Building, Parcel}
 use Rattle.sup.specs.Metres.{doubledMetre}
 use Rattle.sup.specs.Lines.{nameWidth}
-use Rattle.sup.specs.Sup.{bordersIn, islandsIn, innerIn, netIn, unionKind, exactTotal, exactConfine}
-use Rattle.supcheck.specs.Right.{due, DueLine, dueLine}
+use Rattle.sup.specs.Sup.{bordersIn, islandsIn, unionKind}
+use Rattle.supline.specs.Right.{due, DueLine, dueLine}
 use Rattle.supcheck.specs.Due.{confineAllowance}
 
 -- n lines from the i-th on
@@ -34,22 +34,23 @@ apartMost = pos 1000000000000000000
 unfoldable pub countExact : ℤ → ℤ
 countExact z = pos doubledMetre *ℤ lowZ z countMost
 
-unfoldable pub headExact : List ℤ → List ℤ
-headExact f =
+-- of a tally `f` and its exact areas `a`
+unfoldable pub headExact : List ℤ → List ℤ → List ℤ
+headExact f a =
     countExact (bordersIn f Building)
     ∷ countExact (bordersIn f Parcel)
     ∷ countExact (bordersIn f Road)
     ∷ countExact (bordersIn f Water)
     ∷ countExact (islandsIn f Confine)
-    ∷ netIn f Building
+    ∷ getD a 0 (pos 0)
     ∷ []
 
 unfoldable pub headAllowed : List ℤ → List ℤ
 headAllowed f = pos 0 ∷ pos 0 ∷ pos 0 ∷ pos 0 ∷ pos 0 ∷ bordersIn f Building ∷ []
 
-unfoldable pub footExact : ℕ → List ℤ → ℤ → List ℤ
-footExact kind f b =
-    netIn f Parcel ∷ netIn f Road ∷ netIn f Water ∷ innerIn f Confine ∷ exactTotal kind f ∷ exactConfine kind f ∷ (pos doubledMetre *ℤ b) ∷ []
+unfoldable pub footExact : List ℤ → ℤ → ℤ → List ℤ
+footExact a total b =
+    getD a 1 (pos 0) ∷ getD a 2 (pos 0) ∷ getD a 3 (pos 0) ∷ getD a 4 (pos 0) ∷ total ∷ getD a 5 (pos 0) ∷ (pos doubledMetre *ℤ b) ∷ []
 
 unfoldable pub partsAllowed : ℕ → List ℤ → ℤ
 partsAllowed kind f =

@@ -2,19 +2,22 @@
 // All of it is proved, and no public function has a `requires`. Names, order, counts and totals are those that T-01 writes (crate `sup`); a figure
 // may be rounded in another way, as far as is allowed for its line. The file is read where it stands.
 mod allowing;
-mod reading;
 mod walking;
 
 ghost use mathlib.Core.Path.{_≡_};
 ghost use Prim.Native.Nat.{_+_, _^_, _<_};
-ghost use lib.ListN.{length};
+ghost use lib.ListN.{length, getD};
+ghost use lib.IntN.{pos};
 ghost use Rattle.laws.specs.Whole.{Within};
 ghost use Rattle.record.specs.declared.Mode.the-variants.{Loose};
 ghost use Rattle.made.specs.declared.Verdict.the-variants.{Fine};
-ghost use Rattle.made.specs.Made.{tablesOf, judgeRows};
+ghost use Rattle.made.specs.Made.{tablesOf, noneBefore, judgeRows};
+ghost use Rattle.classes.specs.declared.Class.the-variants.{Building};
 ghost use Rattle.tally.specs.Tally.{Good};
 ghost use Rattle.order.specs.SupBorders.{supBorders};
-ghost use Rattle.sup.specs.Sup.{exactTotal};
+ghost use Rattle.sup.specs.Sup.{netIn, exactTotal};
+ghost use Rattle.sup.specs.Totals.{totalOf};
+ghost use Rattle.sup.specs.ExactAreas.{exactAreas};
 ghost use Rattle.sup.specs.Answer.{codesInOrder};
 ghost use Rattle.supcheck.specs.Due.{balanceIn, headDue, footDue};
 ghost use Rattle.supcheck.specs.Checked.{rightFrom, rightLines, checkedLines, totalChecked, supChecked};
@@ -22,17 +25,16 @@ use crate::allowing::foot_allowed;
 use crate::allowing::foot_exact;
 use crate::allowing::head_allowed;
 use crate::allowing::head_exact;
-use crate::allowing::sheet_total;
-use crate::reading::figure_in;
-use crate::reading::is_right_date;
-use crate::reading::line_from;
 use crate::walking::right_lines;
 use crate::walking::right_listed;
 use heading::Header;
 use order::sup_count;
 use sup::Total;
+use sup::exact::sheet_exact;
+use supline::reading::figure_in;
+use supline::reading::is_right_date;
+use supline::reading::line_from;
 use tally::Refusal;
-use tally::tally_sheet;
 
 // The file is the sheet's; the sheet's refusal or its tally's (6, 15, 17, 18); TOTALE past the limit (18); the first wrong line, from 1 (25).
 pub enum SupChecked {
@@ -59,11 +61,11 @@ const TOTAL_LINE: usize = 11;
 const CONFINE_LINE: usize = 12;
 
 // Before the listed borders: right lines at the beginning.
-fn right_head(s: &[u8], figures: &[i64]) -> usize
-    requires { ⌜ Good (now figures) ⌝ }
+fn right_head(s: &[u8], figures: &[i64], areas: &[i64]) -> usize
+    requires { ⌜ Good (now figures) × (length (now areas) ≡ 6) × (getD (now areas) 0 (pos 0) ≡ netIn (now figures) Building) ⌝ }
     ensures { λ r. ⌜ r ≡ rightFrom 1 (headDue (now (figures .entry))) (now (s .entry)) ⌝ }
 {
-    let exact = head_exact(figures);
+    let exact = head_exact(figures, areas);
     let allowed = head_allowed(figures);
     right_lines(
         s,
@@ -85,11 +87,18 @@ fn balance_in(s: &[u8], listed: usize) -> i64
 }
 
 // Behind the listed borders.
-fn right_foot(s: &[u8], kind: usize, figures: &[i64], total: i64, listed: usize) -> usize
-    requires { ⌜ Good (now figures) × (total ≡ exactTotal kind (now figures)) × (listed < 2 ^ 60) ⌝ }
+fn right_foot(
+    s: &[u8],
+    kind: usize,
+    figures: &[i64],
+    areas: &[i64],
+    total: i64,
+    listed: usize,
+) -> usize
+    requires { ⌜ Good (now figures) × (now areas ≡ exactAreas kind (now figures)) × (total ≡ exactTotal kind (now figures)) × (listed < 2 ^ 60) ⌝ }
     ensures { λ r. ⌜ r ≡ rightFrom (7 + listed) (footDue kind (now (figures .entry)) (balanceIn listed (now (s .entry)))) (now (s .entry)) ⌝ }
 {
-    let exact = foot_exact(kind, figures, total, balance_in(s, listed));
+    let exact = foot_exact(areas, total, balance_in(s, listed));
     let allowed = foot_allowed(kind, figures);
     right_lines(
         s,
@@ -110,10 +119,11 @@ fn right_count(
     points: &[i64],
     s: &[u8],
     figures: &[i64],
+    areas: &[i64],
     total: i64,
     listed: usize,
 ) -> usize
-    requires { ⌜ (judgeRows Loose count 0 (tablesOf (now rows) (now letters) (now islands) (now points)) ≡ Fine) × Good (now figures) × (total ≡ exactTotal (header .kind) (now figures)) ⌝ }
+    requires { ⌜ (judgeRows Loose count noneBefore (tablesOf (now rows) (now letters) (now islands) (now points)) ≡ Fine) × Good (now figures) × (now areas ≡ exactAreas (header .kind) (now figures)) × (total ≡ exactTotal (header .kind) (now figures)) ⌝ }
     requires { ⌜ listed ≡ length (supBorders header count (tablesOf (now rows) (now letters) (now islands) (now points))) ⌝ }
     ensures { λ r. ⌜ r ≡ rightLines header (now (figures .entry)) (codesInOrder header count (tablesOf (now (rows .entry)) (now (letters .entry)) (now (islands .entry)) (now (points .entry)))) (now (s .entry)) ⌝ }
 {
@@ -121,7 +131,7 @@ fn right_count(
     if !is_right_date(&name, s) {
         return 0;
     }
-    let in_head = right_head(s, figures);
+    let in_head = right_head(s, figures, areas);
     if in_head < HEAD_LINES {
         return 1 + in_head;
     }
@@ -129,7 +139,7 @@ fn right_count(
     if in_list < listed {
         return FIRST_LISTED + in_list;
     }
-    FIRST_LISTED + listed + right_foot(s, header.kind, figures, total, listed)
+    FIRST_LISTED + listed + right_foot(s, header.kind, figures, areas, total, listed)
 }
 
 // Whether all lines are right, and nothing stands behind them.
@@ -142,9 +152,10 @@ fn checked_lines(
     points: &[i64],
     s: &[u8],
     figures: &[i64],
+    areas: &[i64],
     total: i64,
 ) -> SupChecked
-    requires { ⌜ (judgeRows Loose count 0 (tablesOf (now rows) (now letters) (now islands) (now points)) ≡ Fine) × Good (now figures) × (total ≡ exactTotal (header .kind) (now figures)) ⌝ }
+    requires { ⌜ (judgeRows Loose count noneBefore (tablesOf (now rows) (now letters) (now islands) (now points)) ≡ Fine) × Good (now figures) × (now areas ≡ exactAreas (header .kind) (now figures)) × (total ≡ exactTotal (header .kind) (now figures)) ⌝ }
     ensures { λ r. ⌜ r ≡ checkedLines header (now (figures .entry)) (codesInOrder header count (tablesOf (now (rows .entry)) (now (letters .entry)) (now (islands .entry)) (now (points .entry)))) (now (s .entry)) ⌝ }
 {
     let listed = sup_count(header, count, rows, letters);
@@ -157,6 +168,7 @@ fn checked_lines(
         points,
         s,
         figures,
+        areas,
         total,
         listed,
     );
@@ -179,13 +191,15 @@ fn total_checked(
     points: &[i64],
     s: &[u8],
     figures: &[i64],
+    areas: &[i64],
+    total: Total,
 ) -> SupChecked
-    requires { ⌜ (judgeRows Loose count 0 (tablesOf (now rows) (now letters) (now islands) (now points)) ≡ Fine) × Good (now figures) ⌝ }
+    requires { ⌜ (judgeRows Loose count noneBefore (tablesOf (now rows) (now letters) (now islands) (now points)) ≡ Fine) × Good (now figures) × (now areas ≡ exactAreas (header .kind) (now figures)) × (total ≡ totalOf (exactTotal (header .kind) (now figures))) ⌝ }
     ensures { λ r. ⌜ r ≡ totalChecked header (now (figures .entry)) (codesInOrder header count (tablesOf (now (rows .entry)) (now (letters .entry)) (now (islands .entry)) (now (points .entry)))) (now (s .entry)) ⌝ }
 {
-    match sheet_total(header.kind, figures) {
+    match total {
         Total::Past => SupChecked::PastTotal,
-        Total::Is(total) => checked_lines(
+        Total::Is(d) => checked_lines(
             header,
             count,
             rows,
@@ -194,7 +208,8 @@ fn total_checked(
             points,
             s,
             figures,
-            total,
+            areas,
+            d,
         ),
     }
 }
@@ -211,10 +226,11 @@ pub fn sup_check(
 ) -> SupChecked
     ensures { λ r. ⌜ r ≡ supChecked header count (tablesOf (now (rows .entry)) (now (letters .entry)) (now (islands .entry)) (now (points .entry))) (now (s .entry)) ⌝ }
 {
-    let taken = tally_sheet(header, count, rows, letters, islands, points);
-    let tally = taken.tally;
-    let figures = tally.figures;
-    let refusal = taken.refusal;
+    let exact = sheet_exact(header, count, rows, letters, islands, points);
+    let figures = exact.figures;
+    let areas = exact.areas;
+    let total = exact.total;
+    let refusal = exact.refusal;
     match refusal {
         Refusal::None => total_checked(
             header,
@@ -225,6 +241,8 @@ pub fn sup_check(
             points,
             s,
             &figures,
+            &areas,
+            total,
         ),
         Refusal::Sheet(v) => SupChecked::Refused(Refusal::Sheet(v)),
         Refusal::Missing => SupChecked::Refused(Refusal::Missing),

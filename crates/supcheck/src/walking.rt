@@ -6,26 +6,23 @@ ghost use lib.ListN.{length};
 ghost use lib.IntN.{pos};
 ghost use Rattle.record.specs.declared.Mode.the-variants.{Loose};
 ghost use Rattle.made.specs.declared.Verdict.the-variants.{Fine};
-ghost use Rattle.made.specs.Made.{tablesOf, judgeRows, lettersOf};
+ghost use Rattle.made.specs.Made.{tablesOf, noneBefore, judgeRows, lettersOf};
 ghost use Rattle.row.specs.Walk.{leftAt};
 ghost use Rattle.order.specs.SupOrder.{netLeft};
 ghost use Rattle.sup.specs.Lines.{nameWidth};
 ghost use Rattle.sup.specs.Answer.{codesInOrder};
-ghost use Rattle.supcheck.specs.Right.{due, dueLine, isRightLine};
+ghost use Rattle.supline.specs.Right.{due, dueLine, isRightLine};
 ghost use Rattle.supcheck.specs.Due.{listedDue};
 ghost use Rattle.supcheck.specs.Checked.{rightFrom};
 ghost use Rattle.supcheck.specs.Walking.{packedDue};
-use crate::allowing::is_near;
-use crate::reading::figure_in;
-use crate::reading::is_line;
-use crate::reading::line_from;
 use heading::Header;
 use order::Since;
 use order::letters_at;
 use order::net_at;
 use order::next_window;
 use row::Stand;
-use spelling::is_narrow;
+use supline::is_right_line;
+use supline::reading::line_from;
 
 const NAME_WIDTH: usize = 11;
 
@@ -35,22 +32,14 @@ const WIDTH: usize = 384;
 // The lines before the listed borders.
 const FIRST_LISTED: usize = 7;
 
-// The first line of s is right.
-fn is_right_line(name: &[u8], exact: i64, allowed: i64, s: &[u8]) -> bool
-    ensures { λ r. ⌜ r ≡ isRightLine (dueLine (now (name .entry)) (due exact allowed)) (now (s .entry)) ⌝ }
-{
-    let figure = figure_in(s);
-    if !is_narrow(figure) {
-        return false;
-    }
-    if !is_line(name, figure, s) {
-        return false;
-    }
-    is_near(figure, exact, allowed)
-}
-
 // Of lines whose names stand one behind the other, each as a left field; the first is due as line `first`.
-pub(crate) fn right_lines(s: &[u8], first: usize, names: &[u8], exact: &[i64], allowed: &[i64]) -> usize
+pub(crate) fn right_lines(
+    s: &[u8],
+    first: usize,
+    names: &[u8],
+    exact: &[i64],
+    allowed: &[i64],
+) -> usize
     requires { ⌜ (length (now names) ≡ nameWidth * length (now exact)) × (length (now allowed) ≡ length (now exact)) × (first + length (now exact) < 2 ^ 64) ⌝ }
     ensures { λ r. ⌜ r ≡ rightFrom first (packedDue (now (names .entry)) (now (exact .entry)) (now (allowed .entry))) (now (s .entry)) ⌝ }
 {
@@ -58,7 +47,12 @@ pub(crate) fn right_lines(s: &[u8], first: usize, names: &[u8], exact: &[i64], a
     while i < exact.len() {
         let from = NAME_WIDTH * i;
         let end = from + NAME_WIDTH;
-        if !is_right_line(&names[from..end], exact[i], allowed[i], line_from(s, first + i)) {
+        if !is_right_line(
+            &names[from..end],
+            exact[i],
+            allowed[i],
+            line_from(s, first + i),
+        ) {
             return i;
         }
         i += 1;
@@ -91,7 +85,7 @@ pub(crate) fn right_listed(
     islands: &[u16],
     points: &[i64],
 ) -> usize
-    requires { ⌜ judgeRows Loose count 0 (tablesOf (now rows) (now letters) (now islands) (now points)) ≡ Fine ⌝ }
+    requires { ⌜ judgeRows Loose count noneBefore (tablesOf (now rows) (now letters) (now islands) (now points)) ≡ Fine ⌝ }
     ensures { λ r. ⌜ r ≡ rightFrom 7 (listedDue (codesInOrder header count (tablesOf (now (rows .entry)) (now (letters .entry)) (now (islands .entry)) (now (points .entry))))) (now (s .entry)) ⌝ }
 {
     let mut w = next_window(header, count, rows, letters, islands, points, Since::First);
@@ -99,7 +93,14 @@ pub(crate) fn right_listed(
     let mut j = 0;
     while j < w.count {
         let d = w.items[j];
-        if !is_right_border(line_from(s, FIRST_LISTED + i), rows, letters, islands, points, d) {
+        if !is_right_border(
+            line_from(s, FIRST_LISTED + i),
+            rows,
+            letters,
+            islands,
+            points,
+            d,
+        ) {
             return i;
         }
         i += 1;
