@@ -14,13 +14,13 @@ returns : tie.Need-returns
 returns c = search (line-ways, needs)
 
 is-line-requires : tie.Need-is-line-requires
-is-line-requires c κs = line-narrow _ _ (c .before .is-narrow .ensures) (c .if1 .left)
+is-line-requires c κs = line-narrow (c .before .before .figure-in .result) _ (c .before .is-narrow .ensures) (c .if1 .left)
 
 returns-2 : tie.Need-returns-2
 returns-2 c = search (line-ways, needs)
 
 is-near-requires : tie.Need-is-near-requires
-is-near-requires c κs = line-narrow _ _ (c .before .before .before .is-narrow .ensures) (c .before .before .if1 .left)
+is-near-requires c κs = line-narrow (c .before .before .before .before .figure-in .result) _ (c .before .before .before .is-narrow .ensures) (c .before .before .if1 .left)
 
 returns-3 : tie.Need-returns-3
 returns-3 c = search (line-ways, needs)

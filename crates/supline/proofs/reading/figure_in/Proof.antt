@@ -1,6 +1,6 @@
 -- `figure_in` meets its contract. Assumes nothing.
 use borrow.Author.Needs.{needs}
-use Rattle.supline.proofs.ReadingWays.{reading-ways}
+use Rattle.supline.proofs.ReadingWays.{figure-known, reading-ways}
 use Rattle.supline.proofs.reading.figure_in.Statement.{statement}
 use Rattle.supline.proofs.reading.figure_in.Tie as tie
 
@@ -11,7 +11,7 @@ figure-said-requires : tie.Need-figure-said-requires
 figure-said-requires c κs = search (reading-ways, needs)
 
 returns : tie.Need-returns
-returns c = search (reading-ways, needs)
+returns c = figure-known (c .before .before .before .args .s .now) _ (c .before .right-field .ensures) _ (c .figure-said .ensures) (c .figure-said .ok)
 
 pub figure-in-spec : {M : Type 1} → statement M
 figure-in-spec =

@@ -1,10 +1,11 @@
 -- `has_minus` meets its contract: none of the bytes passed is `-`. Assumes nothing.
 use borrow.Author.Needs.{needs}
 use Prim.Native.Nat.{_-_, _≤_}
-use mathlib.Core.Path.{_≡_}
+use mathlib.Core.Path.{_≡_, refl}
+use native.Mathlib.Omega.{arith}
 use lib.ListN.{length, drop}
 use Rattle.laws.specs.Lists.{holds}
-use Rattle.laws.proofs.ListLaws.{finds}
+use Rattle.laws.proofs.ListLaws.{holds-step, finds}
 use Rattle.supline.proofs.reading.has_minus.Statement.{statement}
 use Rattle.supline.proofs.reading.has_minus.Tie as tie
 
@@ -30,7 +31,7 @@ loop-less : tie.Need-loop-less Inv-loop μ-loop
 loop-less c = search (finds, needs)
 
 loop-again : tie.Need-loop-again Inv-loop μ-loop
-loop-again c = search (finds, needs)
+loop-again c = (omega (arith, c .before .before .loop-test .taken), holds-step (c .before .before .before .before .args .s .now) 45 (c .before .before .before .loop .i) (c .before .before .before .loop .inv .1) _ refl (c .before .before .loop-test .taken) (c .if1 .left))
 
 returns-2 : tie.Need-returns-2 Inv-loop μ-loop
 returns-2 c = search (finds, needs)

@@ -1,4 +1,5 @@
 -- `right_field` meets its contract. Assumes nothing.
+use Rattle.laws.specs.Lists.{tail}
 use Rattle.laws.proofs.ListLaws.{part-count}
 use Rattle.supline.proofs.ReadingWays.{reading-ways}
 use borrow.Author.Needs.{needs}
@@ -30,7 +31,7 @@ returns-2 : tie.Need-returns-2
 returns-2 c = search (reading-ways, needs)
 
 slice-aggregate-result : tie.Need-slice-aggregate-result
-slice-aggregate-result c = part-count _ _ (c .if2 .left)
+slice-aggregate-result c = part-count 10 (tail (c .before .before .before .before .args .s .now) 11) (c .before .if2 .left)
 
 returns-3 : tie.Need-returns-3
 returns-3 c = search (reading-ways, needs)

@@ -1,8 +1,9 @@
 -- `value_of` reads the digits of a field. Invariant: `n` is what the first `i` bytes make, and the rest goes on from it. Assumes nothing.
 use Prim.Native.Nat.{_-_}
+use native.Mathlib.Omega.{arith}
 use lib.ListN.{length}
 use borrow.Author.Needs.{needs}
-use Rattle.supline.proofs.ReadingWays.{Valued, reading-ways}
+use Rattle.supline.proofs.ReadingWays.{Valued, valued-plus, valued-on, valued-end, reading-ways}
 use Rattle.supline.proofs.reading.value_of.Statement.{statement}
 use Rattle.supline.proofs.reading.value_of.Tie as tie
 
@@ -25,7 +26,7 @@ digit-of-requires : tie.Need-digit-of-requires Inv-loop μ-loop
 digit-of-requires c κs = search (reading-ways, needs)
 
 add-n : tie.Need-add-n Inv-loop μ-loop
-add-n c = search (reading-ways, needs)
+add-n c = record { fits = valued-plus (c .before .before .before .loop .inv) (c .before .before .before .before .before .pre) (c .before .before .loop-test .taken) _ (c .digit-of .ensures) (omega (arith, c .before .shared-slice-known2 .given (c .before .before .before .loop .i))) }
 
 add-i : tie.Need-add-i Inv-loop μ-loop
 add-i c = search (reading-ways, needs)
@@ -34,10 +35,10 @@ loop-less : tie.Need-loop-less Inv-loop μ-loop
 loop-less c = search (reading-ways, needs)
 
 loop-again : tie.Need-loop-again Inv-loop μ-loop
-loop-again c = search (reading-ways, needs)
+loop-again c = valued-on (c .before .before .before .loop .inv) (c .before .before .before .before .before .pre) (c .before .before .loop-test .taken) _ (c .digit-of .ensures) (omega (arith, c .before .shared-slice-known2 .given (c .before .before .before .loop .i)))
 
 returns : tie.Need-returns Inv-loop μ-loop
-returns c = search (reading-ways, needs)
+returns c = valued-end (c .before .loop .inv) (c .before .before .before .pre) (c .loop-test .left)
 
 pub value-of-spec : {M : Type 1} → statement M
 value-of-spec =
