@@ -333,6 +333,20 @@ module _ (kind : ℕ) (f : List ℤ) where
         eq,
       )
 
+-- the areas of a sheet, in a list
+module _ (kind : ℕ) (f v : List ℤ) (e : v ≡ exactAreas kind f) where
+  pub areas-six : length v ≡ 6
+  unfolding exactAreas
+  areas-six = ap length e
+
+  pub areas-first : getD v 0 (pos 0) ≡ netIn f Building
+  unfolding exactAreas
+  areas-first = ap (λ (x : List ℤ). getD x 0 (pos 0)) e
+
+-- of two numbers in locals
+pub foot-as : (v x : List ℤ) (t b : ℤ) → mag t < 2 ^ 63 → (z : ℤ) → mag z < 2 ^ 63 → z ≡ b → x ≡ footExact v (held t) (held z) → x ≡ footExact v t b
+foot-as v x t b mt z mz e q = q ∙ rw (back t mt, back z mz, e)
+
 -- ---- what the walks ask
 
 pub head-asks : (f v x a : List ℤ) → x ≡ headExact f v → a ≡ headAllowed f → (66 ≡ 11 * length x) × (length a ≡ length x) × (1 + length x < 2 ^ 64)

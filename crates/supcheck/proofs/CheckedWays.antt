@@ -37,7 +37,7 @@ use Rattle.supline.specs.Right.{DueLine, isRightDate}
 use Rattle.supcheck.specs.Due.{headDue, listedDue, footDue, dueWith, balanceIn, dueLines}
 use Rattle.supcheck.specs.Checked.{rightFrom, rightLines, checkedLines, totalChecked, afterTally, supChecked}
 use Rattle.supcheck.proofs.RightLaws.{right-most, right-past, right-in}
-use Rattle.supcheck.proofs.DueLaws.{codes-count, head-count, listed-due-count, due-count}
+use Rattle.supcheck.proofs.DueLaws.{codes-count, head-count, listed-due-count, foot-count, due-count}
 
 -- ---- the lines of a file, part by part
 
@@ -87,6 +87,9 @@ module _ (h : Header) (count : ℕ) (t : Tables) (f : List ℤ) (s : List ℕ) (
           let r : rightFrom (7 + length (listedDue codes)) feet s ≡ z
           = rw (size, c) (sym ez) in
           omega (arith, behind-head, q, r, size)
+
+pub foot-few : (k kind : ℕ) (f : List ℤ) (b : ℤ) (s : List ℕ) (r : ℕ) → r ≡ rightFrom k (footDue kind f b) s → r ≤ 7
+foot-few k kind f b s r e = omega (arith, e, right-most s k (footDue kind f b), foot-count kind f b)
 
 -- no more lines than rows, and fourteen
 pub listed-small : (h : Header) (count : ℕ) (t : Tables) → judgeRows Loose count noneBefore t ≡ Fine → (n : ℕ) → n ≡ length (supBorders h count t) → n ≤ length (t .rows)

@@ -53,7 +53,7 @@ is-right-line-requires : tie.Need-is-right-line-requires Inv-loop μ-loop
 is-right-line-requires c κs = tt
 
 returns : tie.Need-returns Inv-loop μ-loop
-returns c = righting-stop (c .before .before .before .before .before .before .before .loop .inv) (c .before .before .before .before .before .before .loop-test .taken) _ (c .before .before .line-from .ensures) (c .before .before .before .before .before .is-right-line-arg .given) (c .before .before .before .before .is-right-line-arg2 .given) _ (c .before .is-right-line .ensures) (c .if1 .taken)
+returns c = righting-stop (c .before .before .before .before .before .before .before .loop .inv) (c .before .before .before .before .before .before .loop-test .taken) _ (c .before .before .line-from .ensures) (c .before .before .before .before .is-right-line-arg2 .given) (c .before .before .before .is-right-line-arg3 .given) _ (c .before .is-right-line .ensures) (c .if1 .taken)
 
 add-i : tie.Need-add-i Inv-loop μ-loop
 add-i c = omega arith
@@ -62,7 +62,7 @@ loop-less : tie.Need-loop-less Inv-loop μ-loop
 loop-less c = omega arith
 
 loop-again : tie.Need-loop-again Inv-loop μ-loop
-loop-again c = righting-on (c .before .before .before .before .before .before .before .loop .inv) (c .before .before .before .before .before .before .loop-test .taken) _ (c .before .before .line-from .ensures) (c .before .before .before .before .before .is-right-line-arg .given) (c .before .before .before .before .is-right-line-arg2 .given) _ (c .before .is-right-line .ensures) (c .if1 .left)
+loop-again c = righting-on (c .before .before .before .before .before .before .before .loop .inv) (c .before .before .before .before .before .before .loop-test .taken) _ (c .before .before .line-from .ensures) (c .before .before .before .before .is-right-line-arg2 .given) (c .before .before .before .is-right-line-arg3 .given) _ (c .before .is-right-line .ensures) (c .if1 .left)
 
 returns-2 : tie.Need-returns-2 Inv-loop μ-loop
 returns-2 c = righting-end (c .before .loop .inv) (c .loop-test .left)
