@@ -97,6 +97,7 @@ enum {
     CXF_LONG_CODE = 22, /* a SUP file would list a border whose code has more than 11 letters: the answer names the row */
     CXF_WIDE_FIGURE = 23, /* a figure of a SUP file has more than 10 characters: the answer names the line */
     CXF_MOVED_OFF = 24, /* a move of more than 109,999,999,998 mm, or one that takes a coordinate out of the real range */
+    CXF_WRONG_LINE = 25, /* a SUP file is not one for the sheet: the answer names its first wrong line */
     CXF_BAD_SIDE = 26   /* a mask's cell side that is not 1 to 10,000 mm */
 };
 
@@ -127,6 +128,7 @@ static inline const char *cxf_refusal_text(uint64_t number)
     case CXF_LONG_CODE: return "The code of a border that a SUP file lists has more than 11 letters.";
     case CXF_WIDE_FIGURE: return "A figure of a SUP file has more than 10 characters.";
     case CXF_MOVED_OFF: return "The move is too far, or takes a coordinate out of the real range.";
+    case CXF_WRONG_LINE: return "A line of the SUP file is not right for the sheet.";
     case CXF_BAD_SIDE: return "The side of a mask's cells is not 1 to 10,000 mm.";
     default: return "This is not a refusal of this interface.";
     }
@@ -360,6 +362,17 @@ typedef struct {
    (17, 18), the date (21), the first row with a listed code that is too long (22), a TOTALE beyond the tally's limit (18, with no
    row), the first figure that is too wide (23), the room (14). Past the text out is not altered. Stack: 27,008 bytes. */
 cxf_sup cxf_sup_write(CXF_SHEET, const uint8_t *date, size_t date_len, uint8_t *out, size_t out_len);
+
+typedef struct {
+    uint64_t number, row; /* row with 15, and with 17 and 18 of the tally */
+    uint64_t line;        /* with 25 the first wrong line, from 1; one past the last where bytes follow it */
+} cxf_sup_checked;
+
+/* Whether a SUP file, whoever rounded its figures, is right for a sheet: lines, names, counts and order as cxf_sup_write has them, any date that
+   it takes, each area within 1 square metre of the exact one for each border that it counts (each island for SVIL-ALL), and SBILANCIO just the
+   difference of the file's TOTALE and CONFINE. Refused are the header (6), the rows (15), the tally (17, 18), a TOTALE beyond the tally's limit
+   (18, with no row), then the file (25). What cxf_sup_write writes for the sheet is right. */
+cxf_sup_checked cxf_sup_check(CXF_SHEET, const uint8_t *sup, size_t sup_len);
 
 /* ---- ring check ------------------------------------------------------------------------------------------------------ */
 

@@ -16,6 +16,7 @@ ghost use Rattle.area.specs.Questions.{ringAreaAt, netAreaAt};
 ghost use Rattle.ring.specs.RingCheck.{ringCheckAt};
 ghost use Rattle.tally.specs.Take.{takenOf, tallyOf};
 ghost use Rattle.sup.specs.Answer.{sheetSup, supOf, supOutput};
+ghost use Rattle.supcheck.specs.Checked.{supChecked};
 ghost use Rattle.tile.specs.Tiles.{tileOf};
 ghost use Rattle.mask.specs.Masks.{maskAt};
 ghost use Rattle.edit.specs.Answers.{tablesAt};
@@ -29,6 +30,7 @@ ghost use Rattle.told.specs.Told.{interfaceNumber, readTold, writeTold, recordT
 ghost use Rattle.told.specs.Answers.{borderTold, textTold, areaTold, ringTold};
 ghost use Rattle.told.specs.Tallies.{tallyIn, tallyTold, takeTold};
 ghost use Rattle.told.specs.SupFiles.{supTold};
+ghost use Rattle.told.specs.SupChecks.{checkedTold};
 ghost use Rattle.told.specs.Masks.{maskTold};
 ghost use Rattle.told.specs.Edits.{editTold};
 use area::net_area;
@@ -53,6 +55,7 @@ use record::refusal::NUMBER;
 use record::refusal::OFF_TILE;
 use ring::ring_check;
 use sup::sup_text;
+use supcheck::sup_check;
 use tally::take;
 use tally::tally_sheet;
 use tile::Tile;
@@ -78,6 +81,8 @@ use told::question::border_of;
 use told::question::ring_of;
 use told::question::text_of;
 use told::reading_of;
+use told::sup_checks::CxfSupChecked;
+use told::sup_checks::checked_told;
 use told::sup_files::CxfSup;
 use told::sup_files::sup_told;
 use told::tallies::CxfTally;
@@ -433,6 +438,25 @@ pub extern "C" fn cxf_sup_write(
 {
     let header = header_of(kind, name, scale);
     sup_told(sup_text(header, count, rows, letters, islands, points, date, out))
+}
+
+// Checks a SUP file that came with a sheet.
+#[no_mangle]
+pub extern "C" fn cxf_sup_check(
+    kind: usize,
+    name: &[u8],
+    scale: i64,
+    count: usize,
+    rows: &[i64],
+    letters: &[u8],
+    islands: &[u16],
+    points: &[i64],
+    sup: &[u8],
+) -> CxfSupChecked
+    ensures { λ r. ⌜ r ≡ checkedTold (supChecked (headerOf kind (now (name .entry)) scale) count (tablesOf (now (rows .entry)) (now (letters .entry)) (now (islands .entry)) (now (points .entry))) (now (sup .entry))) ⌝ }
+{
+    let header = header_of(kind, name, scale);
+    checked_told(sup_check(header, count, rows, letters, islands, points, sup))
 }
 
 // Takes a row out of a sheet, in the tables that are lent.

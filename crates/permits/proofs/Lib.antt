@@ -15,5 +15,6 @@ pub mod Tallies
 pub mod RunningTallies
 pub mod Interfaces
 pub mod SupFiles
+pub mod SupChecks
 pub mod Masks
 pub mod Edits

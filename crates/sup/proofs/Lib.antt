@@ -3,9 +3,9 @@ pub mod SupLaws
 pub mod SourceLaws
 pub mod WroteLaws
 pub mod FormLaws
-mod RoundWays
-mod LineWays
-mod TotalWays
+pub mod RoundWays
+pub mod LineWays
+pub mod TotalWays
 mod DateWays
-mod ListedWays
-mod TextWays
+pub mod ListedWays
+pub mod TextWays

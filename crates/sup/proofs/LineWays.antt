@@ -28,7 +28,7 @@ use Rattle.sup.specs.Printing.{areNarrow, namedText}
 -- ---- the left field
 
 -- a part of eleven blanks
-blanks-part : (k : ℕ) → k ≤ 11 → take {A = ℕ} k (replicate 11 32) ≡ replicate k 32
+pub blanks-part : (k : ℕ) → k ≤ 11 → take {A = ℕ} k (replicate 11 32) ≡ replicate k 32
 blanks-part k h =
     let f : 11 ≡ k + (11 - k) = omega arith in
     ap (λ (m : ℕ). take {A = ℕ} k (replicate m 32)) f

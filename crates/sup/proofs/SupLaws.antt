@@ -91,7 +91,7 @@ lines-length none = refl
 lines-length (more {x} {s} a f) =
     omega (arith, length-append (fieldsLine (x .name) (figureText (x .amount))) (linesText s), line-length (x .name) (figureText (x .amount)) (a .short) (figure-length (x .amount) (a .narrow)), lines-length f)
 
-listed-count : (s : List CodeNet) → length (listedLines s) ≡ length s
+pub listed-count : (s : List CodeNet) → length (listedLines s) ≡ length s
 unfolding listedLines
 listed-count [] = refl
 listed-count (b ∷ s) = ap suc (listed-count s)
@@ -116,7 +116,7 @@ text-length h date f s n d x =
 
 -- ---- a file that is written: its lines fit
 
-nets-count : (t : Tables) (s : List Stand) → length (codeNets t s) ≡ length s
+pub nets-count : (t : Tables) (s : List Stand) → length (codeNets t s) ≡ length s
 unfolding codeNets
 nets-count t [] = refl
 nets-count t (d ∷ s) = ap suc (nets-count t s)
@@ -150,13 +150,19 @@ unfolding listedLines codeNets
 listed-short t [] each-nil = unnamed
 listed-short t (d ∷ s) (each-on h e) = named h (listed-short t s e)
 
--- where neither 22 nor 23 is met, "the length is 23 times the lines": fourteen, and one for each border that is listed
+-- where neither 22 nor 23 is met, every line fits
+pub lines-fit : (h : Header) (count : ℕ) (t : Tables) (f : List ℤ) → firstLong h count t ≡ Nowhere → firstWide (h .kind) f (codesInOrder h count t) ≡ 0
+    → Fittings (figureLines (h .kind) f (codesInOrder h count t))
+unfolding codesInOrder
+lines-fit h count t f l w =
+    let s = codeNets t (supInOrder h count t) in
+    narrow-lines 2 (figureLines (h .kind) f s) (omega arith) w (short-names (h .kind) f s (listed-short t (supInOrder h count t) (codes-fit h count t l)))
+
+-- and "the length is 23 times the lines": fourteen, and one for each border that is listed
 pub sup-length : (h : Header) (count : ℕ) (t : Tables) (date : List ℕ) (f : List ℤ) → length (h .name) ≤ 11 → length date ≤ 10
     → firstLong h count t ≡ Nowhere → firstWide (h .kind) f (codesInOrder h count t) ≡ 0
     → length (supText h date f (codesInOrder h count t)) ≡ 23 * (14 + length (supBorders h count t))
 unfolding codesInOrder
 sup-length h count t date f n d l w =
     let s = codeNets t (supInOrder h count t) in
-    let x : Fittings (figureLines (h .kind) f s)
-    = narrow-lines 2 (figureLines (h .kind) f s) (omega arith) w (short-names (h .kind) f s (listed-short t (supInOrder h count t) (codes-fit h count t l))) in
-    omega (arith, text-length h date f s n d x, nets-count t (supInOrder h count t), in-order-length h count t)
+    omega (arith, text-length h date f s n d (lines-fit h count t f l w), nets-count t (supInOrder h count t), in-order-length h count t)

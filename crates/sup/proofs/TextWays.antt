@@ -50,6 +50,7 @@ use Rattle.sup.specs.Lines.{FigureLine, leftField, fieldsLine, dateText,
 use Rattle.sup.specs.Sup.{exactTotal, isLimited, headLines, footLines, listedLines, figureLines, figuresIn, wideFrom, firstWide, supText, CodeNet}
 use Rattle.sup.specs.Answer.{codeNets, codesInOrder, sheetSup, storedSup, linedSup, printedSup, afterCodes, datedSup, afterTally, supOf}
 use Rattle.sup.specs.Printing.{areNarrow, namedText, metresLeft, isAnyWideFrom}
+use Rattle.sup.specs.ExactAreas.{exactAreas, exactOf}
 use Rattle.sup.specs.Totals.{totalOf}
 use Rattle.sup.proofs.SupLaws.{sup-length}
 use Rattle.sup.proofs.ListedWays.{Narrow, none-wide}
@@ -267,7 +268,7 @@ module _ (h : Header) (count : ℕ) (t : Tables) (f : List ℤ) (date : List ℕ
 
 -- ---- the answers
 
-past-is : (z : ℤ) → totalOf z ≡ Past → isLimited z ≡ false
+pub past-is : (z : ℤ) → totalOf z ≡ Past → isLimited z ≡ false
 unfolding totalOf
 past-is z = go (isLimited z)
   where
@@ -275,7 +276,7 @@ past-is z = go (isLimited z)
     go true q = absurd (let k : _≡_ {A = ℕ} 0 1 = cc in omega arith)
     go false q = refl
 
-is-is : (z d : ℤ) → totalOf z ≡ Is d → (isLimited z ≡ true) × (d ≡ z)
+pub is-is : (z d : ℤ) → totalOf z ≡ Is d → (isLimited z ≡ true) × (d ≡ z)
 unfolding totalOf
 is-is z d = go (isLimited z)
   where
@@ -284,7 +285,7 @@ is-is z d = go (isLimited z)
     go false q = absurd (let k : _≡_ {A = ℕ} 0 1 = cc in omega arith)
 
 -- what keeps the limit fits
-limited-small : (z : ℤ) → isLimited z ≡ true → mag z < 2 ^ 63
+pub limited-small : (z : ℤ) → isLimited z ≡ true → mag z < 2 ^ 63
 unfolding isLimited
 limited-small (pos a) e = omega (arith, le-yes (pos a) (pos 9000000000000000000) (and-right (leZ (negsuc 8999999999999999999) (pos a)) (leZ (pos a) (pos 9000000000000000000)) e))
 limited-small (negsuc a) e = omega (arith, le-yes (negsuc 8999999999999999999) (negsuc a) (and-left (leZ (negsuc 8999999999999999999) (negsuc a)) (leZ (negsuc a) (pos 9000000000000000000)) e))
@@ -384,3 +385,14 @@ module _ (h : Header) (count : ℕ) (t : Tables) (date : List ℕ) (room : ℕ) 
     pub tally-text : supText h date (x .tally .figures) (codesInOrder h count t) ≡ sheetSup h count t date
     unfolding sheetSup
     tally-text = rw e
+
+-- ---- a sheet's exact areas
+
+module _ (h : Header) (count : ℕ) (t : Tables) (x : Taken) (e : x ≡ tallyOf h count t) where
+  pub exact-good : Good (x .tally .figures)
+  exact-good = rw e (tally-good h count t)
+
+  pub exact-is : (y : Total) → y ≡ totalOf (exactTotal (h .kind) (x .tally .figures)) → (a : List ℤ) → a ≡ exactAreas (h .kind) (x .tally .figures)
+      → record { refusal = x .refusal; figures = x .tally .figures; total = y; areas = a } ≡ exactOf h count t
+  unfolding exactOf
+  exact-is y ey a ea = rw (ey, ea, e)

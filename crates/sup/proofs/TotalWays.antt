@@ -27,6 +27,7 @@ use Rattle.sup.specs.declared.Total.the-variants.{Is, Past}
 use Rattle.sup.specs.Sup.{isLimited, wideFrom, bordersIn, islandsIn, netIn, innerIn, exactTotal, exactConfine, outerIn, headLines, balance, footLines, figuresIn}
 use Rattle.sup.proofs.RoundWays.{metres-small}
 use Rattle.sup.specs.Metres.{metresOf}
+use Rattle.sup.specs.ExactAreas.{exactAreas}
 use Rattle.sup.specs.Totals.{billion, highSum, lowSum, totalOf}
 
 -- ---- one number
@@ -302,6 +303,15 @@ module _ (kind : ℕ) (f : List ℤ) where
   pub confine-outer : (kind ≡ 3 → ⊥) → outerIn f Confine ≡ exactConfine kind f
   unfolding exactConfine
   confine-outer h = rw (ne-eqb kind 3 h)
+
+-- the areas before they are rounded
+pub areas-are : (kind : ℕ) (f : List ℤ) (w : ℤ) → w ≡ netIn f Building → mag w < 2 ^ 63 → (x : ℤ) → x ≡ netIn f Parcel → mag x < 2 ^ 63
+    → (y : ℤ) → y ≡ netIn f Road → mag y < 2 ^ 63 → (z : ℤ) → z ≡ netIn f Water → mag z < 2 ^ 63 → mag (innerIn f Confine) < 2 ^ 63
+    → (u : ℤ) → u ≡ exactConfine kind f → mag u < 2 ^ 63
+    → held w ∷ held x ∷ held y ∷ held z ∷ held (innerIn f Confine) ∷ held u ∷ [] ≡ exactAreas kind f
+unfolding exactAreas
+areas-are kind f w ew mw x ex mx y ey my z ez mz mi u eu mu =
+    rw (back w mw, back x mx, back y my, back z mz, back (innerIn f Confine) mi, back u mu, ew, ex, ey, ez, eu)
 
 -- ---- behind the listed borders
 

@@ -43,7 +43,7 @@ pub record SupWritten (h : Header) (count : ℕ) (t : Tables) (date : List ℕ) 
 
 -- ---- the length of the text
 
-header-named : (h : Header) (count : ℕ) (t : Tables) → judgeOf Loose h count t ≡ Fine → length (h .name) ≤ 11
+pub header-named : (h : Header) (count : ℕ) (t : Tables) → judgeOf Loose h count t ≡ Fine → length (h .name) ≤ 11
 unfolding judgeOf
 header-named h count t e =
     let q = cond-first (isHeader h) (judgeRows Loose count noneBefore t) BadHeader Fine (λ f. let z : _≡_ {A = ℕ} 0 1 = cc in omega arith) e in

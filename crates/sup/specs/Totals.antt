@@ -1,4 +1,4 @@
--- For private contracts alone: the combined total of a SUP file, by high and low parts. Assumes nothing: these are definitions.
+-- The combined total of a SUP file; for private contracts alone, its high and low parts. Assumes nothing: these are definitions.
 use Prim.Native.Nat.{ℕ}
 use mathlib.Core.Bool.{cond}
 use lib.IntN.{ℤ, pos, _+ℤ_}

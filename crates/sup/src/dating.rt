@@ -59,7 +59,7 @@ fn is_between(low: usize, high: usize, n: usize) -> bool
     n <= high
 }
 
-pub(crate) fn is_date(s: &[u8]) -> bool
+pub fn is_date(s: &[u8]) -> bool
     ensures { λ r. ⌜ r ≡ isDate (now (s .entry)) ⌝ }
 {
     if s.len() != DATE_WIDTH {

@@ -1,6 +1,7 @@
 // The SUP file of a sheet (document 02, T-01; the specification's section 1.2): a name and a date, counts, areas in square metres.
 // All of it is proved, and no public function has a `requires`. All is judged before anything is stored; past the text nothing is altered.
-mod dating;
+pub mod dating;
+pub mod exact;
 mod listed;
 mod printing;
 mod rounding;
@@ -52,6 +53,15 @@ pub enum SupAnswer {
 pub enum Total {
     Is(i64),
     Past,
+}
+
+// A sheet's tally, or why there is none (6, 15, 17, 18); TOTALE before it is rounded; the other areas, in the file's order: buildings, parcels, roads,
+// waters, insets, CONFINE.
+pub struct ExactSheet {
+    pub refusal: Refusal,
+    pub figures: [i64; 24],
+    pub total: Total,
+    pub areas: [i64; 6],
 }
 
 // The bytes of a line.

@@ -49,7 +49,7 @@ fn low_sum(a: i64, b: i64, c: i64, d: i64) -> i64
 }
 
 // The sum of four numbers, where it keeps the limit on either side of zero.
-pub(crate) fn total_of(a: i64, b: i64, c: i64, d: i64) -> Total
+fn total_of(a: i64, b: i64, c: i64, d: i64) -> Total
     ensures { λ r. ⌜ r ≡ totalOf (a +ℤ (b +ℤ (c +ℤ d))) ⌝ }
 {
     let high = high_sum(a, b, c, d);
@@ -85,7 +85,7 @@ pub(crate) fn first_wide(figures: &[i64], from: usize) -> usize
 }
 
 // The net total of the class at place k: its outer rings less its islands.
-fn net_in(figures: &[i64], k: usize) -> i64
+pub(crate) fn net_in(figures: &[i64], k: usize) -> i64
     requires { ⌜ Good (now figures) × (k < 6) ⌝ }
     ensures { λ r. ⌜ r ≡ getD (now (figures .entry)) (4 * k + 1) (pos 0) -ℤ getD (now (figures .entry)) (4 * k + 3) (pos 0) ⌝ }
 {
@@ -124,7 +124,7 @@ pub(crate) fn head_figures(figures: &[i64]) -> [i64; 6]
 }
 
 // CONFINE before it is rounded: outer rings only; in a union sheet what TOTALE is.
-fn sheet_confine(kind: usize, figures: &[i64]) -> i64
+pub(crate) fn sheet_confine(kind: usize, figures: &[i64]) -> i64
     requires { ⌜ Good (now figures) ⌝ }
     ensures { λ r. ⌜ r ≡ exactConfine kind (now (figures .entry)) ⌝ }
 {

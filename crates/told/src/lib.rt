@@ -4,6 +4,7 @@
 pub mod edits;
 pub mod masks;
 pub mod question;
+pub mod sup_checks;
 pub mod sup_files;
 pub mod tallies;
 
