@@ -24,11 +24,14 @@ typedef struct {
     cxf_mask (*mask)(CXF_SHEET, uint64_t, int64_t, int64_t, int64_t);
     cxf_edited (*remove)(CXF_TABLES, uint64_t);
     cxf_edited (*move)(CXF_TABLES, int64_t, int64_t);
+    cxf_sup_checked (*sup_check)(CXF_SHEET, const uint8_t *, size_t);
 } party;
 
 static const party PARTIES[] = {
-    { "library", cxf_read, cxf_write, cxf_tally_sheet, cxf_ring_check, cxf_sup_write, cxf_mask_of, cxf_remove, cxf_move },
-    { "reference", ref_read, ref_write, ref_tally_sheet, ref_ring_check, ref_sup_write, ref_mask_of, ref_remove, ref_move },
+    { "library", cxf_read, cxf_write, cxf_tally_sheet, cxf_ring_check, cxf_sup_write, cxf_mask_of, cxf_remove, cxf_move,
+      cxf_sup_check },
+    { "reference", ref_read, ref_write, ref_tally_sheet, ref_ring_check, ref_sup_write, ref_mask_of, ref_remove, ref_move,
+      ref_sup_check },
 };
 enum { LIBRARY, REFERENCE, COUNT };
 
@@ -139,7 +142,7 @@ static tables parcels(size_t size) {
 
 /* ---- the items */
 
-typedef struct { tables sheet; bytes text; uint64_t mode; } job;
+typedef struct { tables sheet; bytes text, sup; uint64_t mode; } job;
 typedef uint64_t (*item)(const party *, const job *, tables *, bytes *);
 
 static uint64_t read_item(const party *p, const job *j, tables *to, bytes *out) {
@@ -163,6 +166,11 @@ static uint64_t ring_item(const party *p, const job *j, tables *to, bytes *out) 
 static uint64_t sup_item(const party *p, const job *j, tables *to, bytes *out) {
     (void)to;
     return p->sup(SHEET(&j->sheet), (const uint8_t *)"20261115", 8, out->at, out->len).number;
+}
+
+static uint64_t check_item(const party *p, const job *j, tables *to, bytes *out) {
+    (void)to, (void)out;
+    return p->sup_check(SHEET(&j->sheet), j->sup.at, j->sup.len).number;
 }
 
 /* A mask of the border in row 0, about its place. */
@@ -224,7 +232,9 @@ static void measure(const char *name, item run, job full, job quarter) {
 static job job_of(tables t, bool loose) {
     set_starts(t.rows, t.count);
     bytes exact = exact_text(&t);
-    return (job){ t, loose ? loose_text(exact) : exact, !loose };
+    bytes sup = { room(23 * (t.count + 14)), 0, 0 };
+    sup.len = near_sup(SHEET(&t), (const uint8_t *)"20261115", sup.at);
+    return (job){ t, loose ? loose_text(exact) : exact, sup, !loose };
 }
 
 static double memchr_pass(bytes b) {
@@ -260,7 +270,10 @@ int main(int argc, char **argv) {
     measure("mask town", mask_item, exact, exact4);
     measure("remove", remove_item, exact, exact4);
     measure("move", move_item, exact, exact4);
+    job listed = job_of(parcels(FULL), false), listed4 = job_of(parcels(FULL / 4), false);
     measure("sup", sup_item, exact, exact4);
-    measure("sup parcels", sup_item, job_of(parcels(FULL), false), job_of(parcels(FULL / 4), false));
+    measure("sup parcels", sup_item, listed, listed4);
+    measure("check", check_item, exact, exact4);
+    measure("check parcels", check_item, listed, listed4);
     return 0;
 }

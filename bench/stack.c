@@ -90,6 +90,8 @@ typedef struct {
     cxf_reading r;
     int64_t *rows, *points;
     uint8_t *letters, *out;
+    uint8_t *sup;
+    size_t sup_len;
     uint16_t *islands;
     size_t rows_len, letters_len, islands_len, points_len, out_len;
     cxf_sheet sheet;
@@ -161,6 +163,7 @@ static uint64_t call_listed(work *w, cxf_listed (*text_of)(const uint8_t *, size
 static uint64_t call_listing(work *w) { return call_listed(w, cxf_listing); }
 static uint64_t call_convert(work *w) { return call_listed(w, cxf_convert); }
 static uint64_t call_sup(work *w) { return cxf_sup_write(CXF_SPREAD(w->sheet), DATE, sizeof DATE - 1, w->out, w->out_len).number; }
+static uint64_t call_sup_check(work *w) { return cxf_sup_check(CXF_SPREAD(w->sheet), w->sup, w->sup_len).number; }
 static uint64_t call_mask(work *w) { return cxf_mask_of(CXF_SPREAD(w->sheet), 0, -2100000, 4300000, 10000).number; }
 
 #define TABLES(w)                                                                                                        \
@@ -190,6 +193,7 @@ static const struct { const char *name; uint64_t (*call)(work *); } FUNCTIONS[] 
     { "cxf_remove", call_remove },
     { "cxf_move", call_move },
     { "cxf_convert", call_convert },
+    { "cxf_sup_check", call_sup_check },
 };
 
 /* ---- the painted stack ---- */
@@ -250,6 +254,8 @@ int main(void)
             return 1;
         }
         sheets[i].sheet = cxf_sheet_of(&sheets[i].r, sheets[i].rows, sheets[i].letters, sheets[i].islands, sheets[i].points);
+        sheets[i].sup = room(CXF_FILE_MOST);
+        sheets[i].sup_len = (size_t)cxf_sup_write(CXF_SPREAD(sheets[i].sheet), DATE, sizeof DATE - 1, sheets[i].sup, CXF_FILE_MOST).length;
     }
     printf("%-16s %12s %12s\n", "bytes of stack", "small sheet", "giant sheet");
     for (size_t k = 0; k < sizeof FUNCTIONS / sizeof FUNCTIONS[0]; k++) {

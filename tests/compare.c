@@ -19,12 +19,12 @@
 
 typedef enum {
     READ, WRITE, BORDER_AT, TEXT_AT, RING_AREA, NET_AREA, TALLY_SHEET, TALLY_TAKE, RING_CHECK, TILE_POINT, RECORD_AT, INTEGER, REAL,
-    LISTING, SUP_WRITE, MASK_OF, REMOVE, MOVE, CONVERT, ENTRIES
+    LISTING, SUP_WRITE, MASK_OF, REMOVE, MOVE, CONVERT, SUP_CHECK, ENTRIES
 } entry;
 
 static const char *const NAMES[ENTRIES] = {
     "read", "write", "border_at", "text_at", "ring_area", "net_area", "tally_sheet", "tally_take", "ring_check", "tile_point",
-    "record_at", "integer", "real", "listing", "sup_write", "mask_of", "remove", "move", "convert",
+    "record_at", "integer", "real", "listing", "sup_write", "mask_of", "remove", "move", "convert", "sup_check",
 };
 
 /* How often the reference gave each number, so that thin coverage shows. */
@@ -39,6 +39,7 @@ static uint64_t columns[2][3][COLUMNS]; /* of integers and reals, by mode; the l
 static uint64_t kinds_read[LAST_KIND + 1], joined_files, joined_tallies;
 static uint64_t masks_empty, masks_full, masks_part, masks_through, masks_level, masks_flat;
 static uint64_t removed[LAST_KIND + 1][4], moved_back; /* by the row's kind; only row, first, last, between */
+static uint64_t sup_other, sup_wrong[8]; /* right files that are not T-01's; wrong lines: the date, counts, FABBRIC, listed, .. */
 static uint64_t answers, differences, shown_most = 1;
 
 /* ---- What is being asked, for the report ---- */
@@ -260,6 +261,14 @@ static flat of_edited(cxf_edited a) {
     put(&f, "number", a.number);
     put(&f, "row", a.row);
     put(&f, "count", a.count);
+    return f;
+}
+
+static flat of_sup_checked(cxf_sup_checked a) {
+    flat f = {.count = 0};
+    put(&f, "number", a.number);
+    put(&f, "row", a.row);
+    put(&f, "line", a.line);
     return f;
 }
 
@@ -628,6 +637,16 @@ static cxf_sup try_sup(rng *g, const tables *t, const uint8_t *date, size_t date
     return mine;
 }
 
+static cxf_sup_checked try_sup_check(rng *g, const tables *t, const bytes *sup) {
+    ask_sheet(SUP_CHECK, t);
+    now.src = sup->at;
+    now.src_len = sup->len;
+    const uint8_t *lent_sup = lend_copy(&SRC, g, sup->at, sup->len, 1);
+    const cxf_sup_checked theirs = cxf_sup_check(LENT(t), lent_sup, sup->len), mine = ref_sup_check(OWN(t), sup->at, sup->len);
+    judge(of_sup_checked(theirs), of_sup_checked(mine), holds(&SRC, sup->at) ? sheet_altered(t) : "the file was altered, or what lies around it");
+    return mine;
+}
+
 static cxf_mask try_mask(const tables *t, uint64_t row, frame f) {
     ask_sheet(MASK_OF, t);
     arg("row", row);
@@ -862,6 +881,50 @@ static void sup_once(rng *g, const tables *t) {
     }
 }
 
+/* Which of the counted lines a wrong one is: the date's, counts, FABBRIC, listed, PARTIC to SVIL-ALL, totals, SBILANCIO, none. */
+static int sort_of_line(uint64_t line, uint64_t listed) {
+    if (line == 1) return 0;
+    if (line <= 6) return 1;
+    if (line == 7) return 2;
+    line -= 7;
+    if (line <= listed) return 3;
+    line -= listed;
+    return line <= 4 ? 4 : line <= 6 ? 5 : line == 7 ? 6 : 7;
+}
+
+/* "Every file T-01 writes for the sheet is accepted"; then the file is altered. The sheet is lent. */
+static void check_once(rng *g, const tables *t) {
+    static bytes sup, clean, t01;
+    uint8_t date[16] = "20261115";
+    if (one_in(g, 8)) make_date(g, date); /* of whatever length, its first eight bytes */
+    const size_t most = 23 * (t->rows_len / ROW_WIDTH + 14);
+    sup.len = t01.len = 0;
+    while (sup.len < most) add_byte(&sup, 0);
+    sup.len = near_sup(OWN(t), date, sup.at);
+    if (sup.len == 0) { /* the sheet is refused, whatever the file */
+        for (size_t n = below(g, 60); n > 0; n--) add_byte(&sup, (uint8_t)any(g));
+        try_sup_check(g, t, &sup);
+        return;
+    }
+    while (t01.len < most) add_byte(&t01, 0);
+    const cxf_sup written = ref_sup_write(OWN(t), date, 8, t01.at, t01.len);
+    const cxf_sup_checked first = try_sup_check(g, t, &sup);
+    if (written.number == 0 && (first.number != 0 || written.length != sup.len || memcmp(t01.at, sup.at, sup.len) != 0))
+        own_fault("a file that T-01 writes is not accepted");
+    if (first.number != 0) sup_wrong[sort_of_line(first.line, sup.len / 23 - 14)]++;
+    const uint64_t listed = sup.len / 23 - 14;
+    clean.len = 0;
+    add_bytes(&clean, sup.at, sup.len);
+    for (int i = 0; i < 3; i++) {
+        sup.len = 0;
+        add_bytes(&sup, clean.at, clean.len);
+        for (uint64_t n = one_in(g, 4) ? 2 : 1; n > 0; n--) damage_sup(g, &sup);
+        const cxf_sup_checked c = try_sup_check(g, t, &sup);
+        if (c.number == 25) sup_wrong[sort_of_line(c.line, listed)]++;
+        else if (written.number != 0 || memcmp(t01.at, sup.at, sup.len) != 0) sup_other++;
+    }
+}
+
 /* The mask of one ring of a border alone, as a border of a sheet of its own. */
 static cxf_mask ring_mask(const tables *border, size_t first, size_t vertices, frame f) {
     int64_t row[ROW_WIDTH];
@@ -1030,6 +1093,7 @@ static void question_sheet(rng *g, const tables *t, bool all) {
         try_check(t, row, some_ring(g, t, row));
     }
     if (all || one_in(g, 3)) sup_once(g, t);
+    if (all || one_in(g, 3)) check_once(g, t);
     if (all || one_in(g, 6)) mask_once(g, t, make_frame(g, t));
     if (all || one_in(g, 3)) {
         const uint64_t row = some_row(g, t, one_in(g, 3) ? TESTO : BORDO);
@@ -1285,6 +1349,7 @@ static void sup_case(rng *g, size_class size) {
     if (one_in(g, 12)) damage_sheet(g, &sheet);
     lend_sheet(g, &sheet);
     for (int i = 0; i < (size == LONG ? 1 : 3); i++) sup_once(g, &sheet);
+    for (int i = 0; i < (size == LONG ? 1 : 4); i++) check_once(g, &sheet);
     try_tally(&sheet);
 }
 
@@ -1293,6 +1358,7 @@ static void combined_case(rng *g) {
     lend_sheet(g, &sheet);
     sup_once(g, &sheet);
     sup_once(g, &sheet);
+    check_once(g, &sheet);
 }
 
 /* Masks of borders about one frame; now and then the sheet is damaged too, for the order of the refusals. */
@@ -1447,6 +1513,30 @@ static void every_byte_of_numbers(void) {
     for (size_t i = 0; i < sizeof reals / sizeof reals[0]; i++) every_byte(&g, reals[i], true);
 }
 
+/* T-01's files of short sheets, one of each kind, with every byte value at every place. */
+static void every_byte_of_sups(void) {
+    uint8_t date[16] = "20261115";
+    for (uint64_t kind = 1, which = 0; kind <= 3; which++) {
+        rng g = seeded(0, which);
+        make_listed(&g, SHORT, &sheet);
+        file.len = 0;
+        while (file.len < 23 * (sheet.count + 14)) add_byte(&file, 0);
+        if (sheet.kind != kind || ref_sup_write(OWN(&sheet), date, 8, file.at, file.len).number != 0) continue;
+        file.len = near_sup(OWN(&sheet), date, file.at);
+        if (file.len < 23 * 16 || file.len > 23 * 19) continue;
+        lend_sheet(&g, &sheet);
+        for (size_t i = 0; i < file.len; i++) {
+            const uint8_t held = file.at[i];
+            for (int byte = 0; byte < 256; byte++) {
+                file.at[i] = (uint8_t)byte;
+                try_sup_check(&g, &sheet, &file);
+            }
+            file.at[i] = held;
+        }
+        kind++;
+    }
+}
+
 static const char *const MODE_NAMES[] = {"loose", "exact", "former"};
 
 static void print_counts(void) {
@@ -1499,6 +1589,11 @@ static void print_counts(void) {
     for (int k = 1; k <= LAST_KIND; k++)
         for (int i = 0; i < 4; i++) printf("%s%llu", i == 0 ? "  " : " ", (unsigned long long)removed[k][i]);
     printf("; moved and moved back %llu\n", (unsigned long long)moved_back);
+    printf("  SUP files checked: right and not T-01's %llu; the first wrong line the date %llu, a count %llu, FABBRIC %llu, listed %llu, "
+           "another class %llu, a total %llu, SBILANCIO %llu, behind the last %llu\n",
+           (unsigned long long)sup_other, (unsigned long long)sup_wrong[0], (unsigned long long)sup_wrong[1], (unsigned long long)sup_wrong[2],
+           (unsigned long long)sup_wrong[3], (unsigned long long)sup_wrong[4], (unsigned long long)sup_wrong[5], (unsigned long long)sup_wrong[6],
+           (unsigned long long)sup_wrong[7]);
     printf("  conversions: clean files %llu, REFUSED", (unsigned long long)converted);
     for (int n = 0; n < NUMBERS; n++)
         if (convert_says[n] > 0) printf("  %d:%llu", n, (unsigned long long)convert_says[n]);
@@ -1533,7 +1628,10 @@ int main(int argc, char **argv) {
     const struct itimerval patience = {{0, 0}, {600, 0}};
     const uint64_t wrong = examples();
     differences += wrong;
-    if (first == 0) every_byte_of_numbers();
+    if (first == 0) {
+        every_byte_of_numbers();
+        every_byte_of_sups();
+    }
     for (uint64_t i = first; i < first + count; i++) {
         rng g = seeded(seed, i);
         now.seed = seed;

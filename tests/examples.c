@@ -28,6 +28,7 @@ typedef struct {
     cxf_edited (*remove)(CXF_TABLES, uint64_t);
     cxf_edited (*move)(CXF_TABLES, int64_t, int64_t);
     cxf_listed (*convert)(const uint8_t *, size_t, uint8_t *, size_t);
+    cxf_sup_checked (*sup_check)(CXF_SHEET, const uint8_t *, size_t);
 } interface;
 
 static uint64_t wrong;
@@ -774,6 +775,193 @@ static void eleven_letters(const interface *i) {
               "PARCEL 0 0 0 0\nROWS 3\n");
 }
 
+/* ---- T-10 ---- */
+
+/* A SUP file as lines of name and figure. */
+typedef struct { const char *left, *right; } sup_line;
+typedef struct { sup_line line[24]; int count; } sup_file;
+
+static size_t sup_text(const sup_file *f, uint8_t *out) {
+    char text[64];
+    for (int k = 0; k < f->count; k++) {
+        snprintf(text, sizeof text, "%-11.11s%10.10s\r\n", f->line[k].left, f->line[k].right);
+        memcpy(out + 23 * k, text, 23);
+    }
+    return 23 * (size_t)f->count;
+}
+
+static void checked(const interface *i, const char *what, const held *h, const sup_file *f, uint64_t wrong_line) {
+    uint8_t text[1000];
+    const cxf_sup_checked c = i->sup_check(THE_SHEET(h), text, sup_text(f, text));
+    expect(i, what, c.number == (wrong_line == 0 ? 0 : 25) && c.row == 0 && c.line == wrong_line);
+}
+
+/* Line `line`, from 1, says `figure` in place of what it said. */
+static void figure_says(const interface *i, const held *h, const sup_file *from, int line, const char *figure, uint64_t wrong_line) {
+    sup_file f = *from;
+    f.line[line - 1].right = figure;
+    checked(i, figure, h, &f, wrong_line);
+}
+
+/* TOTALE or CONFINE, and SBILANCIO with it. */
+static void total_says(const interface *i, const held *h, const sup_file *from, int line, const char *figure, const char *balance,
+                       uint64_t wrong_line) {
+    sup_file f = *from;
+    f.line[line - 1].right = figure;
+    f.line[f.count - 1].right = balance;
+    checked(i, figure, h, &f, wrong_line);
+}
+
+/* From `least` to `most` a line's figure is right; one less and one more are wrong. */
+static void between_these(const interface *i, const held *h, const sup_file *from, int line, int least, int most) {
+    char figure[16];
+    for (int n = least - 2; n <= most + 2; n++) {
+        snprintf(figure, sizeof figure, "%d", n);
+        figure_says(i, h, from, line, figure, n >= least && n <= most ? 0 : (uint64_t)line);
+    }
+}
+
+/* D in square millimetres: CONFINE 200,000,000; parcels 7 8,000,000 and 8,820,000, 8 4,500,000, together 21,320,000; a road 2,000,000, a water
+   500,000; a building 8,000,000. TOTALE 23,820,000. A figure F is right where 2,000,000 F is within 2,000,000 n of D. */
+#define TOWN                                                                                                                    \
+    BORDER("7", "2.100") BORDER("Z999_000100", "10.000") BORDER("8", "1.500") BORDER("STRADA", "1.000") BORDER("9+", "2.000")    \
+    BORDER("7", "2.000") BORDER("ACQUA", "0.500")
+
+static const sup_file TOWNS_SUP = {
+    {{"Z999_000100", "20261115"}, {"N.FABBRIC", "1"}, {"N.PARTIC", "3"}, {"N.STRADE", "1"}, {"N.ACQUE", "1"}, {"N.SVIL-ALL", "0"},
+     {"FABBRIC", "4"}, {"7", "4"}, {"7", "4"}, {"8", "2"}, {"PARTIC", "11"}, {"STRADE", "1"}, {"ACQUE", "0"}, {"SVIL-ALL", "0"},
+     {"TOTALE", "12"}, {"CONFINE", "100"}, {"SBILANCIO", "-88"}},
+    17,
+};
+
+static void allowances(const interface *i, const held *h) {
+    const sup_file *f = &TOWNS_SUP;
+    checked(i, "the town's SUP", h, f, 0);
+    between_these(i, h, f, 7, 3, 5);       /* 4 */
+    between_these(i, h, f, 8, 3, 5);       /* 4 */
+    between_these(i, h, f, 9, 4, 5);       /* 4.41 */
+    between_these(i, h, f, 10, 2, 3);      /* 2.25 */
+    between_these(i, h, f, 11, 8, 13);     /* 10.66, three parcels */
+    between_these(i, h, f, 12, 0, 2);      /* 1 */
+    between_these(i, h, f, 13, 0, 1);      /* 0.25 */
+    between_these(i, h, f, 14, 0, 0);      /* no island: 0 alone */
+    for (int line = 2; line <= 6; line++) { /* counts are what they are */
+        const int count = line == 3 ? 3 : line == 6 ? 0 : 1;
+        between_these(i, h, f, line, count, count);
+    }
+    between_these(i, h, f, 17, -88, -88);
+    total_says(i, h, f, 15, "7", "-93", 0); /* 11.91, three parcels, a road and a water: 6.91 to 16.91 */
+    total_says(i, h, f, 15, "6", "-94", 15);
+    total_says(i, h, f, 15, "16", "-84", 0);
+    total_says(i, h, f, 15, "17", "-83", 15);
+    total_says(i, h, f, 15, "16", "-88", 17);
+    total_says(i, h, f, 16, "99", "-87", 0);
+    total_says(i, h, f, 16, "101", "-89", 0);
+    total_says(i, h, f, 16, "98", "-86", 16);
+    total_says(i, h, f, 16, "102", "-90", 16);
+    total_says(i, h, f, 16, "101", "-88", 17);
+    /* equal codes in order of their exact area, though the figures fall */
+    sup_file fall = *f;
+    fall.line[7].right = "5";
+    checked(i, "figures of equal codes that fall", h, &fall, 0);
+    fall.line[8].right = "3";
+    checked(i, "the second of equal codes", h, &fall, 9);
+}
+
+static void sup_forms(const interface *i, const held *h) {
+    static const char *const wrong_forms[] = {"0000000004", "        04", "        +4", "        -4", "4         ", "        4 ",
+                                              "       4.0", "         x", "          ", "       4 4", "        -0", "         -"};
+    static const char *const zeros[] = {"        -0", "        00", "        +0", "0000000000"};
+    static const char *const dates[] = {"20230231", "00000101", "99991231"};
+    static const char *const bad_dates[] = {"20231301", "20230132", "20230001", "2023010", "20260100"};
+    const sup_file *f = &TOWNS_SUP;
+    for (int k = 0; k < 12; k++) figure_says(i, h, f, 7, wrong_forms[k], 7);
+    for (int k = 0; k < 4; k++) {
+        figure_says(i, h, f, 14, zeros[k], 14);
+        figure_says(i, h, f, 13, zeros[k], 13);
+        figure_says(i, h, f, 6, zeros[k], 6);
+    }
+    for (int k = 0; k < 3; k++) figure_says(i, h, f, 1, dates[k], 0);
+    for (int k = 0; k < 5; k++) figure_says(i, h, f, 1, bad_dates[k], 1);
+    figure_says(i, h, f, 1, "020261115", 1);
+    figure_says(i, h, f, 1, "20261115 ", 1);
+
+    uint8_t text[1000];
+    const size_t n = sup_text(f, text);
+    for (size_t len = 0; len < n; len++) { /* missing lines, and a last one that is cut */
+        const cxf_sup_checked c = i->sup_check(THE_SHEET(h), text, len);
+        expect(i, "a SUP that is cut", c.number == 25 && c.line == len / 23 + 1);
+    }
+    text[n] = '\r';
+    cxf_sup_checked c = i->sup_check(THE_SHEET(h), text, n + 1);
+    expect(i, "a byte behind the last line", c.number == 25 && c.row == 0 && c.line == 18);
+    text[21] = '\n';
+    memmove(text + 22, text + 23, n - 23);
+    c = i->sup_check(THE_SHEET(h), text, n - 1);
+    expect(i, "LF alone", c.number == 25 && c.line == 1);
+    sup_file other = *f;
+    other.line[7] = f->line[9], other.line[9] = f->line[7];
+    checked(i, "parcels in another order", h, &other, 8);
+    other = *f;
+    other.line[11].left = "STRADA";
+    checked(i, "another name", h, &other, 12);
+}
+
+static void sup_checks(const interface *i) {
+    held h;
+    read_into(i, HEAD TOWN "EOF,", 0, &h);
+    allowances(i, &h);
+    sup_forms(i, &h);
+
+    /* "For kind 3 the allowance on both totals is 1 m2 per OTHER border": 1, 4 and 9, together 14, so 11 to 17 each */
+    static const sup_file union_sup = {
+        {{"Z999_0001QU", "20261115"}, {"N.FABBRIC", "0"}, {"N.PARTIC", "0"}, {"N.STRADE", "0"}, {"N.ACQUE", "0"}, {"N.SVIL-ALL", "0"},
+         {"FABBRIC", "0"}, {"1234567890+", "4"}, {"12345678901", "1"}, {"S1234567890", "9"}, {"PARTIC", "0"}, {"STRADE", "0"},
+         {"ACQUE", "0"}, {"SVIL-ALL", "0"}, {"TOTALE", "14"}, {"CONFINE", "14"}, {"SBILANCIO", "0"}},
+        17,
+    };
+    held quadro;
+    read_into(i, HEAD3 ELEVEN "EOF,", 0, &quadro);
+    checked(i, "a SUP of kind 3", &quadro, &union_sup, 0);
+    total_says(i, &quadro, &union_sup, 15, "17", "3", 0);
+    total_says(i, &quadro, &union_sup, 15, "18", "4", 15);
+    total_says(i, &quadro, &union_sup, 16, "11", "3", 0);
+    total_says(i, &quadro, &union_sup, 16, "10", "4", 16);
+    between_these(i, &quadro, &union_sup, 7, 0, 0);
+    between_these(i, &quadro, &union_sup, 9, 0, 2);
+
+    /* an empty sheet; a code of 12 letters */
+    static const sup_file empty_sup = {
+        {{"Z999_000100", "20261115"}, {"N.FABBRIC", "0"}, {"N.PARTIC", "0"}, {"N.STRADE", "0"}, {"N.ACQUE", "0"}, {"N.SVIL-ALL", "0"},
+         {"FABBRIC", "0"}, {"PARTIC", "0"}, {"STRADE", "0"}, {"ACQUE", "0"}, {"SVIL-ALL", "0"}, {"TOTALE", "0"}, {"CONFINE", "0"},
+         {"SBILANCIO", "0"}},
+        14,
+    };
+    held empty;
+    read_into(i, HEAD "EOF,", 0, &empty);
+    checked(i, "a SUP of an empty sheet", &empty, &empty_sup, 0);
+    for (int line = 2; line <= 14; line++) between_these(i, &empty, &empty_sup, line, 0, 0);
+    sup_file twelve = empty_sup;
+    held long_code;
+    read_into(i, HEAD BORDER("123456789012", "1.000") "EOF,", 0, &long_code);
+    twelve.line[2].right = "1";
+    memmove(twelve.line + 8, twelve.line + 7, 7 * sizeof twelve.line[0]);
+    twelve.line[7] = (sup_line){"12345678901", "1"};
+    twelve.count = 15;
+    checked(i, "a code of 12 letters", &long_code, &twelve, 8);
+
+    /* the sheet's own refusals come first, whatever the file */
+    h.rows[ROW_WIDTH * 2] = 9;
+    cxf_sup_checked c = i->sup_check(THE_SHEET(&h), NULL, 0);
+    expect(i, "a SUP of a sheet that is not well made", c.number == 15 && c.row == 2 && c.line == 0);
+    h.r.scale = 0;
+    c = i->sup_check(THE_SHEET(&h), NULL, 0);
+    expect(i, "a SUP of a sheet with a wrong header", c.number == 6 && c.row == 0 && c.line == 0);
+    read_into(i, HEAD TOWN BORDER("10", "20000.001") "EOF,", 0, &h);
+    c = i->sup_check(THE_SHEET(&h), NULL, 0);
+    expect(i, "a SUP of a ring too wide", c.number == 17 && c.row == 7 && c.line == 0);
+}
+
 static void tiles(const interface *i) {
     cxf_tile t = i->tile_point(5000, 5000000000LL, 6000, 5000000000LL - 512);
     expect(i, "the tile", t.number == 0 && t.east == 3.90625f && t.south == 2.0f);
@@ -795,7 +983,7 @@ static void records(const interface *i) {
 #define SIDE(name, P)                                                                                                              \
     {name, P##_read, P##_write, P##_border_at, P##_text_at, P##_ring_area, P##_net_area, P##_tally_sheet, P##_tally_take,          \
      P##_ring_check, P##_tile_point, P##_record_at, P##_integer, P##_real, P##_listing, P##_sup_write, P##_mask_of, \
-     P##_remove, P##_move, P##_convert}
+     P##_remove, P##_move, P##_convert, P##_sup_check}
 
 uint64_t examples(void) {
     static const interface sides[2] = {SIDE("library", cxf), SIDE("reference", ref)};
@@ -813,6 +1001,7 @@ uint64_t examples(void) {
         tails(&sides[k]);
         converting(&sides[k]);
         eleven_letters(&sides[k]);
+        sup_checks(&sides[k]);
         tiles(&sides[k]);
         records(&sides[k]);
     }

@@ -802,6 +802,8 @@ void make_combined(rng *g, tables *t) {
     if (one_in(g, 4)) add_of_class(g, t, PARCEL, some_net(g), origin);
 }
 
+static void damage_bytes(rng *g, bytes *b);
+
 size_t make_date(rng *g, uint8_t out[16]) {
     static const char *const ends[] = {"20230231", "00000101", "99991231", "20240229", "19990712", "20231301", "20230001", "20230132",
                                        "20230100", "20239901", "20230199", "2023 101", "2023010 ", "-0230101"};
@@ -818,6 +820,109 @@ size_t make_date(rng *g, uint8_t out[16]) {
     if (one_in(g, 16)) out[below(g, 8)] = PICK(g, wrong);
     if (one_in(g, 24)) n = one_in(g, 3) ? 7 : one_in(g, 2) ? 9 : one_in(g, 2) ? 0 : below(g, 17);
     return n;
+}
+
+/* ---- SUP files altered ---- */
+
+enum { SUP_LINE = 23, SUP_LEFT = 11, SUP_RIGHT = 10 };
+
+static int64_t sup_figure(const bytes *sup, size_t line) {
+    char text[SUP_RIGHT + 1] = {0};
+    memcpy(text, sup->at + SUP_LINE * line + SUP_LEFT, SUP_RIGHT);
+    return strtoll(text, NULL, 10);
+}
+
+/* A figure that 10 characters show; another is left out. */
+static void set_figure(bytes *sup, size_t line, int64_t figure) {
+    char text[32];
+    if (snprintf(text, sizeof text, "%10lld", (long long)figure) == SUP_RIGHT) memcpy(sup->at + SUP_LINE * line + SUP_LEFT, text, SUP_RIGHT);
+}
+
+/* The figure of a line, off by what is allowed it, one more, or little. Lines are counted from 0; 14 of them are not of listed borders. */
+static void shift_figure(rng *g, bytes *sup, size_t lines) {
+    const size_t listed = lines - 14, last = 7 + listed; /* PARTIC's line */
+    const size_t line = one_in(g, 3) && listed > 0 ? 7 + below(g, listed) : one_in(g, 8) ? 1 + below(g, lines - 1) : last + below(g, 7);
+    int64_t parts = 1;
+    if (line == 6) parts = sup_figure(sup, 1);
+    if (line >= last && line < last + 4) parts = sup_figure(sup, 2 + line - last);
+    if (line == last + 4) parts = sup_figure(sup, 2) + sup_figure(sup, 3) + sup_figure(sup, 4) + sup_figure(sup, 5);
+    if (line == last + 5) parts = between(g, 0, 3);
+    if (line == last + 4 && one_in(g, 4)) parts = (int64_t)listed; /* kind 3 */
+    const int64_t by = one_in(g, 3) ? between(g, -2, 2) : (parts + between(g, -1, 1)) * (one_in(g, 2) ? 1 : -1);
+    set_figure(sup, line, sup_figure(sup, line) + by);
+    if (line >= last + 4 && !one_in(g, 4)) set_figure(sup, last + 6, sup_figure(sup, last + 4) - sup_figure(sup, last + 5));
+}
+
+/* The same figure in a form that T-01 does not write, or hardly. */
+static void reform_figure(rng *g, bytes *sup, size_t lines) {
+    static const char *const forms[] = {"%010lld", "%+10lld", "%-10lld", "%9lld ", " %-9lld", "%11lld", "%9lld.", "%lld", "        -0",
+                                        "         0", "          ", "       --1", "         -", "        1-", "       1 1"};
+    char text[64];
+    const size_t line = below(g, lines);
+    const char *form = PICK(g, forms);
+    const int64_t figure = sup_figure(sup, line);
+    if (strchr(form, '%') == NULL) snprintf(text, sizeof text, "%s", form);
+    else if (one_in(g, 2)) snprintf(text, sizeof text, form, (long long)figure);
+    else snprintf(text, sizeof text, form, (long long)(figure < 0 ? -figure : figure));
+    for (size_t n = strlen(text); n < SUP_RIGHT; n++) text[n] = ' ';
+    memcpy(sup->at + SUP_LINE * line + SUP_LEFT, text, SUP_RIGHT);
+}
+
+static void drop_bytes(bytes *b, size_t at, size_t n) {
+    memmove(b->at + at, b->at + at + n, b->len - at - n);
+    b->len -= n;
+}
+
+/* A line is gone, there twice, exchanged with the next, or ends otherwise. */
+static void damage_line(rng *g, bytes *sup, size_t lines) {
+    const size_t line = below(g, lines), at = SUP_LINE * line;
+    uint8_t held[SUP_LINE];
+    memcpy(held, sup->at + at, SUP_LINE);
+    switch (below(g, 6)) {
+    case 0: drop_bytes(sup, at, SUP_LINE); break;
+    case 1:
+        for (int i = 0; i < SUP_LINE; i++) add_byte(sup, 0);
+        memmove(sup->at + at + SUP_LINE, sup->at + at, sup->len - at - SUP_LINE);
+        break;
+    case 2:
+        if (line + 1 == lines) break;
+        memcpy(sup->at + at, sup->at + at + SUP_LINE, SUP_LINE);
+        memcpy(sup->at + at + SUP_LINE, held, SUP_LINE);
+        break;
+    case 3: drop_bytes(sup, at + SUP_LINE - 2, 1); break; /* LF alone */
+    case 4: drop_bytes(sup, at + SUP_LINE - 1, 1); break;
+    default: drop_bytes(sup, at + SUP_LINE - 2, 2); break;
+    }
+}
+
+void damage_sup(rng *g, bytes *sup) {
+    const size_t lines = sup->len / SUP_LINE;
+    uint8_t date[16];
+    if (lines < 14 || sup->len % SUP_LINE != 0) { /* not as T-01 has it any more */
+        damage_bytes(g, sup);
+        return;
+    }
+    switch (below(g, 12)) {
+    case 0:
+    case 1:
+    case 2:
+    case 3: shift_figure(g, sup, lines); break;
+    case 4: /* all figures of listed borders, each by itself */
+        for (size_t i = 7; i < lines - 7; i++) set_figure(sup, i, sup_figure(sup, i) + between(g, -1, 1));
+        break;
+    case 5: reform_figure(g, sup, lines); break;
+    case 6: damage_line(g, sup, lines); break;
+    case 7:
+        make_date(g, date);
+        memcpy(sup->at + SUP_LEFT + 2, date, 8);
+        break;
+    case 8: sup->len -= 1 + below(g, one_in(g, 2) ? 3 : sup->len); break;
+    case 9:
+        for (size_t n = 1 + below(g, 30); n > 0; n--) add_byte(sup, one_in(g, 2) ? ' ' : (uint8_t)any(g));
+        break;
+    case 10: sup->len = one_in(g, 4) ? 0 : SUP_LINE * below(g, lines + 1); break;
+    default: damage_bytes(g, sup); break;
+    }
 }
 
 /* ---- Sheets for masks ---- */

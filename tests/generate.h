@@ -55,6 +55,9 @@ void make_listed(rng *g, size_class size, tables *t);
 void make_combined(rng *g, tables *t);
 /* A SUP file's date, good or nearly; its length. */
 size_t make_date(rng *g, uint8_t out[16]);
+/* Alters a SUP file: figures by their allowance, by one more and by little, their form, lines that are gone, twice or exchanged, line ends,
+   the date, any byte, its length. What it does may also leave the file right. */
+void damage_sup(rng *g, bytes *sup);
 /* Where a mask is asked for: its north-west corner and the side of a cell. */
 typedef struct { int64_t x, y, cell; } frame;
 /* A well made sheet of borders that lie about a frame, which is made too: vertices on centres, on their heights and on the grid's

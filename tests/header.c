@@ -21,6 +21,7 @@
 #define cxf_mask paper_mask
 #define cxf_sup paper_sup
 #define cxf_edited paper_edited
+#define cxf_sup_checked paper_sup_checked
 #define STRUCTS_ALONE
 #include "reference.h"
 #undef cxf_reading
@@ -37,6 +38,7 @@
 #undef cxf_mask
 #undef cxf_sup
 #undef cxf_edited
+#undef cxf_sup_checked
 
 #include "cxf.h"
 #include "cxf.h" /* once is twice */
@@ -48,6 +50,7 @@ uint64_t cxf_interface(void);
 DECLARE_MASK(cxf)
 DECLARE_EDITS(cxf)
 DECLARE_CONVERT(cxf)
+DECLARE_SUP_CHECK(cxf)
 
 /* ---- structs: the offset, the size and the type of each field ---- */
 
@@ -151,6 +154,11 @@ WHOLE(edited);
 SAME(edited, number);
 SAME(edited, row);
 SAME(edited, count);
+
+WHOLE(sup_checked);
+SAME(sup_checked, number);
+SAME(sup_checked, row);
+SAME(sup_checked, line);
 
 /* ---- numbers, as documents 01 and 02 and the paper of the interface have them ---- */
 
@@ -263,7 +271,7 @@ static void expect(int holds, const char *what)
 
 static int is_refusal(uint64_t n)
 {
-    return (n >= 1 && n <= 24 && n != 16) || n == 26;
+    return n >= 1 && n <= 26 && n != 16;
 }
 
 /* One sentence for each refusal, and one for all other numbers. */

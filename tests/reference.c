@@ -1,4 +1,4 @@
-/* The reference: document 01's base, and T-01 to T-09 of document 02, in plain C, written from the papers for clarity, not for
+/* The reference: document 01's base, and T-01 to T-10 of document 02, in plain C, written from the papers for clarity, not for
    speed. It shares no line with the library. The sentences in comments are document 01's, or the interface paper's; those
    of the SUP file are T-01's, those of masks T-03's. */
 #include "reference.h"
@@ -30,7 +30,7 @@ enum {
     TOO_LONG = 1, CUT = 2, LINE_END = 3, LENGTH = 4, BYTE = 5, HEADER = 6, NO_KEYWORD = 7, NO_NUMBER = 8,
     NO_LETTERS = 9, CODE = 10, COUNT = 11, OPEN_RING = 12, AFTER_EOF = 13, NO_ROOM = 14, NOT_MADE = 15,
     TOO_WIDE = 17, TOTAL = 18, MISSING = 19, OUTSIDE_FRAME = 20, BAD_DATE = 21, LONG_CODE = 22, WIDE_FIGURE = 23,
-    MOVED_OFF = 24, BAD_CELL = 26
+    MOVED_OFF = 24, WRONG_LINE = 25, BAD_CELL = 26
 };
 
 /* "Each element is a row of 12 numbers": their places; T-07's three behind them. */
@@ -1408,4 +1408,146 @@ cxf_listed ref_convert(const uint8_t *src, size_t src_len, uint8_t *out, size_t 
     if (n > out_len) return (cxf_listed){NO_ROOM, n};
     memcpy(out, text, n);
     return (cxf_listed){0, n};
+}
+
+/* ---- SUP files checked ---- */
+
+/* TOTALE's exact sum and CONFINE's, with how many borders, or islands, each is the sum of. */
+typedef struct { __int128 total; int64_t outside, total_parts, outside_parts; } sums;
+
+static sums sums_of(const cxf_tally *t, uint64_t kind) {
+    if (kind == QUADRO) { /* "For kind 3 the allowance on both totals is 1 m2 per OTHER border." */
+        const int64_t borders = figure_of(t, OTHER, BORDERS);
+        return (sums){class_net(t, OTHER), class_net(t, OTHER), borders, borders};
+    }
+    return (sums){
+        (__int128)class_net(t, PARCEL) + class_net(t, ROAD) + class_net(t, WATER) + figure_of(t, CONFINE, HOLES_TOTAL),
+        figure_of(t, CONFINE, OUTER),
+        figure_of(t, PARCEL, BORDERS) + figure_of(t, ROAD, BORDERS) + figure_of(t, WATER, BORDERS) + figure_of(t, CONFINE, HOLES),
+        figure_of(t, CONFINE, BORDERS),
+    };
+}
+
+/* What a line is to say: its name, and a date, a count, a figure near an exact doubled area, or the difference of two lines' figures. */
+typedef enum { DATED, COUNTED, MEASURED, BALANCE } line_form;
+typedef struct { const uint8_t *left; size_t left_len; line_form form; __int128 exact; int64_t parts; } wanted;
+
+static wanted wanted_line(const char *word, line_form form, __int128 exact, int64_t parts) {
+    return (wanted){(const uint8_t *)word, strlen(word), form, exact, parts};
+}
+
+/* T-01's lines in their order; how many. "a listed border's area .. by at most 1 m2, each class total by at most 1 m2 per border counted
+   (per island for SVIL-ALL), TOTALE by at most its parts' allowances together, CONFINE by at most 1 m2 per CONFINE border". */
+static uint64_t wanted_lines(const sheet *s, const cxf_tally *t, const entry *borders, uint64_t listed_count, sums both, wanted *lines) {
+    uint64_t n = 0;
+    lines[n++] = (wanted){s->name, NAME_LENGTH, DATED, 0, 0};
+    lines[n++] = wanted_line("N.FABBRIC", COUNTED, figure_of(t, BUILDING, BORDERS), 0);
+    lines[n++] = wanted_line("N.PARTIC", COUNTED, figure_of(t, PARCEL, BORDERS), 0);
+    lines[n++] = wanted_line("N.STRADE", COUNTED, figure_of(t, ROAD, BORDERS), 0);
+    lines[n++] = wanted_line("N.ACQUE", COUNTED, figure_of(t, WATER, BORDERS), 0);
+    lines[n++] = wanted_line("N.SVIL-ALL", COUNTED, figure_of(t, CONFINE, HOLES), 0);
+    lines[n++] = wanted_line("FABBRIC", MEASURED, class_net(t, BUILDING), figure_of(t, BUILDING, BORDERS));
+    for (uint64_t i = 0; i < listed_count; i++) lines[n++] = (wanted){borders[i].code, borders[i].length, MEASURED, borders[i].net, 1};
+    lines[n++] = wanted_line("PARTIC", MEASURED, class_net(t, PARCEL), figure_of(t, PARCEL, BORDERS));
+    lines[n++] = wanted_line("STRADE", MEASURED, class_net(t, ROAD), figure_of(t, ROAD, BORDERS));
+    lines[n++] = wanted_line("ACQUE", MEASURED, class_net(t, WATER), figure_of(t, WATER, BORDERS));
+    lines[n++] = wanted_line("SVIL-ALL", MEASURED, figure_of(t, CONFINE, HOLES_TOTAL), figure_of(t, CONFINE, HOLES));
+    lines[n++] = wanted_line("TOTALE", MEASURED, both.total, both.total_parts);
+    lines[n++] = wanted_line("CONFINE", MEASURED, both.outside, both.outside_parts);
+    lines[n++] = wanted_line("SBILANCIO", BALANCE, 0, 0);
+    return n;
+}
+
+/* A right field that is the spelling of some figure: what it says is spelled again and compared. */
+static bool figure_in(const uint8_t *field, int64_t *figure) {
+    char text[SUP_RIGHT + 1] = {0}, again[32];
+    memcpy(text, field, SUP_RIGHT);
+    *figure = strtoll(text, NULL, 10);
+    snprintf(again, sizeof again, "%10lld", (long long)*figure);
+    return strlen(again) == SUP_RIGHT && memcmp(again, field, SUP_RIGHT) == 0;
+}
+
+enum { SUP_LINE = SUP_LEFT + SUP_RIGHT + 2 };
+
+/* Whether a line of 23 bytes is right; `figure` is what it says, `balance` what SBILANCIO is to say. */
+static bool line_right(const uint8_t *line, const wanted *w, int64_t balance, int64_t *figure) {
+    if (w->left_len > SUP_LEFT || memcmp(line, w->left, w->left_len) != 0) return false; /* "a code over 11 letters makes its line wrong" */
+    for (size_t i = w->left_len; i < SUP_LEFT; i++)
+        if (line[i] != ' ') return false;
+    if (memcmp(line + SUP_LEFT + SUP_RIGHT, "\r\n", 2) != 0) return false;
+    const uint8_t *right = line + SUP_LEFT;
+    if (w->form == DATED) return memcmp(right, "  ", 2) == 0 && good_date(right + 2, 8);
+    if (!figure_in(right, figure)) return false;
+    if (w->form == COUNTED) return *figure == w->exact;
+    if (w->form == BALANCE) return *figure == balance; /* "SBILANCIO is exactly the file's TOTALE less its CONFINE" */
+    const __int128 off = (__int128)2000000 * *figure - w->exact, allowed = (__int128)2000000 * w->parts;
+    return -allowed <= off && off <= allowed;
+}
+
+/* How many lines at the beginning of the file are right. */
+static uint64_t right_lines(const uint8_t *sup, size_t sup_len, const wanted *lines, uint64_t n) {
+    int64_t figure = 0, before = 0, last = 0; /* the figures of the two lines before */
+    uint64_t right = 0;
+    for (; right < n; right++) {
+        if (sup_len - SUP_LINE * right < SUP_LINE || !line_right(sup + SUP_LINE * right, &lines[right], before - last, &figure)) break;
+        before = last;
+        last = figure;
+    }
+    return right;
+}
+
+/* "Refusals: the sheet's own as in T-01, then 25 with the first wrong line from 1, one past the last if lines are missing". */
+cxf_sup_checked ref_sup_check(CXF_SHEET, const uint8_t *sup, size_t sup_len) {
+    const sheet s = THE_SHEET;
+    const cxf_tally t = ref_tally_sheet(kind, name, name_len, scale, count, rows, rows_len, letters, letters_len, islands, islands_len,
+                                        points, points_len);
+    if (t.number != 0) return (cxf_sup_checked){t.number, t.row, 0};
+    const sums both = sums_of(&t, kind);
+    if (both.total > TALLY_MOST || both.total < -TALLY_MOST) return (cxf_sup_checked){TOTAL, 0, 0};
+
+    uint64_t n;
+    entry *borders = sup_room(count, sizeof *borders);
+    wanted *lines = sup_room(count + 14, sizeof *lines);
+    (void)take_listed(&s, borders, &n); /* 22 does not apply */
+    if (n > 1) qsort(borders, (size_t)n, sizeof *borders, in_order);
+    const uint64_t line_count = wanted_lines(&s, &t, borders, n, both, lines), right = right_lines(sup, sup_len, lines, line_count);
+    free(borders);
+    free(lines);
+    if (right == line_count && sup_len == SUP_LINE * line_count) return (cxf_sup_checked){0, 0, 0};
+    return (cxf_sup_checked){WRONG_LINE, 0, right + 1};
+}
+
+/* The nearest figure of 10 characters. */
+static int64_t ten_characters(int64_t figure) { return figure > 9999999999 ? 9999999999 : figure < -999999999 ? -999999999 : figure; }
+
+size_t near_sup(CXF_SHEET, const uint8_t *date, uint8_t *out) {
+    const sheet s = THE_SHEET;
+    const cxf_tally t = ref_tally_sheet(kind, name, name_len, scale, count, rows, rows_len, letters, letters_len, islands, islands_len,
+                                        points, points_len);
+    if (t.number != 0) return 0;
+    const sums both = sums_of(&t, kind);
+    if (both.total > TALLY_MOST || both.total < -TALLY_MOST) return 0;
+    uint64_t n;
+    entry *borders = sup_room(count, sizeof *borders);
+    wanted *lines = sup_room(count + 14, sizeof *lines);
+    (void)take_listed(&s, borders, &n);
+    if (n > 1) qsort(borders, (size_t)n, sizeof *borders, in_order);
+    const uint64_t line_count = wanted_lines(&s, &t, borders, n, both, lines);
+    int64_t before = 0, last = 0;
+    for (uint64_t i = 0; i < line_count; i++) {
+        const wanted *w = &lines[i];
+        const int64_t said = w->form == COUNTED ? (int64_t)w->exact : w->form == BALANCE ? before - last : square_metres(w->exact);
+        const int64_t figure = ten_characters(said);
+        char text[64];
+        if (w->form == DATED) snprintf(text, sizeof text, "  %.8s\r\n", (const char *)date);
+        else snprintf(text, sizeof text, "%10lld\r\n", (long long)figure);
+        memset(out + SUP_LINE * i, ' ', SUP_LEFT);
+        memcpy(out + SUP_LINE * i, w->left, w->left_len < SUP_LEFT ? w->left_len : SUP_LEFT);
+        memcpy(out + SUP_LINE * i + SUP_LEFT, text, SUP_RIGHT + 2);
+        before = last;
+        last = figure;
+    }
+    free(borders);
+    free(lines);
+    return (size_t)(SUP_LINE * line_count);
 }

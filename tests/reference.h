@@ -104,6 +104,19 @@ DECLARE_CONVERT(cxf)
 DECLARE_CONVERT(ref)
 #endif
 
+typedef struct { uint64_t number, row, line; } cxf_sup_checked; /* T-10; line, from 1, with 25 */
+
+#define DECLARE_SUP_CHECK(P) cxf_sup_checked P##_sup_check(CXF_SHEET, const uint8_t *sup, size_t sup_len);
+
+#ifndef STRUCTS_ALONE
+DECLARE_SUP_CHECK(cxf)
+DECLARE_SUP_CHECK(ref)
+
+/* T-01's file, for tests of T-10; also where T-01 refuses 22 or 23: then codes are cut, and figures are the nearest that 10 characters
+   show. Its length; 0 where the sheet is refused. `out` has room for 23 bytes a row and 14 times 23 more. */
+size_t near_sup(CXF_SHEET, const uint8_t *date, uint8_t *out);
+#endif
+
 #define DECLARE_MASK(P) cxf_mask P##_mask_of(CXF_SHEET, uint64_t row, int64_t corner_x, int64_t corner_y, int64_t cell);
 
 #ifndef STRUCTS_ALONE
