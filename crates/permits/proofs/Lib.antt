@@ -15,3 +15,4 @@ pub mod RunningTallies
 pub mod Interfaces
 pub mod SupFiles
 pub mod Masks
+pub mod CmlLines
