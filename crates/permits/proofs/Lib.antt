@@ -16,3 +16,4 @@ pub mod Interfaces
 pub mod SupFiles
 pub mod Masks
 pub mod Edits
+pub mod CmlLines

@@ -1,9 +1,9 @@
 -- The laws of `writer` and the ways through its code; `pub mod` lets other crates cite a file.
 pub mod WriteLaws
 pub mod Putting
-mod RowFacts
+pub mod RowFacts
 mod RowWays
 mod Sizes
 mod Walk
 mod HeaderWays
-mod SheetWays
+pub mod SheetWays
