@@ -277,6 +277,11 @@ typedef struct {
    the room (14). Past the text out is not altered. Stack: 1,264 bytes. */
 cxf_written cxf_write(CXF_SHEET, uint8_t *out, size_t out_len);
 
+/* Writes the LINEA rows of a sheet as elements of CML, one a line ending in LF, with no outer document: valenza CONSOLID, esterconf SI where
+   the row is outside, else NO, cod, n.vert; then COORD of at most 1000 vertices each. A sheet without lines gives no bytes. 6, 15, 1, then
+   14; a code that is not listed is copied. Past the text out is not altered. */
+cxf_written cxf_cml_lines(CXF_SHEET, uint8_t *out, size_t out_len);
+
 /* ---- borders and texts ----------------------------------------------------------------------------------------------- */
 
 /* The classes of a border. CXF_OTHER comes in sheets of kind 3 alone: eleven letters that are not the sheet's name. */
