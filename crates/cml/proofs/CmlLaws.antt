@@ -1,5 +1,5 @@
 -- The laws of document 02, T-11: the bytes are the lines', and the lines are the bytes'. Assumes nothing.
-use Prim.Native.Nat.{ℕ, zero, suc, _+_, _*_, _≤_}
+use Prim.Native.Nat.{ℕ, zero, suc, _*_, _≤_}
 use mathlib.Core.Path.{_≡_, refl, sym, _∙_, ap}
 use mathlib.Core.List.{List, _∷_}
 use mathlib.Core.Bool.{true}
@@ -17,8 +17,8 @@ use Rattle.sheet.specs.Tables.{Tables}
 use Rattle.made.specs.declared.Verdict.the-variants.{Fine}
 use Rattle.writer.specs.declared.Written.the-variants.{Wrote}
 use Rattle.writer.specs.Write.{outputOf}
-use Rattle.made.specs.Made.{cellAt, countAt, kindOf, firstOf, restOf, hasField, inRange, isMade, judgeRows, judgeOf, usedOf}
-use Rattle.made.proofs.OwnLaws.{cell-first, points-first}
+use Rattle.made.specs.Made.{cellAt, countAt, kindOf, ownOf, restOf, hasField, inRange, isMade, Before, noneBefore, pastRow, judgeRows, judgeOf, usedOf}
+use Rattle.made.proofs.OwnLaws.{cell-own, points-own, own-same}
 use Rattle.made.proofs.UsedLaws.{first-used, rest-used, judge-used, fine-on}
 use Rattle.row.proofs.SeekLaws.{fine-rows}
 use Rattle.writer.proofs.WriteLaws.{wrote-only}
@@ -49,12 +49,12 @@ good-line t e k =
       reals = r .points-real;
     }
 
-good-lines : (n k : ℕ) (t : Tables) → judgeRows Loose n k t ≡ Fine → AllGood (polylinesOf n t)
+good-lines : (n : ℕ) (b : Before) (t : Tables) → judgeRows Loose n b t ≡ Fine → AllGood (polylinesOf n t)
 unfolding polylinesOf AllGood
-good-lines zero k t e = tt
-good-lines (suc n) k t e =
-    let j = fine-on Loose n k t e in
-    let r = good-lines n (k + 1) (restOf t) (j .1) in
+good-lines zero b t e = tt
+good-lines (suc n) b t e =
+    let j = fine-on Loose n b t e in
+    let r = good-lines n (pastRow b t) (restOf t) (j .1) in
     cond-elim AllGood (eqb (kindOf t) lineKind) (polylineOf t ∷ polylinesOf n (restOf t)) (polylinesOf n (restOf t)) (λ q. (good-line t (j .0) (eqb-true (kindOf t) lineKind q), r)) (λ q. r)
 
 -- ---- the laws
@@ -69,7 +69,7 @@ pub cml-only : (h g : Header) (n m : ℕ) (t u : Tables) → judgeOf Loose h n t
     → cmlText n t ≡ cmlText m u → polylinesOf n t ≡ polylinesOf m u
 unfolding cmlText
 cml-only h g n m t u e f q =
-    elements-only (polylinesOf n t) (polylinesOf m u) (good-lines n 0 t (fine-rows h n t e)) (good-lines m 0 u (fine-rows g m u f)) q
+    elements-only (polylinesOf n t) (polylinesOf m u) (good-lines n noneBefore t (fine-rows h n t e)) (good-lines m noneBefore u (fine-rows g m u f)) q
 
 pub cml-unlike : (h g : Header) (n m : ℕ) (t u : Tables) → judgeOf Loose h n t ≡ Fine → judgeOf Loose g m u ≡ Fine
     → (polylinesOf n t ≡ polylinesOf m u → ⊥) → cmlText n t ≡ cmlText m u → ⊥
@@ -78,19 +78,20 @@ cml-unlike h g n m t u e f d q = d (cml-only h g n m t u e f q)
 -- ---- what stands behind the used part of the tables
 
 module _ (t : Tables) where
-  kind-own : kindOf (firstOf t) ≡ kindOf t
-  kind-own = rw (cell-first t 0 (omega arith))
+  kind-own : kindOf (ownOf t) ≡ kindOf t
+  kind-own = rw (cell-own t 0 (omega arith))
 
-  line-own : polylineOf (firstOf t) ≡ polylineOf t
-  line-own = rw (points-first t, cell-first t 1 (omega arith), cell-first t codePlace (omega arith))
+  line-own : polylineOf (ownOf t) ≡ polylineOf t
+  line-own = rw (points-own t, cell-own t 1 (omega arith), cell-own t codePlace (omega arith))
 
 lines-used : (n : ℕ) (t : Tables) → polylinesOf n (usedOf n t) ≡ polylinesOf n t
 unfolding polylinesOf
 lines-used zero t = refl
 lines-used (suc n) t =
     let u = usedOf (suc n) t in
-    let k : kindOf u ≡ kindOf t = sym (kind-own u) ∙ ap kindOf (first-used n t) ∙ kind-own t in
-    let a : polylineOf u ≡ polylineOf t = sym (line-own u) ∙ ap polylineOf (first-used n t) ∙ line-own t in
+    let o : ownOf u ≡ ownOf t = own-same u t (first-used n t) in
+    let k : kindOf u ≡ kindOf t = sym (kind-own u) ∙ ap kindOf o ∙ kind-own t in
+    let a : polylineOf u ≡ polylineOf t = sym (line-own u) ∙ ap polylineOf o ∙ line-own t in
     rw (k, a, rest-used n t, lines-used n (restOf t))
 
 -- **it never matters**, neither to the text nor to the answer

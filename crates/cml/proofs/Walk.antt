@@ -14,7 +14,7 @@ use Rattle.heading.specs.declared.Header.{Header}
 use Rattle.sheet.specs.Tables.{Tables}
 use Rattle.made.specs.declared.Verdict.{Verdict}
 use Rattle.made.specs.declared.Verdict.the-variants.{Fine}
-use Rattle.made.specs.Made.{tablesOf, kindOf, restOf, isMade, judgeRows, judgeOf}
+use Rattle.made.specs.Made.{tablesOf, kindOf, restOf, isMade, noneBefore, judgeRows, judgeOf}
 use Rattle.row.specs.declared.Stand.{Stand}
 use Rattle.row.specs.Walk.{firstStand, nextStand, leftAt}
 use Rattle.row.proofs.SeekLaws.{fine-rows}
@@ -79,7 +79,7 @@ pub record Measured (t : Tables) (count : ℕ) (d : Stand) (total k : ℕ) : Typ
   pub small : total ≤ fileMost
   pub sum : length (cmlText count t) ≡ total + length (cmlText (count - k) (leftAt t d))
 
-pub measured-start : (t : Tables) (count : ℕ) → judgeRows Loose count 0 t ≡ Fine → Measured t count firstStand 0 0
+pub measured-start : (t : Tables) (count : ℕ) → judgeRows Loose count noneBefore t ≡ Fine → Measured t count firstStand 0 0
 measured-start t count e = record { walk = walk-start Loose t count e; small = omega arith; sum = rw (sub-zero count) (sym (zero-add (length (cmlText count t)))) }
 
 module _ {t : Tables} {count : ℕ} {d : Stand} {total k : ℕ} (m : Measured t count d total k) where
@@ -112,7 +112,7 @@ pub record Writing (t : Tables) (count : ℕ) (l : List ℕ) (d : Stand) (out : 
   pub walk : Walk Loose t count d k
   pub puts : Putting l 0 (cmlText count t) out next (cmlText (count - k) (leftAt t d))
 
-pub writing-start : (t : Tables) (count : ℕ) (l : List ℕ) → judgeRows Loose count 0 t ≡ Fine → length (cmlText count t) ≤ length l
+pub writing-start : (t : Tables) (count : ℕ) (l : List ℕ) → judgeRows Loose count noneBefore t ≡ Fine → length (cmlText count t) ≤ length l
     → Writing t count l firstStand l 0 0
 writing-start t count l e h =
     record { walk = walk-start Loose t count e; puts = rw (sub-zero count) (putting-start l 0 (cmlText count t) (omega arith)) }
@@ -138,5 +138,5 @@ pub answered : (h : Header) (count : ℕ) (t : Tables) {v w : Verdict} → v ≡
 unfolding cmlOf
 answered h count t e f room = ap (λ (x : Verdict). writtenAfter x (length (cmlText count t)) room) (sym f ∙ e)
 
-pub judged-lines : (h : Header) (count : ℕ) (t : Tables) {v : Verdict} → v ≡ judgeOf Loose h count t → v ≡ Fine → judgeRows Loose count 0 t ≡ Fine
+pub judged-lines : (h : Header) (count : ℕ) (t : Tables) {v : Verdict} → v ≡ judgeOf Loose h count t → v ≡ Fine → judgeRows Loose count noneBefore t ≡ Fine
 judged-lines h count t e f = fine-rows h count t (sym e ∙ f)

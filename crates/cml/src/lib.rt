@@ -11,7 +11,7 @@ ghost use Rattle.record.specs.Refusals.{fileMost};
 ghost use Rattle.record.specs.declared.Mode.the-variants.{Loose};
 ghost use Rattle.number.specs.Number.{isReal};
 ghost use Rattle.made.specs.declared.Verdict.the-variants.{Fine};
-ghost use Rattle.made.specs.Made.{tablesOf, areReals, judgeRows};
+ghost use Rattle.made.specs.Made.{tablesOf, areReals, noneBefore, judgeRows};
 ghost use Rattle.writer.specs.Write.{writtenAfter, outputOf};
 ghost use Rattle.row.specs.Walk.{cellIn};
 ghost use Rattle.writer.specs.Put.{Put};
@@ -155,7 +155,7 @@ fn put_lines(
     islands: &[u16],
     points: &[i64],
 )
-    requires { ⌜ judgeRows Loose count 0 (tablesOf (now rows) (now letters) (now islands) (now points)) ≡ Fine ⌝ }
+    requires { ⌜ judgeRows Loose count noneBefore (tablesOf (now rows) (now letters) (now islands) (now points)) ≡ Fine ⌝ }
     requires { ⌜ length (cmlText count (tablesOf (now rows) (now letters) (now islands) (now points))) ≤ length (now out) ⌝ }
     ensures { λ _. ⌜ now (out .exit) ≡ over (cmlText count (tablesOf (now (rows .entry)) (now (letters .entry)) (now (islands .entry)) (now (points .entry)))) (now (out .entry)) ⌝ }
 {
@@ -234,7 +234,7 @@ fn row_size(rows: &[i64], points: &[i64]) -> usize
 
 // The bytes of all elements; one more than a file may have where they are too many.
 fn lines_size(count: usize, rows: &[i64], letters: &[u8], islands: &[u16], points: &[i64]) -> usize
-    requires { ⌜ judgeRows Loose count 0 (tablesOf (now rows) (now letters) (now islands) (now points)) ≡ Fine ⌝ }
+    requires { ⌜ judgeRows Loose count noneBefore (tablesOf (now rows) (now letters) (now islands) (now points)) ≡ Fine ⌝ }
     ensures { λ r. ⌜ r ≡ min (length (cmlText count (tablesOf (now (rows .entry)) (now (letters .entry)) (now (islands .entry)) (now (points .entry))))) (fileMost + 1) ⌝ }
 {
     let mut d = Stand {
@@ -267,7 +267,7 @@ fn lines_judged(
     points: &[i64],
     out: &mut [u8],
 ) -> Written
-    requires { ⌜ judgeRows Loose count 0 (tablesOf (now rows) (now letters) (now islands) (now points)) ≡ Fine ⌝ }
+    requires { ⌜ judgeRows Loose count noneBefore (tablesOf (now rows) (now letters) (now islands) (now points)) ≡ Fine ⌝ }
     ensures { λ r. ⌜ r ≡ writtenAfter Fine (length (cmlText count (tablesOf (now (rows .entry)) (now (letters .entry)) (now (islands .entry)) (now (points .entry))))) (length (now (out .entry))) ⌝ }
     ensures { λ r. ⌜ now (out .exit) ≡ outputOf r (cmlText count (tablesOf (now (rows .entry)) (now (letters .entry)) (now (islands .entry)) (now (points .entry)))) (now (out .entry)) ⌝ }
 {
