@@ -292,6 +292,11 @@ typedef struct {
    the room (14). Past the text out is not altered. Stack: 1,472 bytes. */
 cxf_written cxf_write(CXF_SHEET, uint8_t *out, size_t out_len);
 
+/* Writes the LINEA rows of a sheet as elements of CML, one a line ending in LF, with no outer document: valenza CONSOLID, esterconf SI where
+   the row is outside, else NO, cod, n.vert; then COORD of at most 1000 vertices each. A sheet without lines gives no bytes. 6, 15, 1, then
+   14; a code that is not listed is copied. Past the text out is not altered. Stack: 768 bytes. */
+cxf_written cxf_cml_lines(CXF_SHEET, uint8_t *out, size_t out_len);
+
 /* ---- borders and texts ----------------------------------------------------------------------------------------------- */
 
 /* The classes of a border. CXF_OTHER comes in sheets of kind 3 alone: eleven letters that are not the sheet's name. */
@@ -468,7 +473,7 @@ typedef struct {
 /* What the listing program writes for this input: the header, six lines of figures, the number of rows. A text that says
    REFUSED, with the refusal's number, its record (or the tally's row), offset and column, is an answer as well: number is 0 whenever
    the text stands in out. No text is longer than CXF_LISTING_MOST. The tables are on the stack.
-   Stack: 65,336 bytes. */
+   Stack: 65,320 bytes. */
 cxf_listed cxf_listing(const uint8_t *src, size_t src_len, uint8_t *out, size_t out_len);
 
 /* ---- conversion ------------------------------------------------------------------------------------------------------ */

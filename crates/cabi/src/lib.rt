@@ -10,6 +10,7 @@ ghost use Rattle.reader.specs.Read.{roomsOf, readOf, tablesIn, written};
 ghost use Rattle.made.specs.Made.{tablesOf};
 ghost use Rattle.layout.specs.Sheet.{sheetText};
 ghost use Rattle.writer.specs.Write.{writeOf, outputOf};
+ghost use Rattle.cml.specs.Lines.{cmlText, cmlOf};
 ghost use Rattle.border.specs.BorderAt.{borderAt};
 ghost use Rattle.border.specs.TextAt.{textAt};
 ghost use Rattle.area.specs.Questions.{ringAreaAt, netAreaAt};
@@ -37,6 +38,7 @@ use area::net_area;
 use area::ring_area;
 use border::border_at;
 use border::text_at;
+use cml::cml_lines;
 use column::PlacedInteger;
 use column::PlacedReal;
 use column::placed_integer;
@@ -137,6 +139,26 @@ pub extern "C" fn cxf_write(
 {
     let header = header_of(kind, name, scale);
     written_of(write(header, count, rows, letters, islands, points, out))
+}
+
+// Writes the lines of a sheet that is handed in as CML.
+#[no_mangle]
+pub extern "C" fn cxf_cml_lines(
+    kind: usize,
+    name: &[u8],
+    scale: i64,
+    count: usize,
+    rows: &[i64],
+    letters: &[u8],
+    islands: &[u16],
+    points: &[i64],
+    out: &mut [u8],
+) -> CxfWritten
+    ensures { λ r. ⌜ r ≡ writeTold (cmlOf (headerOf kind (now (name .entry)) scale) count (tablesOf (now (rows .entry)) (now (letters .entry)) (now (islands .entry)) (now (points .entry))) (length (now (out .entry)))) ⌝ }
+    ensures { λ r. ⌜ now (out .exit) ≡ outputOf (cmlOf (headerOf kind (now (name .entry)) scale) count (tablesOf (now (rows .entry)) (now (letters .entry)) (now (islands .entry)) (now (points .entry))) (length (now (out .entry)))) (cmlText count (tablesOf (now (rows .entry)) (now (letters .entry)) (now (islands .entry)) (now (points .entry)))) (now (out .entry)) ⌝ }
+{
+    let header = header_of(kind, name, scale);
+    written_of(cml_lines(header, count, rows, letters, islands, points, out))
 }
 
 #[no_mangle]

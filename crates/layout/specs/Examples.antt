@@ -5,7 +5,7 @@ use mathlib.Core.List.{List, [], _∷_, _++_}
 use Rattle.laws.specs.Text.{text}
 use Rattle.token.specs.Lex.{keywords, keyText}
 use Rattle.kinds.specs.Kinds.{schedule, wantAt}
-use Rattle.spelling.specs.Spelling.{digits, places, aligned, integerText, minus, decimal, realText}
+use Rattle.spelling.specs.Spelling.{digits, places, aligned, integerText, minus, decimal, bareReal, realText}
 use Rattle.heading.specs.declared.Header.{Header}
 use Rattle.header.specs.Header.{firstWords}
 use Rattle.sheet.specs.Tables.{Tables}
@@ -16,7 +16,7 @@ use Rattle.layout.specs.Sheet.{fieldsText, integersText, realsText, rowT
 
 -- `sheetText` with every definition opened, so that it computes
 unfoldable pub computed : Header → ℕ → Tables → List ℕ
-unfolding sheetText headerText rowsText rowText realsText integersText fieldsText firstWords keyText keywords schedule wantAt integerText realText aligned minus decimal digits places
+unfolding sheetText headerText rowsText rowText realsText integersText fieldsText firstWords keyText keywords schedule wantAt integerText realText bareReal aligned minus decimal digits places
 computed h count t = sheetText h count t
 
 -- no rows: header and EOF; the tables' contents do not matter

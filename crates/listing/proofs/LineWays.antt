@@ -1,53 +1,29 @@
 -- The lines as they are stored, piece behind piece. Assumes nothing.
-use Prim.Native.Nat.{ℕ, _+_, _-_, _*_, _^_, _≤_, _<_}
+use Prim.Native.Nat.{ℕ, _+_, _*_, _^_, _≤_, _<_}
 use mathlib.Core.Path.{_≡_, refl, sym, _∙_, ap, subst}
 use mathlib.Core.List.{List, [], _∷_, _++_}
-use mathlib.Core.Bool.{cond}
 use native.Mathlib.Omega.{arith}
-use lib.ListN.{length, getD, take, drop, length-drop}
-use lib.Dec.{leb}
+use lib.ListN.{length, getD, drop}
 use lib.IntN.{ℤ}
 use lib.Signed.{mag}
 use mir.Syntax.{w64}
 use mir.Val.{toZ, ofZ}
 use mir.ValLaws.{toZ-ofZ}
-use borrow.Author.Tests.{le-leb}
-use Rattle.laws.specs.Lists.{tail, over}
 use Rattle.laws.specs.Text.{text}
-use Rattle.laws.proofs.ListLaws.{left, left-none, rest-is}
+use Rattle.laws.proofs.ListLaws.{left, left-none}
 use Rattle.spelling.specs.Stored.{Stored}
 use Rattle.spelling.specs.Spelling.{countText}
 use Rattle.heading.specs.declared.Header.{Header}
 use Rattle.made.specs.Made.{natOf}
 use Rattle.writer.specs.Put.{Put}
-use Rattle.writer.proofs.Putting.{Putting, putting-start, putting-room, putting-on, putting-end, putting-last, stored-on, put-part}
+use Rattle.writer.proofs.Putting.{Putting, putting-start, putting-room, putting-on, putting-end, stored-on, stored-last}
 use Rattle.listing.specs.Listing.{oneBlank, lineFeed, figure, figures, wordLine, mapLine, classWords, figureAt, fourOf, classLines, rowsLine, refusedLine, sheetLines}
 
 -- ---- a figure
 
-module _ (l : List ℕ) (at n : ℕ) (room : at + length (figure n) ≤ length l) where
-  module _ {d : List ℕ} {next : ℕ} (w : Stored l at oneBlank d next) where
-    digits-left : Putting l at (figure n) d next (countText n)
-    digits-left = stored-on (putting-start l at (figure n) room) oneBlank (countText n) refl w
-
-    pub digits-at : next ≤ length d
-    digits-at = omega (arith, digits-left .room)
-
-    digits-room : length (countText n) ≤ length (tail d next)
-    digits-room = rw (rest-is d next) (omega (arith, digits-left .room, length-drop next d))
-
-    module _ (size : ℕ) (q : size ≡ cond (leb (length (countText n)) (length (tail d next))) (length (countText n)) 0) where
-      digits-size : size ≡ length (countText n)
-      digits-size = q ∙ rw (le-leb (length (countText n)) (length (tail d next)) digits-room)
-
-      pub figure-end : next + size ≤ length l
-      figure-end = omega (arith, digits-size, digits-left .room, digits-left .size)
-
-      pub figure-put : (e : List ℕ) → e ≡ cond (leb (length (countText n)) (length (tail d next))) (over (countText n) (tail d next)) (tail d next)
-          → Put l at (figure n) (take next d ++ (e ++ drop (length d - next) (drop next d))) (next + size)
-      figure-put e f =
-          let g : e ≡ over (countText n) (tail d next) = f ∙ rw (le-leb (length (countText n)) (length (tail d next)) digits-room) in
-          rw digits-size (putting-last digits-left (put-part d next (countText n) e g))
+pub figure-put : (l : List ℕ) (at n : ℕ) → at + length (figure n) ≤ length l → {d e : List ℕ} {next r : ℕ} → Stored l at oneBlank d next
+    → Stored d next (countText n) e r → Put l at (figure n) e r
+figure-put l at n room v w = stored-last (stored-on (putting-start l at (figure n) room) oneBlank (countText n) refl v) w
 
 -- ---- the figures of a line
 

@@ -21,7 +21,7 @@ use reader::Needs;
 use reader::read;
 use record::refusal::TOO_LONG;
 use spelling::put_bytes;
-use spelling::spell_count;
+use spelling::put_count;
 use tally::refused_of;
 use tally::tally_sheet;
 
@@ -54,8 +54,7 @@ fn put_figure(out: &mut [u8], at: usize, n: usize) -> usize
     ensures { λ r. ⌜ Put (now (out .entry)) at (figure n) (now (out .exit)) r ⌝ }
 {
     let next = put_bytes(out, at, b" ");
-    let size = spell_count(n, &mut out[next..]);
-    next + size
+    put_count(out, next, n)
 }
 
 // The figures of a line, and its end.

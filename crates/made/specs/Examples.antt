@@ -172,7 +172,7 @@ both-wrong : (judged Exact (odd 0 12 18 0) [] [] [] 1 ≡ Faulty 0) × (judged E
 unfolding judged
 both-wrong = (refl, refl)
 
-abbrev line : ℕ → List ℤ
+abbrev pub line : ℕ → List ℤ
 line vertices = pos 5 ∷ pos 0 ∷ pos 6 ∷ pos 0 ∷ pos 0 ∷ pos 0 ∷ pos 0 ∷ pos 0 ∷ pos 0 ∷ pos 0 ∷ pos 0 ∷ pos vertices ∷ atFirst
 
 -- a line has 2 vertices at least, and need not close; a border 4 and 4 for each island; its points are all held

@@ -18,3 +18,4 @@ pub mod SupFiles
 pub mod SupChecks
 pub mod Masks
 pub mod Edits
+pub mod CmlLines

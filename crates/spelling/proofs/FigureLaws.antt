@@ -1,12 +1,11 @@
 -- The laws of a figure's text: it is the number's only form, with no needless zero, and which numbers find room in ten characters.
 -- Assumes nothing.
-use Prim.Native.Nat.{ℕ, zero, suc, _+_, _-_, _*_, _^_, _≤_, _<_}
-use mathlib.Core.Path.{_≡_, refl, sym, _∙_, ap, subst}
-use mathlib.Core.List.{List, [], _∷_, _++_}
+use Prim.Native.Nat.{ℕ, suc, _^_, _≤_, _<_}
+use mathlib.Core.Path.{_≡_, refl, sym, _∙_, ap}
+use mathlib.Core.List.{List, _∷_}
 use mathlib.Core.Bool.{Bool, true, false}
-use native.Mathlib.Nat.{pow-suc}
 use native.Mathlib.Omega.{arith}
-use lib.ListN.{length, getD, length-append, List·getD-append}
+use lib.ListN.{length, getD}
 use lib.IntN.{ℤ, pos, negsuc, natAbs}
 use lib.Dec.{leb}
 use borrow.Author.Tests.{le-leb, lt-leb, leb-true, leb-false}
@@ -16,31 +15,8 @@ use Rattle.number.specs.Words.{blank, unled}
 use Rattle.number.specs.Number.{digit, value, lean}
 use Rattle.spelling.specs.Spelling.{digits, countText, minus}
 use Rattle.spelling.specs.Figures.{wholeText, isNarrow, figureText}
-use Rattle.spelling.proofs.DigitLaws.{digit-low, digits-all, digits-some, digits-most, digits-fit, digits-lean, digits-value, digits-only, value-below}
+use Rattle.spelling.proofs.DigitLaws.{digit-low, digits-all, digits-some, digits-fit, digits-least, digits-lean, digits-value}
 use Rattle.spelling.proofs.SpellingLaws.{minus-none, aligned-length, aligned-unled, no-blank}
-
--- ---- digits
-
-pow-most : (i j : ℕ) → i ≤ j → 10 ^ i ≤ 10 ^ j
-pow-most zero zero h = omega arith
-pow-most zero (suc j) h = omega (arith, pow-suc 10 j, pow-most zero j (omega arith))
-pow-most (suc i) zero h = absurd (omega arith)
-pow-most (suc i) (suc j) h = omega (arith, pow-suc 10 i, pow-suc 10 j, pow-most i j (omega arith))
-
--- a number has as many digits as it needs
-digits-need : (w k n : ℕ) → n < 10 ^ w → 10 ^ k ≤ n → k < length (digits w n)
-digits-need w k n h l = go (leb (length (digits w n)) k) refl
-  where
-    go : (t : Bool) → leb (length (digits w n)) k ≡ t → k < length (digits w n)
-    go true e =
-        absurd (omega (arith, value-below (digits w n) 0 1 (digits-all w n) (omega arith), digits-value w n h, pow-most (length (digits w n)) k (leb-true (length (digits w n)) k e)))
-    go false e = omega (arith, leb-false (length (digits w n)) k e)
-
--- room for more digits changes none
-pub digits-wider : (w v n : ℕ) → 1 ≤ w → w ≤ v → n < 10 ^ w → digits v n ≡ digits w n
-digits-wider w v n h k l =
-    subst (λ (m : ℕ). digits v m ≡ digits w n) (digits-value w n l)
-    (digits-only v (digits w n) (digits-all w n) (digits-lean w n l) (digits-some w n h) (omega (arith, digits-most w n)))
 
 -- ---- a whole number's text
 
@@ -105,18 +81,18 @@ pub figure-length : (z : ℤ) → isNarrow z ≡ true → length (figureText z) 
 unfolding figureText isNarrow
 figure-length z e = aligned-length 10 (wholeText z) (leb-true (length (wholeText z)) 10 e)
 
-pub narrow-plus : (a : ℕ) → a < 10 ^ 20 → isNarrow (pos a) ≡ leb a 9999999999
+pub narrow-plus : (a : ℕ) → isNarrow (pos a) ≡ leb a 9999999999
 unfolding isNarrow countText
-narrow-plus a h = rw (whole-plus a) (go (leb a 9999999999) refl)
+narrow-plus a = rw (whole-plus a) (go (leb a 9999999999) refl)
   where
     go : (t : Bool) → leb a 9999999999 ≡ t → leb (length (digits 20 a)) 10 ≡ t
     go true e = le-leb (length (digits 20 a)) 10 (digits-fit 20 10 a (omega arith) (omega (arith, leb-true a 9999999999 e)))
-    go false e = lt-leb (length (digits 20 a)) 10 (digits-need 20 10 a h (omega (arith, leb-false a 9999999999 e)))
+    go false e = lt-leb (length (digits 20 a)) 10 (digits-least 20 10 a (omega arith) (omega (arith, leb-false a 9999999999 e)))
 
-pub narrow-minus : (a : ℕ) → suc a < 10 ^ 20 → isNarrow (negsuc a) ≡ leb a 999999998
+pub narrow-minus : (a : ℕ) → isNarrow (negsuc a) ≡ leb a 999999998
 unfolding isNarrow countText
-narrow-minus a h = rw (whole-minus a) (go (leb a 999999998) refl)
+narrow-minus a = rw (whole-minus a) (go (leb a 999999998) refl)
   where
     go : (t : Bool) → leb a 999999998 ≡ t → leb (suc (length (digits 20 (suc a)))) 10 ≡ t
     go true e = le-leb (suc (length (digits 20 (suc a)))) 10 (omega (arith, digits-fit 20 9 (suc a) (omega arith) (omega (arith, leb-true a 999999998 e))))
-    go false e = lt-leb (suc (length (digits 20 (suc a)))) 10 (omega (arith, digits-need 20 9 (suc a) h (omega (arith, leb-false a 999999998 e))))
+    go false e = lt-leb (suc (length (digits 20 (suc a)))) 10 (omega (arith, digits-least 20 9 (suc a) (omega arith) (omega (arith, leb-false a 999999998 e))))

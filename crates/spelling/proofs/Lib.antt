@@ -3,3 +3,4 @@ pub mod DigitLaws
 pub mod SpellingLaws
 pub mod FigureLaws
 mod Ways
+pub mod BareWays

@@ -19,7 +19,7 @@ use Rattle.number.specs.declared.Whole.the-variants as Whole
 use Rattle.number.specs.declared.Decimal.the-variants as Decimal
 use Rattle.number.specs.Words.{blank, unled}
 use Rattle.number.specs.Number.{digit, value, ended, lean, integerIs, integerAt, integerOf, signOf, signs, signed, thousandths, isToken, isNeat, realIs, realAt, realSigned, realOf, isReal}
-use Rattle.spelling.specs.Spelling.{integerMost, digits, places, aligned, integerText, minus, decimal, realText}
+use Rattle.spelling.specs.Spelling.{integerMost, digits, places, aligned, integerText, minus, decimal, bareReal, realText}
 use Rattle.spelling.proofs.DigitLaws.{digit-low, digit-high, digits-all, digits-some, digits-most, digits-fit, digits-lean, digits-value, digits-only, places-length, places-all, places-value, places-only, value-below}
 
 -- ---- `aligned`
@@ -260,7 +260,7 @@ body-blanks (negsuc a) = run-none blank (45 ∷ decimal (suc a)) refl
 
 -- exact mode reads a spelt real as itself
 pub real-spelt : (z : ℤ) → isReal z ≡ true → realOf Exact (realText z) ≡ Decimal.Is z
-unfolding realOf realText
+unfolding realOf realText bareReal
 real-spelt z h =
     let s = minus z ++ decimal (natAbs z) in
     rw (aligned-length 12 s (body-length z h), aligned-unled 12 s (body-blanks z)) (body-reads z h)
@@ -369,7 +369,7 @@ sign-read m (b ∷ t) f g = go (eqb b 43) refl (eqb b 45) refl f g
 
 -- exact mode takes nothing else for it
 pub real-only : (c : List ℕ) (z : ℤ) → realOf Exact c ≡ Decimal.Is z → c ≡ realText z
-unfolding realOf realSigned realAt realText
+unfolding realOf realSigned realAt realText bareReal
 real-only c z q =
     let t = unled c in
     let u = drop (signs (signOf t)) t in
@@ -389,7 +389,7 @@ integer-length v = aligned-length 4 (digits 4 v) (digits-most 4 v)
 
 -- a real's has 12
 pub real-length : (z : ℤ) → isReal z ≡ true → length (realText z) ≡ 12
-unfolding realText
+unfolding realText bareReal
 real-length z h = aligned-length 12 (minus z ++ decimal (natAbs z)) (body-length z h)
 
 digit-plain : (b : ℕ) → digit b ≡ true → plain b ≡ true
@@ -416,6 +416,6 @@ integer-plain v = aligned-plain 4 (digits 4 v) (digits-plain 4 v)
 
 -- and of a real's
 pub real-plain : (z : ℤ) → all plain (realText z) ≡ true
-unfolding realText minus all
+unfolding realText bareReal minus all
 real-plain (pos a) = aligned-plain 12 (minus (pos a) ++ decimal a) (rw (minus-none a) (decimal-plain a))
 real-plain (negsuc a) = aligned-plain 12 (45 ∷ decimal (suc a)) (decimal-plain (suc a))

@@ -1,11 +1,11 @@
 -- The ways through the code: the loop that places digits, and a lemma for each answer. Assumes nothing.
 use Prim.Native.Nat.{ℕ, zero, suc, _+_, _-_, _*_, _/_, _%_, _^_, _≤_, _<_, zero-le}
-use mathlib.Core.Path.{_≡_, refl, sym, _∙_, ap, subst}
+use mathlib.Core.Path.{_≡_, refl, sym, _∙_, ap}
 use mathlib.Core.List.{List, [], _∷_, _++_, append-assoc, append-nil}
-use mathlib.Core.Bool.{Bool, true, false, cond, _&&_}
+use mathlib.Core.Bool.{Bool, true, false, _&&_}
 use native.Mathlib.Omega.{arith}
 use lib.ListN.{length, getD, take, drop, set, replicate, length-append, length-replicate, replicate-append-replicate}
-use lib.Seq.{take-at, take-append-le, drop-append-add, drop-drop, sets-eq, length-take-le}
+use lib.Seq.{take-at, take-append-le, drop-append-add, drop-drop, length-take-le}
 use lib.Dec.{T, leb}
 use lib.IntN.{ℤ, pos, negsuc, negℤ, natAbs, _-ℤ_, +ℤ-idl}
 use lib.Signed.{ltZ, leZ, nonNeg}
@@ -18,11 +18,11 @@ use Rattle.laws.proofs.Choice.{false≢true}
 use Rattle.laws.proofs.TableLaws.{pasted-none, pasted-front, pasted-before, pasted-one, pasted-part, length-pasted, length-over, over-next, over-whole}
 use Rattle.number.specs.Number.{isReal}
 use Rattle.spelling.specs.Stored.{hasRoom, Stored}
-use Rattle.spelling.specs.Spelling.{digits, places, countText, aligned, integerText, minus, decimal, realText}
+use Rattle.spelling.specs.Spelling.{digits, countText, aligned, integerText, minus}
 use Rattle.spelling.specs.Figures.{wholeText, isNarrow, figureText}
-use Rattle.spelling.proofs.DigitLaws.{value-below, digits-few, digits-more, digits-all, digits-some, digits-fit, digits-most, digits-value, shorter}
-use Rattle.spelling.proofs.SpellingLaws.{body-length, decimal-length, in-plus, in-minus, minus-none}
-use Rattle.spelling.proofs.FigureLaws.{digits-wider, narrow-plus, narrow-minus}
+use Rattle.spelling.proofs.DigitLaws.{digits-few, digits-more, digits-some, digits-fit, digits-most, digits-wider, digits-below, digits-alike, shorter}
+use Rattle.spelling.proofs.SpellingLaws.{in-plus, in-minus, minus-none}
+use Rattle.spelling.proofs.FigureLaws.{narrow-plus, narrow-minus}
 
 -- ---- the digits, last one first: `done` stands from `at` on, and `rest` has those that are missing
 
@@ -115,20 +115,8 @@ module _ (l : List ℕ) (end n : ℕ) (text : List ℕ) (at rest : ℕ) (p : Pla
 -- ---- point and places
 
 -- the code's product, below 1000
-hundredth : (m : ℕ) → m < 1000 → m * 41 / 4096 ≡ m / 100
+pub hundredth : (m : ℕ) → m < 1000 → m * 41 / 4096 ≡ m / 100
 hundredth m h = omega arith
-
-pub places-put : (l : List ℕ) (m a b c : ℕ) → 12 ≤ length l → m < 1000
-    → a ≡ 48 + m * 41 / 4096 % 10 → b ≡ 48 + (m - 100 * (m * 41 / 4096)) / 10 → c ≡ 48 + (m - 100 * (m * 41 / 4096)) % 10
-    → set (set (set (set l 8 46) 9 a) 10 b) 11 c ≡ pasted l 8 (46 ∷ places 3 m)
-unfolding places
-places-put l m a b c h k p q r =
-    let f = hundredth m k in
-    let g : m / 10 / 10 ≡ m / 100 = omega arith in
-    let x : a ≡ 48 + m / 10 / 10 % 10 = p ∙ rw (f, g) in
-    let y : b ≡ 48 + m / 10 % 10 = q ∙ rw f (let e : 48 + (m - 100 * (m / 100)) / 10 ≡ 48 + m / 10 % 10 = omega arith in e) in
-    let z : c ≡ 48 + m % 10 = r ∙ rw f (let e : 48 + (m - 100 * (m / 100)) % 10 ≡ 48 + m % 10 = omega arith in e) in
-    sets-eq (46 ∷ a ∷ b ∷ c ∷ []) l 8 (omega arith) ∙ rw (x, y, z)
 
 -- ---- the sign; a signed number is read back from its bits
 
@@ -139,11 +127,11 @@ module _ (z : ℤ) (f : SFits w64 z) where
   below : (k : ℤ) (x : Bool) → ltZ (toZ w64 (ofZ w64 z)) k ≡ x → ltZ z k ≡ x
   below k x e = rw back at e
 
-  sign-long : ltZ (toZ w64 (ofZ w64 z)) (pos 0) ≡ true → minus z ≡ 45 ∷ []
+  pub sign-long : ltZ (toZ w64 (ofZ w64 z)) (pos 0) ≡ true → minus z ≡ 45 ∷ []
   unfolding minus
   sign-long e = rw (below (pos 0) true e)
 
-  sign-short : ltZ (toZ w64 (ofZ w64 z)) (pos 0) ≡ false → minus z ≡ []
+  pub sign-short : ltZ (toZ w64 (ofZ w64 z)) (pos 0) ≡ false → minus z ≡ []
   unfolding minus
   sign-short e = rw (below (pos 0) false e)
 
@@ -189,7 +177,7 @@ module _ (z : ℤ) (f : SFits w64 z) where
 
 -- ---- a number without its sign
 
-abs-most : (z : ℤ) → isReal z ≡ true → natAbs z ≤ 99999999999
+pub abs-most : (z : ℤ) → isReal z ≡ true → natAbs z ≤ 99999999999
 abs-most (pos a) h = in-plus a h
 abs-most (negsuc a) h = omega (arith, in-minus a h)
 
@@ -225,11 +213,11 @@ itself-asks z f h e = rw (back z f) (go z (rw (back z f) at e), omega (arith, ab
 
 -- ---- the whole text
 
-abbrev blanks : ℕ → List ℕ
+abbrev pub blanks : ℕ → List ℕ
 blanks w = replicate w 32
 
 -- stored over n blanks, up to their end or past it, a text is aligned
-aligned-over : (w n i : ℕ) (s l : List ℕ) → i + length s ≡ w → i ≤ n → n ≤ w → pasted (over (blanks n) l) i s ≡ over (aligned w s) l
+pub aligned-over : (w n i : ℕ) (s l : List ℕ) → i + length s ≡ w → i ≤ n → n ≤ w → pasted (over (blanks n) l) i s ≡ over (aligned w s) l
 unfolding aligned
 aligned-over w n i s l e h k =
     let o : w - length s ≡ i = omega arith in
@@ -250,62 +238,29 @@ pub integer-made : (v r : ℕ) (l d : List ℕ) → (r + length (digits 4 v) ≡
 unfolding integerText
 integer-made v r l d e = e .1 ∙ aligned-over 4 4 r (digits 4 v) l (e .0) (omega (arith, e .0)) (omega arith)
 
--- a sign finds room before the digits
-sign-room : (z : ℤ) → isReal z ≡ true → length (minus z) + length (digits 8 (natAbs z / 1000)) ≤ 8
-sign-room z h = omega (arith, body-length z h, length-append (minus z) (decimal (natAbs z)), decimal-length (natAbs z))
-
--- what the functions that place them ask
-module _ (z y : ℤ) (m : ℕ) (i : y ≡ z) (h : isReal z ≡ true) (e : m ≡ natAbs y) where
-  pub whole-below : m / 1000 < 100000000
-  whole-below = omega (arith, abs-most z h, ap natAbs i)
-
-  pub sign-fits : (r : ℕ) → r + length (digits 8 (m / 1000)) ≡ 8 → length (minus y) ≤ r
-  sign-fits r q =
-      let w : r + length (digits 8 (natAbs z / 1000)) ≡ 8 = rw (e, i) at q in
-      rw i (omega (arith, sign-room z h))
-
--- places, digits and sign over blanks, each before the last
-pub real-made : (z y : ℤ) (m r : ℕ) (l a b d : List ℕ) → 12 ≤ length l → y ≡ z → isReal z ≡ true → m ≡ natAbs y
-    → a ≡ pasted (over (blanks 8) l) 8 (46 ∷ places 3 (m % 1000))
-    → (r + length (digits 8 (m / 1000)) ≡ 8) × (b ≡ pasted a r (digits 8 (m / 1000)))
-    → d ≡ pasted b (r - length (minus y)) (minus y) → d ≡ over (realText z) l
-unfolding realText decimal
-real-made z y m r l a b d room i h n p q e =
-    let k : m ≡ natAbs z = n ∙ ap natAbs i in
-    let base : List ℕ = over (blanks 8) l in
-    let f : length base ≡ length l = length-over (blanks 8) l (omega arith) in
-    let s = minus z ++ decimal (natAbs z) in
-    let g : length (minus z) + length (digits 8 (natAbs z / 1000)) ≤ 8 = sign-room z h in
-    let w : r + length (digits 8 (natAbs z / 1000)) ≡ 8 = rw k at (q .0) in
-    let x : b ≡ pasted base r (decimal (natAbs z))
-    = q .1 ∙ rw (p, k) (pasted-front base r 8 (digits 8 (natAbs z / 1000)) (46 ∷ places 3 (natAbs z % 1000)) w (omega arith)) in
-    let o : r - length (minus z) + length (minus z) ≡ r = omega arith in
-    e ∙ rw (i, x) (pasted-front base (r - length (minus z)) r (minus z) (decimal (natAbs z)) o (omega arith))
-    ∙ aligned-over 12 8 (r - length (minus z)) s l (omega (arith, length-append (minus z) (decimal (natAbs z)), decimal-length (natAbs z))) (omega arith) (omega arith)
-
 -- ---- a figure
 
-narrow-below : (z : ℤ) → SFits w64 z → ltZ z (negsuc 999999998) ≡ true → isNarrow z ≡ false
-narrow-below (pos a) f e = absurd (false≢true e)
-narrow-below (negsuc a) f e = let h : a < 2 ^ 63 = f .sfits in narrow-minus a (omega arith) ∙ lt-leb a 999999998 (ltb-true 999999998 a e)
+narrow-below : (z : ℤ) → ltZ z (negsuc 999999998) ≡ true → isNarrow z ≡ false
+narrow-below (pos a) e = absurd (false≢true e)
+narrow-below (negsuc a) e = narrow-minus a ∙ lt-leb a 999999998 (ltb-true 999999998 a e)
 
-narrow-above : (z : ℤ) → SFits w64 z → ltZ (pos 9999999999) z ≡ true → isNarrow z ≡ false
-narrow-above (pos a) f e = let h : a < 2 ^ 63 = f .sfits in narrow-plus a (omega arith) ∙ lt-leb a 9999999999 (ltb-true 9999999999 a e)
-narrow-above (negsuc a) f e = absurd (false≢true e)
+narrow-above : (z : ℤ) → ltZ (pos 9999999999) z ≡ true → isNarrow z ≡ false
+narrow-above (pos a) e = narrow-plus a ∙ lt-leb a 9999999999 (ltb-true 9999999999 a e)
+narrow-above (negsuc a) e = absurd (false≢true e)
 
-narrow-between : (z : ℤ) → SFits w64 z → ltZ z (negsuc 999999998) ≡ false → ltZ (pos 9999999999) z ≡ false → isNarrow z ≡ true
-narrow-between (pos a) f e g = let h : a < 2 ^ 63 = f .sfits in narrow-plus a (omega arith) ∙ le-leb a 9999999999 (ltb-false 9999999999 a g)
-narrow-between (negsuc a) f e g = let h : a < 2 ^ 63 = f .sfits in narrow-minus a (omega arith) ∙ le-leb a 999999998 (ltb-false 999999998 a e)
+narrow-between : (z : ℤ) → ltZ z (negsuc 999999998) ≡ false → ltZ (pos 9999999999) z ≡ false → isNarrow z ≡ true
+narrow-between (pos a) e g = narrow-plus a ∙ le-leb a 9999999999 (ltb-false 9999999999 a g)
+narrow-between (negsuc a) e g = narrow-minus a ∙ le-leb a 999999998 (ltb-false 999999998 a e)
 
 module _ (z : ℤ) (f : SFits w64 z) where
   pub figure-low : ltZ (toZ w64 (ofZ w64 z)) (negsuc 999999998) ≡ true → false ≡ isNarrow z
-  figure-low e = sym (narrow-below z f (rw (back z f) at e))
+  figure-low e = sym (narrow-below z (rw (back z f) at e))
 
   pub figure-high : ltZ (pos 9999999999) (toZ w64 (ofZ w64 z)) ≡ true → false ≡ isNarrow z
-  figure-high e = sym (narrow-above z f (rw (back z f) at e))
+  figure-high e = sym (narrow-above z (rw (back z f) at e))
 
   pub figure-in : ltZ (toZ w64 (ofZ w64 z)) (negsuc 999999998) ≡ false → ltZ (pos 9999999999) (toZ w64 (ofZ w64 z)) ≡ false → true ≡ isNarrow z
-  figure-in e g = sym (narrow-between z f (rw (back z f) at e) (rw (back z f) at g))
+  figure-in e g = sym (narrow-between z (rw (back z f) at e) (rw (back z f) at g))
 
 -- a figure is within the range of a real, below ten digits, and its sign finds room before them
 record Narrow (z : ℤ) : Type 0 where
@@ -313,19 +268,17 @@ record Narrow (z : ℤ) : Type 0 where
   pub few : natAbs z < 10000000000
   pub room : length (minus z) + length (digits 10 (natAbs z)) ≤ 10
 
-narrow-is : (z : ℤ) → SFits w64 z → isNarrow z ≡ true → Narrow z
+narrow-is : (z : ℤ) → isNarrow z ≡ true → Narrow z
 unfolding isReal minus
-narrow-is (pos a) f e =
-    let h : a < 2 ^ 63 = f .sfits in
-    let k : a ≤ 9999999999 = leb-true a 9999999999 (sym (narrow-plus a (omega arith)) ∙ e) in
+narrow-is (pos a) e =
+    let k : a ≤ 9999999999 = leb-true a 9999999999 (sym (narrow-plus a) ∙ e) in
     record {
       real = le-leb a 99999999999 (omega arith);
       few = omega arith;
       room = rw (minus-none a) (omega (arith, digits-most 10 a));
     }
-narrow-is (negsuc a) f e =
-    let h : a < 2 ^ 63 = f .sfits in
-    let k : a ≤ 999999998 = leb-true a 999999998 (sym (narrow-minus a (omega arith)) ∙ e) in
+narrow-is (negsuc a) e =
+    let k : a ≤ 999999998 = leb-true a 999999998 (sym (narrow-minus a) ∙ e) in
     record {
       real = rw (le-leb a 9999999998 (omega arith));
       few = omega arith;
@@ -334,19 +287,19 @@ narrow-is (negsuc a) f e =
 
 module _ (z : ℤ) (f : SFits w64 z) (h : isNarrow z ≡ true) where
   pub figure-real : isReal (toZ w64 (ofZ w64 z)) ≡ true
-  figure-real = ap isReal (back z f) ∙ narrow-is z f h .real
+  figure-real = ap isReal (back z f) ∙ narrow-is z h .real
 
   module _ (m : ℕ) (e : m ≡ natAbs (toZ w64 (ofZ w64 z))) where
     figure-abs : m ≡ natAbs z
     figure-abs = e ∙ ap natAbs (back z f)
 
     pub figure-few : m < 10000000000
-    figure-few = omega (arith, narrow-is z f h .few, figure-abs)
+    figure-few = omega (arith, narrow-is z h .few, figure-abs)
 
     pub figure-sign : (r : ℕ) → r + length (digits 10 m) ≡ 10 → length (minus (toZ w64 (ofZ w64 z))) ≤ r
     figure-sign r q =
         let w : r + length (digits 10 (natAbs z)) ≡ 10 = rw figure-abs at q in
-        rw (back z f) (omega (arith, narrow-is z f h .room))
+        rw (back z f) (omega (arith, narrow-is z h .room))
 
     -- digits and sign over blanks
     pub figure-made : (r : ℕ) (l b d : List ℕ) → 10 ≤ length l
@@ -355,10 +308,10 @@ module _ (z : ℤ) (f : SFits w64 z) (h : isNarrow z ≡ true) where
     unfolding figureText wholeText countText
     figure-made r l b d room q e =
         let n = natAbs z in
-        let few : n < 10000000000 = narrow-is z f h .few in
+        let few : n < 10000000000 = narrow-is z h .few in
         let base : List ℕ = over (blanks 10) l in
         let o : length base ≡ length l = length-over (blanks 10) l (omega arith) in
-        let g : length (minus z) + length (digits 10 n) ≤ 10 = narrow-is z f h .room in
+        let g : length (minus z) + length (digits 10 n) ≤ 10 = narrow-is z h .room in
         let w : r + length (digits 10 n) ≡ 10 = rw figure-abs at (q .0) in
         let x : b ≡ pasted base r (digits 10 n) = q .1 ∙ rw figure-abs in
         let k : r - length (minus z) + length (minus z) ≡ r = omega arith in
@@ -445,33 +398,6 @@ module _ (v size rest : ℕ) (p : Counting v size rest) where
       go zero s c = absurd (omega arith)
       go (suc w) s c = omega (arith, ap length (digits-few w rest h))
 
--- they are placed before that count of them, so from the start on
-module _ (v size : ℕ) (h : v < 10 ^ 20) (e : size ≡ length (countText v)) where
-  pub count-room : (1 ≤ size) × (v < 10 ^ size)
-  unfolding countText
-  count-room = (
-    rw e (digits-some 20 v (omega arith)),
-    rw e (subst (λ (n : ℕ). n < 10 ^ length (digits 20 v)) (digits-value 20 v h) (omega (arith, value-below (digits 20 v) 0 1 (digits-all 20 v) (omega arith)))),
-  )
-
-  count-digits : digits size v ≡ countText v
-  unfolding countText
-  count-digits = sym (digits-wider size 20 v (count-room .0) (rw e (digits-most 20 v)) (count-room .1))
-
-  module _ (l : List ℕ) where
-    abbrev fits : Bool
-    fits = leb (length (countText v)) (length l)
-
-    pub count-tight : length l < size → (0 ≡ cond fits (length (countText v)) 0) × (l ≡ cond fits (over (countText v) l) l)
-    count-tight k = rw (lt-leb (length (countText v)) (length l) (omega arith)) (refl, refl)
-
-    pub count-done : (r : ℕ) (d : List ℕ) → size ≤ length l → (r + length (digits size v) ≡ size) × (d ≡ pasted l r (digits size v))
-        → (size ≡ cond fits (length (countText v)) 0) × (d ≡ cond fits (over (countText v) l) l)
-    count-done r d k q =
-        let z : r ≡ 0 = omega (arith, q .0, ap length count-digits) in
-        let s : 0 + length (countText v) ≡ length (countText v) = omega arith in
-        rw (le-leb (length (countText v)) (length l) (omega arith)) (e, q .1 ∙ rw (z, count-digits, s))
-
 -- ---- bytes at a place
 
 module _ (l : List ℕ) (at : ℕ) (s : List ℕ) where
@@ -483,3 +409,24 @@ module _ (l : List ℕ) (at : ℕ) (s : List ℕ) where
       → Stored l at s (take at l ++ (e ++ drop (length l - at) (drop at l))) (at + length s)
   unfolding hasRoom
   stored-done h k e q = let t = le-leb (at + length s) (length l) (omega arith) in record { is = rw (q, t) (pasted-part l s at); next = rw t }
+
+-- digits at a place: they end before the place that is counted ahead
+module _ (l : List ℕ) (at v size : ℕ) (h : v < 10 ^ 20) (e : size ≡ length (countText v)) where
+  pub count-asks : (1 ≤ at + size) × (v < 10 ^ (at + size))
+  unfolding countText
+  count-asks = (omega (arith, digits-some 20 v (omega arith)), digits-below 20 v (at + size) h (omega arith))
+
+  count-digits : digits (at + size) v ≡ countText v
+  unfolding countText
+  count-digits = digits-alike 20 v (at + size) h (omega arith) (omega arith) (count-asks .0)
+
+  pub count-tight : length l - at < size → Stored l at (countText v) l at
+  count-tight k = stored-tight l at (countText v) (omega (arith, count-asks .0))
+
+  pub count-done : at ≤ length l → size ≤ length l - at → (r : ℕ) (d : List ℕ)
+      → (r + length (digits (at + size) v) ≡ at + size) × (d ≡ pasted l r (digits (at + size) v)) → Stored l at (countText v) d (at + size)
+  unfolding hasRoom
+  count-done a k r d q =
+      let o : r ≡ at = omega (arith, q .0, ap length count-digits) in
+      let t = le-leb (at + length (countText v)) (length l) (omega arith) in
+      record { is = rw t (q .1 ∙ rw (count-digits, o)); next = rw (t, e) }

@@ -51,6 +51,10 @@ minus z = cond (ltZ z (pos 0)) (45 ∷ []) []
 unfoldable pub decimal : ℕ → List ℕ
 decimal m = digits 8 (m / 1000) ++ 46 ∷ places 3 (m % 1000)
 
--- a real: 12 characters, right aligned, no needless zero in front
+-- a real with no blank in front: no needless zero, three decimals
+unfoldable pub bareReal : ℤ → List ℕ
+bareReal z = minus z ++ decimal (natAbs z)
+
+-- a real: 12 characters, right aligned
 unfoldable pub realText : ℤ → List ℕ
-realText z = aligned realWidth (minus z ++ decimal (natAbs z))
+realText z = aligned realWidth (bareReal z)

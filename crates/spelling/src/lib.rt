@@ -1,11 +1,12 @@
 // A number as exact mode has it (document 01, "Records"): the 4 characters of an integer, the 12 of a real.
 // And as the listing has it ("Listing program"): its digits alone.
 // And as a SUP file has it (document 02, T-01): right aligned in 10 characters.
+// And as CML has it (document 02, T-11): a real with no blank in front.
 // And bytes as they are, at a place.
 // All of it is proved, and no public function has a `requires`: a value out of range, or too little room, alters nothing.
 ghost use mathlib.Core.Path.{_≡_};
 ghost use mathlib.Core.Bool.{true, cond, _&&_};
-ghost use mathlib.Core.List.{_∷_};
+ghost use mathlib.Core.List.{[], _∷_};
 ghost use Prim.Native.Nat.{_+_, _-_, _^_, _/_, _%_, _≤_, _<_};
 ghost use lib.ListN.{length};
 ghost use lib.Dec.{leb};
@@ -14,7 +15,7 @@ ghost use Rattle.laws.specs.Lists.{over, pasted};
 ghost use Rattle.number.specs.Number.{isReal};
 ghost use Rattle.spelling.specs.Stored.{Stored};
 ghost use Rattle.spelling.specs.Figures.{figureWidth, isNarrow, figureText};
-ghost use Rattle.spelling.specs.Spelling.{integerMost, integerWidth, realWidth, digits, places, countText, integerText, minus, realText};
+ghost use Rattle.spelling.specs.Spelling.{integerMost, integerWidth, realWidth, digits, places, countText, integerText, minus, bareReal, realText};
 
 const INTEGER_MOST: usize = 9999;
 
@@ -93,17 +94,17 @@ fn put_digits(text: &mut [u8], end: usize, n: usize) -> usize
     put_lead(text, at, rest)
 }
 
-// Places a point and the three digits of a number below 1000 at 8, the end of a real's text. 41 / 4096 is a little more than a hundredth.
-fn put_places(text: &mut [u8], m: usize)
-    requires { ⌜ (realWidth ≤ length (now text)) × (m < 1000) ⌝ }
-    ensures { λ _. ⌜ now (text .exit) ≡ pasted (now (text .entry)) 8 (46 ∷ places 3 m) ⌝ }
+// Places a point and the three digits of a number below 1000 at a place. 41 / 4096 is a little more than a hundredth.
+fn put_places(text: &mut [u8], at: usize, m: usize)
+    requires { ⌜ (at + 4 ≤ length (now text)) × (m < 1000) ⌝ }
+    ensures { λ _. ⌜ now (text .exit) ≡ pasted (now (text .entry)) at (46 ∷ places 3 m) ⌝ }
 {
     let first = m * 41 / 4096;
     let pair = m - 100 * first;
-    text[8] = b'.';
-    text[9] = glyph(first);
-    text[10] = tens(pair);
-    text[11] = ones(pair);
+    text[at] = b'.';
+    text[at + 1] = glyph(first);
+    text[at + 2] = tens(pair);
+    text[at + 3] = ones(pair);
 }
 
 // Places the sign of a number, if it has one, before `at`.
@@ -175,16 +176,24 @@ fn put_integer(value: usize, out: &mut [u8])
     put_digits(out, INTEGER_WIDTH, value);
 }
 
-// The characters of a real, straight at the start of `out`: blanks, and over them places, digits and sign, each before the last.
+// The characters of a real, its point at a place: places, digits and sign, each before the last.
+fn put_round(out: &mut [u8], point: usize, value: i64)
+    requires { ⌜ (isReal value ≡ true) × (length (bareReal value) ≤ point + 4) × (point + 4 ≤ length (now out)) ⌝ }
+    ensures { λ _. ⌜ now (out .exit) ≡ pasted (now (out .entry)) (point + 4 - length (bareReal value)) (bareReal value) ⌝ }
+{
+    let m = magnitude(value);
+    put_places(out, point, m % 1000);
+    let first = put_digits(out, point, m / 1000);
+    put_sign(out, first, value);
+}
+
+// The characters of a real, straight at the start of `out`, over blanks.
 fn put_real(value: i64, out: &mut [u8])
     requires { ⌜ (isReal value ≡ true) × (realWidth ≤ length (now out)) ⌝ }
     ensures { λ _. ⌜ now (out .exit) ≡ over (realText value) (now (out .entry)) ⌝ }
 {
     copy(b"        ", out);
-    let m = magnitude(value);
-    put_places(out, m % 1000);
-    let at = put_digits(out, 8, m / 1000);
-    put_sign(out, at, value);
+    put_round(out, 8, value);
 }
 
 // True where the 4 characters of an integer now stand at the start of `out`;
@@ -232,18 +241,89 @@ fn count_size(value: usize) -> usize
     size
 }
 
-// How many digits of a number now stand at the start of `out`, with no zero in front except for 0 itself;
-// 0, and `out` as it was, where it is shorter.
-pub fn spell_count(value: usize, out: &mut [u8]) -> usize
-    ensures { λ r. ⌜ r ≡ cond (leb (length (countText value)) (length (now (out .entry)))) (length (countText value)) 0 ⌝ }
-    ensures { λ _. ⌜ now (out .exit) ≡ cond (leb (length (countText value)) (length (now (out .entry)))) (over (countText value) (now (out .entry))) (now (out .entry)) ⌝ }
+// Stores the digits of a number at a place, with no zero in front except for 0 itself; the answer is the place behind them.
+// Where they find no room `out` is as it was, and the answer is the place.
+pub fn put_count(out: &mut [u8], at: usize, value: usize) -> usize
+    ensures { λ r. ⌜ Stored (now (out .entry)) at (countText value) (now (out .exit)) r ⌝ }
 {
-    let size = count_size(value);
-    if out.len() < size {
-        return 0;
+    if at > out.len() {
+        return at;
     }
-    put_digits(out, size, value);
-    size
+    let size = count_size(value);
+    if size > out.len() - at {
+        return at;
+    }
+    put_digits(out, at + size, value);
+    at + size
+}
+
+// How many digits a number has; 8 where it has more.
+pub fn digit_count(n: usize) -> usize
+    ensures { λ r. ⌜ r ≡ length (digits 8 n) ⌝ }
+{
+    if n < 10 {
+        return 1;
+    }
+    if n < 100 {
+        return 2;
+    }
+    if n < 1000 {
+        return 3;
+    }
+    if n < 10000 {
+        return 4;
+    }
+    if n < 100000 {
+        return 5;
+    }
+    if n < 1000000 {
+        return 6;
+    }
+    if n < 10000000 {
+        return 7;
+    }
+    8
+}
+
+// How many characters the sign of a number takes.
+fn sign_size(value: i64) -> usize
+    ensures { λ r. ⌜ r ≡ length (minus value) ⌝ }
+{
+    if value < 0 {
+        return 1;
+    }
+    0
+}
+
+// How many characters a real takes with no blank in front; 0 where the value is out of range.
+pub fn bare_size(value: i64) -> usize
+    ensures { λ r. ⌜ r ≡ cond (isReal value) (length (bareReal value)) 0 ⌝ }
+{
+    if is_real(value) {
+        let sign = sign_size(value);
+        let whole = digit_count(magnitude(value) / 1000);
+        return sign + whole + 4;
+    }
+    0
+}
+
+// Stores a real with no blank in front at a place; the answer is the place behind it.
+// Where the value is out of range or finds no room `out` is as it was, and the answer is the place.
+pub fn put_bare(out: &mut [u8], at: usize, value: i64) -> usize
+    ensures { λ r. ⌜ Stored (now (out .entry)) at (cond (isReal value) (bareReal value) []) (now (out .exit)) r ⌝ }
+{
+    if is_real(value) {
+        if at > out.len() {
+            return at;
+        }
+        let size = bare_size(value);
+        if size > out.len() - at {
+            return at;
+        }
+        put_round(out, at + size - 4, value);
+        return at + size;
+    }
+    at
 }
 
 // A figure finds room in its 10 characters.

@@ -2,9 +2,9 @@
 pub mod WriteLaws
 pub mod SizeLaws
 pub mod Putting
-mod RowFacts
+pub mod RowFacts
 mod RowWays
 mod Sizes
 mod Walk
 mod HeaderWays
-mod SheetWays
+pub mod SheetWays

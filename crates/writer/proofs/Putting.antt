@@ -101,7 +101,7 @@ pub integer-line : (l : List ℕ) (at n : ℕ) → n ≤ 9999 → at + length (l
 integer-line l at n h room r e q w = line-spelt l at (integerText n) 4 (integer-length n) room (leb n 9999) r e (le-leb n 9999 h) q w
 
 -- a real that is handed on as bits
-real-back : (z : ℤ) → isReal z ≡ true → toZ w64 (ofZ w64 z) ≡ z
+pub real-back : (z : ℤ) → isReal z ≡ true → toZ w64 (ofZ w64 z) ≡ z
 real-back (pos a) h = toZ-ofZ w64 (pos a) (record { sfits = omega (arith, in-plus a h) })
 real-back (negsuc a) h = toZ-ofZ w64 (negsuc a) (record { sfits = omega (arith, in-minus a h) })
 

@@ -1,12 +1,13 @@
 -- Demand 2's writing, as theorems on `write`'s answer and output; and what "well made" means. Assumes nothing.
 use mathlib.Core.Path.{_≡_, refl, sym, _∙_, ap, ap₂}
-use mathlib.Core.Bool.{true}
+use mathlib.Core.Bool.{true, cond}
 use mathlib.Core.List.{List}
 use Prim.Native.Nat.{ℕ, _*_, _≤_}
 use native.Mathlib.Omega.{arith}
 use lib.ListN.{length}
 use lib.Seq.{length-take-le}
-use borrow.Author.Tests.{le-leb}
+use lib.Dec.{leb}
+use borrow.Author.Tests.{le-leb, leb-true}
 use Rattle.laws.specs.Lists.{over}
 use Rattle.laws.proofs.Choice.{cond-first}
 use Rattle.record.specs.declared.Mode.{Mode}
@@ -20,11 +21,13 @@ use Rattle.sheet.specs.Reading.{sheet, meaning, reading}
 use Rattle.sheet.proofs.Meaning.{reading-meaning}
 use Rattle.record.proofs.RecordLaws.{former-widest}
 use Rattle.sheet.proofs.Modes.{reading-widens}
+use Rattle.made.specs.declared.Verdict.{Verdict}
 use Rattle.made.specs.declared.Verdict.the-variants.{Fine, BadHeader}
+use Rattle.made.specs.declared.Verdict.the-variants as Verdict
 use Rattle.made.specs.Made.{noneBefore, judgeRows, judgeOf, usedOf}
 use Rattle.made.proofs.UsedLaws.{behindOf, used-front, used-behind, judge-used, judge-alike, Long, fine-long}
 use Rattle.layout.specs.Sheet.{sheetText}
-use Rattle.writer.specs.Write.{writeOf, outputOf, numberOf}
+use Rattle.writer.specs.Write.{writtenAfter, writeOf, outputOf, numberOf}
 use Rattle.writer.specs.declared.Written.{Written}
 use Rattle.writer.specs.declared.Written.the-variants.{Wrote, TooLong, NoRoom, Refused}
 use Rattle.layout.proofs.WrittenLaws.{sheet-meaning, written-then-read}
@@ -106,6 +109,23 @@ refused-output (Wrote n) s l f = absurd (f refl)
 refused-output TooLong s l f = refl
 refused-output (NoRoom n) s l f = refl
 refused-output (Refused v) s l f = refl
+
+-- **what was written** had nothing against it, kept the limit and found room
+pub record WroteOnly (v : Verdict) (size room n : ℕ) : Type 0 where
+  pub fine : v ≡ Verdict.Fine
+  pub fits : size ≤ fileMost
+  pub space : size ≤ room
+  pub long : n ≡ size
+
+pub wrote-only : (v : Verdict) (size room n : ℕ) → writtenAfter v size room ≡ Wrote n → WroteOnly v size room n
+wrote-only Verdict.Fine size room n e =
+    let a = cond-first (leb size fileMost) (cond (leb size room) (Wrote size) (NoRoom size)) TooLong (Wrote n) (λ z. let y : _≡_ {A = ℕ} 0 1 = cc in omega arith) e in
+    let b = cond-first (leb size room) (Wrote size) (NoRoom size) (Wrote n) (λ z. let y : _≡_ {A = ℕ} 0 1 = cc in omega arith) (a .1) in
+    let w : Wrote size ≡ Wrote n = b .1 in
+    record { fine = refl; fits = leb-true size fileMost (a .0); space = leb-true size room (b .0); long = cc }
+wrote-only Verdict.BadHeader size room n e = absurd (let y : _≡_ {A = ℕ} 0 1 = cc in omega arith)
+wrote-only (Verdict.Faulty k) size room n e = absurd (let y : _≡_ {A = ℕ} 0 1 = cc in omega arith)
+wrote-only (Verdict.Unlisted k) size room n e = absurd (let y : _≡_ {A = ℕ} 0 1 = cc in omega arith)
 
 -- **written then read**: writing a well made sheet that uses listed codes, where it fits, gives bytes that the exact mode reads back as that same sheet
 pub written-read : (h : Header) (count : ℕ) (t : Tables) → judgeOf Exact h count t ≡ Fine → length (sheetText h count t) ≤ fileMost

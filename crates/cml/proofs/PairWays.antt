@@ -1,0 +1,194 @@
+-- The vertices of a line, one behind the other, written and measured: document 02, T-11. Assumes nothing.
+use Prim.Native.Nat.{ℕ, zero, suc, _+_, _*_, _%_, _≤_, _<_}
+use mathlib.Core.Path.{_≡_, refl, sym, _∙_, ap}
+use mathlib.Core.List.{List, [], _∷_, _++_, append-assoc}
+use mathlib.Core.Bool.{Bool, true, false, cond, _&&_}
+use native.Mathlib.Omega.{arith}
+use lib.ListN.{length, getD, drop, length-append}
+use lib.Dec.{eqb}
+use lib.IntN.{ℤ, pos}
+use mir.Syntax.{w64}
+use mir.Val.{toZ, ofZ}
+use Rattle.laws.specs.Text.{text}
+use Rattle.laws.proofs.Choice.{and-left, and-right}
+use Rattle.laws.proofs.ListLaws.{left, left-none}
+use Rattle.laws.proofs.TableLaws.{pasted-none, length-pasted}
+use Rattle.number.specs.Number.{isReal}
+use Rattle.spelling.specs.Stored.{Stored}
+use Rattle.spelling.specs.Spelling.{digits, countText, bareReal}
+use Rattle.spelling.proofs.DigitLaws.{digits-wider}
+use Rattle.spelling.proofs.BareWays.{bare-most}
+use Rattle.made.specs.Made.{areReals}
+use Rattle.writer.specs.Put.{Put}
+use Rattle.writer.proofs.Putting.{Putting, putting-start, putting-room, putting-on, stored-put, stored-on, stored-last, real-back}
+use Rattle.cml.specs.Element.{pairText}
+use Rattle.cml.specs.Spaced.{gap, spacedText}
+use Rattle.cml.proofs.CoordLaws.{gap-first}
+
+-- ---- nothing, and bytes that are the text
+
+pub put-none : (l : List ℕ) (at : ℕ) → Put l at [] l at
+put-none l at = record { is = pasted-none l at; next = omega arith }
+
+pub put-same : {s t : List ℕ} → t ≡ s → {l d : List ℕ} {at r : ℕ} → at + length t ≤ length l → Stored l at s d r → Put l at t d r
+put-same {s} {t} e {l} {d} {at} {r} room w = rw e (stored-put (rw e at room) w)
+
+pub put-length : {l d : List ℕ} {at r : ℕ} {s : List ℕ} → at + length s ≤ length l → Put l at s d r → length d ≡ length l
+put-length {l} {d} {at} {r} {s} room p = ap length (p .is) ∙ length-pasted l at s room
+
+-- ---- what stands before a vertex
+
+pub gap-none-put : (l : List ℕ) (at i : ℕ) → i ≡ 0 → Put l at (gap i) l at
+gap-none-put l at i e = rw (gap-first i e) (put-none l at)
+
+pub gap-most : (i : ℕ) → length (gap i) ≤ 15
+unfolding gap
+gap-most i = go (eqb i 0) (eqb (i % 1000) 0)
+  where
+    go : (a b : Bool) → length {A = ℕ} (cond a [] (cond b (text "</COORD><COORD>") (text " "))) ≤ 15
+    go true b = omega arith
+    go false true = omega arith
+    go false false = omega arith
+
+-- ---- a real that is handed on as bits
+
+abbrev told : ℤ → List ℕ
+told z = cond (isReal z) (bareReal z) []
+
+told-is : (z : ℤ) → isReal z ≡ true → told (toZ w64 (ofZ w64 z)) ≡ bareReal z
+told-is z h = rw (real-back z h, h)
+
+abbrev sizeOf : ℤ → ℕ
+sizeOf z = cond (isReal z) (length (bareReal z)) 0
+
+size-told : (z : ℤ) → isReal z ≡ true → sizeOf (toZ w64 (ofZ w64 z)) ≡ length (bareReal z)
+size-told z h = rw (real-back z h, h)
+
+-- ---- a vertex
+
+module _ (l : List ℕ) (at i : ℕ) (x y : ℤ) (hx : isReal x ≡ true) (hy : isReal y ≡ true) (room : at + length (gap i ++ pairText x y) ≤ length l) where
+  abbrev whole : List ℕ
+  whole = gap i ++ pairText x y
+
+  pair-start : Putting l at whole l at (gap i ++ (bareReal x ++ 44 ∷ bareReal y))
+  unfolding pairText
+  pair-start = putting-start l at (gap i ++ pairText x y) room
+
+  pub pair-gap-room : at + length (gap i) ≤ length l
+  pair-gap-room = putting-room pair-start (gap i) (bareReal x ++ 44 ∷ bareReal y) refl
+
+  pub pair-put : {d e f g : List ℕ} {n m k j : ℕ} → Put l at (gap i) d n → Stored d n (told (toZ w64 (ofZ w64 x))) e m → Stored e m (44 ∷ []) f k
+      → Stored f k (told (toZ w64 (ofZ w64 y))) g j → Put l at whole g j
+  pair-put p u v w =
+      let a = putting-on pair-start (gap i) (bareReal x ++ 44 ∷ bareReal y) refl p in
+      let b = stored-on a (bareReal x) (44 ∷ bareReal y) refl (rw (told-is x hx) at u) in
+      let c = stored-on b (44 ∷ []) (bareReal y) refl v in
+      stored-last c (rw (told-is y hy) at w)
+
+module _ (i : ℕ) (x y : ℤ) (hx : isReal x ≡ true) (hy : isReal y ≡ true) where
+  pair-length : length (gap i ++ pairText x y) ≡ length (gap i) + length (bareReal x) + 1 + length (bareReal y)
+  unfolding pairText
+  pair-length = omega (arith, length-append (gap i) (bareReal x ++ 44 ∷ bareReal y), length-append (bareReal x) (44 ∷ bareReal y))
+
+  pub pair-sized : (g a b : ℕ) → g ≡ length (gap i) → a ≡ sizeOf (toZ w64 (ofZ w64 x)) → b ≡ sizeOf (toZ w64 (ofZ w64 y)) → g + a + 1 + b ≡ length (gap i ++ pairText x y)
+  pair-sized g a b e f h = omega (arith, pair-length, e, f ∙ size-told x hx, h ∙ size-told y hy)
+
+pub size-most : (z : ℤ) → isReal z ≡ true → (a : ℕ) → a ≡ sizeOf (toZ w64 (ofZ w64 z)) → a ≤ 12
+size-most z h a e = omega (arith, e ∙ size-told z h, bare-most z h)
+
+pub pair-most : (i : ℕ) (x y : ℤ) → isReal x ≡ true → isReal y ≡ true → length (gap i ++ pairText x y) ≤ 40
+pair-most i x y hx hy = omega (arith, pair-length i x y hx hy, gap-most i, bare-most x hx, bare-most y hy)
+
+-- ---- the vertices from i on
+
+module _ (s : List ℤ) (n : ℕ) (e : length s ≡ 2 * n) (i : ℕ) where
+  abbrev X : ℤ
+  X = getD s (2 * i) (pos 0)
+
+  abbrev Y : ℤ
+  Y = getD s (2 * i + 1) (pos 0)
+
+  module _ (h : i < n) where
+    two-left : drop (2 * i) s ≡ X ∷ Y ∷ drop (2 * (i + 1)) s
+    two-left =
+        let z : 2 * i + 1 + 1 ≡ 2 * (i + 1) = omega arith in
+        left s (2 * i) (pos 0) (omega arith) ∙ ap (λ (r : List ℤ). X ∷ r) (left s (2 * i + 1) (pos 0) (omega arith) ∙ ap (λ (k : ℕ). Y ∷ drop k s) z)
+
+    pub pairs-here : spacedText i (drop (2 * i) s) ≡ (gap i ++ pairText X Y) ++ spacedText (i + 1) (drop (2 * (i + 1)) s)
+    unfolding spacedText
+    pairs-here = rw two-left (sym (append-assoc (gap i) (pairText X Y) (spacedText (i + 1) (drop (2 * (i + 1)) s))))
+
+    reals-here : areReals (drop (2 * i) s) ≡ true → (isReal X ≡ true) × (isReal Y ≡ true) × (areReals (drop (2 * (i + 1)) s) ≡ true)
+    unfolding areReals
+    reals-here q =
+        let r = drop (2 * (i + 1)) s in
+        let a : (isReal X && (isReal Y && areReals r)) ≡ true = rw two-left at q in
+        let b = and-right (isReal X) (isReal Y && areReals r) a in
+        (and-left (isReal X) (isReal Y && areReals r) a, and-left (isReal Y) (areReals r) b, and-right (isReal Y) (areReals r) b)
+
+    module _ (q : areReals (drop (2 * i) s) ≡ true) where
+      pub x-real : isReal X ≡ true
+      x-real = reals-here q .0
+
+      pub y-real : isReal Y ≡ true
+      y-real = reals-here q .1
+
+      pub reals-next : areReals (drop (2 * (i + 1)) s) ≡ true
+      reals-next = reals-here q .2
+
+      abbrev pair : List ℕ
+      pair = gap i ++ pairText (toZ w64 (ofZ w64 X)) (toZ w64 (ofZ w64 Y))
+
+      pair-is : pair ≡ gap i ++ pairText X Y
+      pair-is = rw (real-back X x-real, real-back Y y-real)
+
+      -- what the function that writes it asks
+      pub pair-asks : {l : List ℕ} {at : ℕ} {u d : List ℕ} {m : ℕ} → Putting l at u d m (spacedText i (drop (2 * i) s))
+          → (isReal (toZ w64 (ofZ w64 X)) ≡ true) × (isReal (toZ w64 (ofZ w64 Y)) ≡ true) × (m + length pair ≤ length d)
+      pair-asks p =
+          rw (real-back X x-real, real-back Y y-real)
+          (x-real, y-real, putting-room p (gap i ++ pairText X Y) (spacedText (i + 1) (drop (2 * (i + 1)) s)) pairs-here)
+
+      pub pairs-on : {l : List ℕ} {at : ℕ} {u d : List ℕ} {m : ℕ} → Putting l at u d m (spacedText i (drop (2 * i) s)) → {v : List ℕ} {r : ℕ}
+          → Put d m pair v r → Putting l at u v r (spacedText (i + 1) (drop (2 * (i + 1)) s))
+      pairs-on p w = putting-on p (gap i ++ pairText X Y) (spacedText (i + 1) (drop (2 * (i + 1)) s)) pairs-here (rw pair-is at w)
+
+      -- and the one that measures it
+      pub pair-sizes : (isReal (toZ w64 (ofZ w64 X)) ≡ true) × (isReal (toZ w64 (ofZ w64 Y)) ≡ true)
+      pair-sizes = rw (real-back X x-real, real-back Y y-real) (x-real, y-real)
+
+      module _ (total : ℕ) (w : total + length (spacedText i (drop (2 * i) s)) ≡ length (spacedText 0 s)) (r : ℕ) (v : r ≡ length pair) where
+        pub measured-most : r ≤ 40
+        measured-most = omega (arith, v ∙ ap length pair-is, pair-most i X Y x-real y-real)
+
+        pub measured-on : total + r + length (spacedText (i + 1) (drop (2 * (i + 1)) s)) ≡ length (spacedText 0 s)
+        measured-on =
+            omega (arith, w, v ∙ ap length pair-is, ap length pairs-here, length-append (gap i ++ pairText X Y) (spacedText (i + 1) (drop (2 * (i + 1)) s)))
+
+  pub pairs-over : n ≤ i → spacedText i (drop (2 * i) s) ≡ []
+  unfolding spacedText
+  pairs-over h = rw (left-none s (2 * i) (omega arith))
+
+  pub measured-end : n ≤ i → (total : ℕ) → total + length (spacedText i (drop (2 * i) s)) ≡ length (spacedText 0 s) → total ≡ length (spacedText 0 s)
+  measured-end h total w = omega (arith, w, ap length (pairs-over h))
+
+-- ---- the size of a count
+
+pub count-size : (n : ℕ) → n ≤ 9999 → length (digits 8 n) ≡ length (countText n)
+unfolding countText
+count-size n h = ap length (sym (digits-wider 8 20 n (omega arith) (omega arith) (omega arith)))
+
+-- ---- the size of all
+
+pub pairs-most : (k : ℕ) (s : List ℤ) (n i : ℕ) → length s ≡ 2 * n → i + k ≡ n → areReals (drop (2 * i) s) ≡ true → length (spacedText i (drop (2 * i) s)) ≤ 40 * k
+pairs-most zero s n i e h q = omega (arith, ap length (pairs-over s n e i (omega arith)))
+pairs-most (suc k) s n i e h q =
+    let l : i < n = omega arith in
+    let r = pairs-most k s n (i + 1) e (omega arith) (reals-next s n e i l q) in
+    omega (
+      arith,
+      r,
+      ap length (pairs-here s n e i l),
+      length-append (gap i ++ pairText (X s n e i) (Y s n e i)) (spacedText (i + 1) (drop (2 * (i + 1)) s)),
+      pair-most i (X s n e i) (Y s n e i) (x-real s n e i l q) (y-real s n e i l q),
+    )

@@ -1,0 +1,38 @@
+-- `put_pair` meets its contract: what stands before it, x, a comma, y. Assumes nothing.
+use borrow.Author.Needs.{needs}
+use Rattle.cml.proofs.PairWays.{pair-gap-room, pair-put}
+use Rattle.cml.proofs.put_pair.Statement.{statement}
+use Rattle.cml.proofs.put_pair.Tie as tie
+
+put-gap-requires : tie.Need-put-gap-requires
+put-gap-requires c κs = let s = (c .before .before) in pair-gap-room (s .args .out .now) (s .args .at) (s .args .i) (s .args .x) (s .args .y) (s .pre .0) (s .pre .1) (s .pre .2)
+
+put-bare-requires : tie.Need-put-bare-requires
+put-bare-requires c κs = search needs
+
+slice-aggregate-put-bytes : tie.Need-slice-aggregate-put-bytes
+slice-aggregate-put-bytes c = search needs
+
+put-bytes-requires : tie.Need-put-bytes-requires
+put-bytes-requires c κs = search needs
+
+put-bare-requires-2 : tie.Need-put-bare-requires-2
+put-bare-requires-2 c κs = search needs
+
+same-length : tie.Need-same-length
+same-length c = search needs
+
+returns : tie.Need-returns
+returns c = let s = (c .before .before .before .before .before .before .before .before .before .before .before .before .before .before .before .before .before .before) in pair-put (s .args .out .now) (s .args .at) (s .args .i) (s .args .x) (s .args .y) (s .pre .0) (s .pre .1) (s .pre .2) (c .before .before .before .before .before .before .before .before .before .before .before .before .before .before .before .put-gap .ensures) (c .before .before .before .before .before .before .before .before .before .before .before .put-bare .ensures) (c .before .before .before .before .before .before .put-bytes .ensures) (c .before .before .put-bare2 .ensures)
+
+pub put-pair-spec : {M : Type 1} → statement M
+put-pair-spec =
+    tie.close
+    (tie.spec
+    put-gap-requires
+    put-bare-requires
+    slice-aggregate-put-bytes
+    put-bytes-requires
+    put-bare-requires-2
+    same-length
+    returns)

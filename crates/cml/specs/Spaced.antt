@@ -1,0 +1,37 @@
+-- A line's points as the code writes them, vertex by vertex, and what it goes by: document 02, T-11. Assumes nothing: these are definitions.
+-- That this is the text of `Element` is a law (cml/proofs/CoordLaws: `coords-are`).
+use Prim.Native.Nat.{ℕ, _+_, _*_, _%_, _≤_}
+use mathlib.Core.Path.{_≡_}
+use mathlib.Core.List.{List, [], _∷_, _++_}
+use mathlib.Core.Bool.{true, cond}
+use lib.ListN.{length, take}
+use lib.Dec.{eqb}
+use lib.IntN.{ℤ}
+use Rattle.laws.specs.Text.{text}
+use Rattle.kinds.specs.Kinds.{codePlace, verticesPlace}
+use Rattle.sheet.specs.Tables.{Tables}
+use Rattle.made.specs.Made.{kindOf, areReals}
+use Rattle.row.specs.Walk.{cellIn}
+use Rattle.cml.specs.Element.{coordMost, pairText, elementText}
+use Rattle.cml.specs.Lines.{lineKind, polylineOf}
+
+-- what stands before vertex i: nothing before the first, a new COORD where the one before it is full, else one blank
+unfoldable pub gap : ℕ → List ℕ
+gap i = cond (eqb i 0) [] (cond (eqb (i % coordMost) 0) (text "</COORD><COORD>") (text " "))
+
+-- the pairs with what stands before each, the first of them vertex i
+unfoldable pub spacedText : ℕ → List ℤ → List ℕ
+spacedText i [] = []
+spacedText i (x ∷ []) = []
+spacedText i (x ∷ y ∷ s) = gap i ++ (pairText x y ++ spacedText (i + 1) s)
+
+-- the first row as an element, if it is a line
+unfoldable pub rowElement : Tables → List ℕ
+rowElement t = cond (eqb (kindOf t) lineKind) (elementText (polylineOf t)) []
+
+-- what a row that was judged has, and its element is written by: counts in their range, points held and real
+pub record Drawn (rows points : List ℤ) : Type 0 where
+  pub code-most : cellIn rows 0 ≡ lineKind → cellIn rows codePlace ≤ 9999
+  pub vertices-most : cellIn rows verticesPlace ≤ 9999
+  pub held : 2 * cellIn rows verticesPlace ≤ length points
+  pub reals : areReals (take (2 * cellIn rows verticesPlace) points) ≡ true

@@ -1,0 +1,304 @@
+// The lines of a sheet as CML (document 02, T-11): one element LINEA of source 001 for each LINEA row.
+// All of it is proved, and no public function has a `requires`. The sheet is judged, then the length, then the room; a
+// refusal alters nothing, and past the text nothing is altered.
+ghost use mathlib.Core.Path.{_≡_};
+ghost use mathlib.Core.Bool.{true};
+ghost use mathlib.Core.List.{[], _++_};
+ghost use Prim.Native.Nat.{_+_, _*_, _≤_, min};
+ghost use lib.ListN.{length};
+ghost use Rattle.laws.specs.Lists.{over};
+ghost use Rattle.record.specs.Refusals.{fileMost};
+ghost use Rattle.record.specs.declared.Mode.the-variants.{Loose};
+ghost use Rattle.number.specs.Number.{isReal};
+ghost use Rattle.made.specs.declared.Verdict.the-variants.{Fine};
+ghost use Rattle.made.specs.Made.{tablesOf, areReals, noneBefore, judgeRows};
+ghost use Rattle.writer.specs.Write.{writtenAfter, outputOf};
+ghost use Rattle.row.specs.Walk.{cellIn};
+ghost use Rattle.writer.specs.Put.{Put};
+ghost use Rattle.cml.specs.Element.{pairText, opening, startTag, elementText};
+ghost use Rattle.cml.specs.Lines.{lineKind, polylineOf, cmlText, cmlOf};
+ghost use Rattle.cml.specs.Spaced.{gap, spacedText, rowElement, Drawn};
+use heading::Header;
+use made::Verdict;
+use made::count_at;
+use made::judge;
+use record::FILE_MOST;
+use record::Mode;
+use row::Stand;
+use row::stand_next;
+use spelling::bare_size;
+use spelling::digit_count;
+use spelling::put_bare;
+use spelling::put_bytes;
+use spelling::put_count;
+use writer::Written;
+
+// The vertices that a COORD holds at most.
+const COORD_MOST: usize = 1000;
+
+const LINE_KIND: usize = 5;
+
+const CODE_PLACE: usize = 2;
+
+const VERTICES_PLACE: usize = 11;
+
+// The bytes of an element without its numbers.
+const FRAME: usize = 82;
+
+// What stands before vertex i.
+fn put_gap(out: &mut [u8], at: usize, i: usize) -> usize
+    requires { ⌜ at + length (gap i) ≤ length (now out) ⌝ }
+    ensures { λ r. ⌜ Put (now (out .entry)) at (gap i) (now (out .exit)) r ⌝ }
+{
+    if i == 0 {
+        return at;
+    }
+    if i % COORD_MOST == 0 {
+        return put_bytes(out, at, b"</COORD><COORD>");
+    }
+    put_bytes(out, at, b" ")
+}
+
+// Vertex i, and what stands before it.
+fn put_pair(out: &mut [u8], at: usize, i: usize, x: i64, y: i64) -> usize
+    requires { ⌜ (isReal x ≡ true) × (isReal y ≡ true) × (at + length (gap i ++ pairText x y) ≤ length (now out)) ⌝ }
+    ensures { λ r. ⌜ Put (now (out .entry)) at (gap i ++ pairText x y) (now (out .exit)) r ⌝ }
+{
+    let gap_end = put_gap(out, at, i);
+    let x_end = put_bare(out, gap_end, x);
+    let comma_end = put_bytes(out, x_end, b",");
+    put_bare(out, comma_end, y)
+}
+
+// The n vertices of a line.
+fn put_pairs(out: &mut [u8], at: usize, n: usize, s: &[i64]) -> usize
+    requires { ⌜ (n ≤ 9999) × (length (now s) ≡ 2 * n) × (areReals (now s) ≡ true) ⌝ }
+    requires { ⌜ at + length (spacedText 0 (now s)) ≤ length (now out) ⌝ }
+    ensures { λ r. ⌜ Put (now (out .entry)) at (spacedText 0 (now (s .entry))) (now (out .exit)) r ⌝ }
+{
+    let mut next = at;
+    let mut i = 0;
+    while i < n {
+        let x = s[2 * i];
+        let y = s[2 * i + 1];
+        next = put_pair(out, next, i, x, y);
+        i += 1;
+    }
+    next
+}
+
+// The start tag up to the code.
+fn put_opening(out: &mut [u8], at: usize, outside: usize) -> usize
+    requires { ⌜ at + length (opening outside) ≤ length (now out) ⌝ }
+    ensures { λ r. ⌜ Put (now (out .entry)) at (opening outside) (now (out .exit)) r ⌝ }
+{
+    if outside == 1 {
+        return put_bytes(
+            out,
+            at,
+            b"<LINEA valenza=\"CONSOLID\" esterconf=\"SI\" cod=\"",
+        );
+    }
+    put_bytes(
+        out,
+        at,
+        b"<LINEA valenza=\"CONSOLID\" esterconf=\"NO\" cod=\"",
+    )
+}
+
+// The start tag.
+fn put_tag(out: &mut [u8], at: usize, outside: usize, code: usize, n: usize) -> usize
+    requires { ⌜ at + length (startTag outside code n) ≤ length (now out) ⌝ }
+    ensures { λ r. ⌜ Put (now (out .entry)) at (startTag outside code n) (now (out .exit)) r ⌝ }
+{
+    let opening_end = put_opening(out, at, outside);
+    let code_end = put_count(out, opening_end, code);
+    let word_end = put_bytes(out, code_end, b"\" n.vert=\"");
+    let count_end = put_count(out, word_end, n);
+    put_bytes(out, count_end, b"\">")
+}
+
+// The element of the first row, which is a line.
+fn put_line(out: &mut [u8], at: usize, rows: &[i64], points: &[i64]) -> usize
+    requires { ⌜ Drawn (now rows) (now points) × (cellIn (now rows) 0 ≡ lineKind) ⌝ }
+    requires { ⌜ at + length (elementText (polylineOf (tablesOf (now rows) [] [] (now points)))) ≤ length (now out) ⌝ }
+    ensures { λ r. ⌜ Put (now (out .entry)) at (elementText (polylineOf (tablesOf (now (rows .entry)) [] [] (now (points .entry))))) (now (out .exit)) r ⌝ }
+{
+    let outside = count_at(rows, 1);
+    let code = count_at(rows, CODE_PLACE);
+    let n = count_at(rows, VERTICES_PLACE);
+    let p = 2 * n;
+    let tag_end = put_tag(out, at, outside, code, n);
+    let begun = put_bytes(out, tag_end, b"<COORD>");
+    let pairs_end = put_pairs(out, begun, n, &points[..p]);
+    put_bytes(out, pairs_end, b"</COORD></LINEA>\n")
+}
+
+// The element of the first row, if it is a line.
+fn put_row(out: &mut [u8], at: usize, rows: &[i64], points: &[i64]) -> usize
+    requires { ⌜ Drawn (now rows) (now points) ⌝ }
+    requires { ⌜ at + length (rowElement (tablesOf (now rows) [] [] (now points))) ≤ length (now out) ⌝ }
+    ensures { λ r. ⌜ Put (now (out .entry)) at (rowElement (tablesOf (now (rows .entry)) [] [] (now (points .entry)))) (now (out .exit)) r ⌝ }
+{
+    if count_at(rows, 0) == LINE_KIND {
+        return put_line(out, at, rows, points);
+    }
+    at
+}
+
+// The elements of all rows.
+fn put_lines(
+    out: &mut [u8],
+    count: usize,
+    rows: &[i64],
+    letters: &[u8],
+    islands: &[u16],
+    points: &[i64],
+)
+    requires { ⌜ judgeRows Loose count noneBefore (tablesOf (now rows) (now letters) (now islands) (now points)) ≡ Fine ⌝ }
+    requires { ⌜ length (cmlText count (tablesOf (now rows) (now letters) (now islands) (now points))) ≤ length (now out) ⌝ }
+    ensures { λ _. ⌜ now (out .exit) ≡ over (cmlText count (tablesOf (now (rows .entry)) (now (letters .entry)) (now (islands .entry)) (now (points .entry)))) (now (out .entry)) ⌝ }
+{
+    let mut d = Stand {
+        row: 0,
+        letters: 0,
+        islands: 0,
+        points: 0,
+    };
+    let mut next = 0;
+    let mut k = 0;
+    while k < count {
+        let r = d.row;
+        let p = d.points;
+        next = put_row(out, next, &rows[r..], &points[p..]);
+        d = stand_next(rows, d);
+        k += 1;
+    }
+}
+
+// The bytes before vertex i.
+fn gap_size(i: usize) -> usize
+    ensures { λ r. ⌜ r ≡ length (gap i) ⌝ }
+{
+    if i == 0 {
+        return 0;
+    }
+    if i % COORD_MOST == 0 {
+        return 15;
+    }
+    1
+}
+
+// The bytes of vertex i, and those before it.
+fn pair_size(i: usize, x: i64, y: i64) -> usize
+    requires { ⌜ (isReal x ≡ true) × (isReal y ≡ true) ⌝ }
+    ensures { λ r. ⌜ r ≡ length (gap i ++ pairText x y) ⌝ }
+{
+    let gap = gap_size(i);
+    let first = bare_size(x);
+    let second = bare_size(y);
+    gap + first + 1 + second
+}
+
+// The bytes of the n vertices of a line.
+fn pairs_size(n: usize, s: &[i64]) -> usize
+    requires { ⌜ (n ≤ 9999) × (length (now s) ≡ 2 * n) × (areReals (now s) ≡ true) ⌝ }
+    ensures { λ r. ⌜ r ≡ length (spacedText 0 (now (s .entry))) ⌝ }
+{
+    let mut total = 0;
+    let mut i = 0;
+    while i < n {
+        let x = s[2 * i];
+        let y = s[2 * i + 1];
+        total += pair_size(i, x, y);
+        i += 1;
+    }
+    total
+}
+
+// The bytes of the element of the first row, if it is a line.
+fn row_size(rows: &[i64], points: &[i64]) -> usize
+    requires { ⌜ Drawn (now rows) (now points) ⌝ }
+    ensures { λ r. ⌜ r ≡ length (rowElement (tablesOf (now (rows .entry)) [] [] (now (points .entry)))) ⌝ }
+{
+    if count_at(rows, 0) == LINE_KIND {
+        let code = digit_count(count_at(rows, CODE_PLACE));
+        let n = count_at(rows, VERTICES_PLACE);
+        let count = digit_count(n);
+        let p = 2 * n;
+        let pairs = pairs_size(n, &points[..p]);
+        return FRAME + code + count + pairs;
+    }
+    0
+}
+
+// The bytes of all elements; one more than a file may have where they are too many.
+fn lines_size(count: usize, rows: &[i64], letters: &[u8], islands: &[u16], points: &[i64]) -> usize
+    requires { ⌜ judgeRows Loose count noneBefore (tablesOf (now rows) (now letters) (now islands) (now points)) ≡ Fine ⌝ }
+    ensures { λ r. ⌜ r ≡ min (length (cmlText count (tablesOf (now (rows .entry)) (now (letters .entry)) (now (islands .entry)) (now (points .entry))))) (fileMost + 1) ⌝ }
+{
+    let mut d = Stand {
+        row: 0,
+        letters: 0,
+        islands: 0,
+        points: 0,
+    };
+    let mut total = 0;
+    let mut k = 0;
+    while k < count {
+        let r = d.row;
+        let p = d.points;
+        total += row_size(&rows[r..], &points[p..]);
+        if total > FILE_MOST {
+            return FILE_MOST + 1;
+        }
+        d = stand_next(rows, d);
+        k += 1;
+    }
+    total
+}
+
+// The length, the room, then the text of a sheet that was judged.
+fn lines_judged(
+    count: usize,
+    rows: &[i64],
+    letters: &[u8],
+    islands: &[u16],
+    points: &[i64],
+    out: &mut [u8],
+) -> Written
+    requires { ⌜ judgeRows Loose count noneBefore (tablesOf (now rows) (now letters) (now islands) (now points)) ≡ Fine ⌝ }
+    ensures { λ r. ⌜ r ≡ writtenAfter Fine (length (cmlText count (tablesOf (now (rows .entry)) (now (letters .entry)) (now (islands .entry)) (now (points .entry))))) (length (now (out .entry))) ⌝ }
+    ensures { λ r. ⌜ now (out .exit) ≡ outputOf r (cmlText count (tablesOf (now (rows .entry)) (now (letters .entry)) (now (islands .entry)) (now (points .entry)))) (now (out .entry)) ⌝ }
+{
+    let needed = lines_size(count, rows, letters, islands, points);
+    if needed > FILE_MOST {
+        return Written::TooLong;
+    }
+    if needed > out.len() {
+        return Written::NoRoom(needed);
+    }
+    put_lines(out, count, rows, letters, islands, points);
+    Written::Wrote(needed)
+}
+
+// Writes the lines of a sheet to the start of `out`, one element for each LINEA row, where the sheet is well made and there is room.
+pub fn cml_lines(
+    header: Header,
+    count: usize,
+    rows: &[i64],
+    letters: &[u8],
+    islands: &[u16],
+    points: &[i64],
+    out: &mut [u8],
+) -> Written
+    ensures { λ r. ⌜ r ≡ cmlOf header count (tablesOf (now (rows .entry)) (now (letters .entry)) (now (islands .entry)) (now (points .entry))) (length (now (out .entry))) ⌝ }
+    ensures { λ r. ⌜ now (out .exit) ≡ outputOf r (cmlText count (tablesOf (now (rows .entry)) (now (letters .entry)) (now (islands .entry)) (now (points .entry)))) (now (out .entry)) ⌝ }
+{
+    match judge(Mode::Loose, header, count, rows, letters, islands, points) {
+        Verdict::Fine => lines_judged(count, rows, letters, islands, points, out),
+        Verdict::BadHeader => Written::Refused(Verdict::BadHeader),
+        Verdict::Faulty(k) => Written::Refused(Verdict::Faulty(k)),
+        Verdict::Unlisted(k) => Written::Refused(Verdict::Unlisted(k)),
+    }
+}
