@@ -25,13 +25,14 @@ typedef struct {
     cxf_edited (*remove)(CXF_TABLES, uint64_t);
     cxf_edited (*move)(CXF_TABLES, int64_t, int64_t);
     cxf_sup_checked (*sup_check)(CXF_SHEET, const uint8_t *, size_t);
+    cxf_written (*cml)(CXF_SHEET, uint8_t *, size_t);
 } party;
 
 static const party PARTIES[] = {
     { "library", cxf_read, cxf_write, cxf_tally_sheet, cxf_ring_check, cxf_sup_write, cxf_mask_of, cxf_remove, cxf_move,
-      cxf_sup_check },
+      cxf_sup_check, cxf_cml_lines },
     { "reference", ref_read, ref_write, ref_tally_sheet, ref_ring_check, ref_sup_write, ref_mask_of, ref_remove, ref_move,
-      ref_sup_check },
+      ref_sup_check, ref_cml_lines },
 };
 enum { LIBRARY, REFERENCE, COUNT };
 
@@ -140,6 +141,14 @@ static tables parcels(size_t size) {
     return t;
 }
 
+/* Lines of so many vertices; their CML text is shorter than their file. */
+static tables lines(size_t vertices, size_t size) {
+    tables t = empty_sheet(2 * size);
+    for (size_t length = 60; length + 28 * vertices + 20 < size; length += 28 * vertices + 20)
+        add_row(&t, 5, 6, "", vertices, 9e6, 1500000000, 5000000000);
+    return t;
+}
+
 /* ---- the items */
 
 typedef struct { tables sheet; bytes text, sup; uint64_t mode; } job;
@@ -171,6 +180,11 @@ static uint64_t sup_item(const party *p, const job *j, tables *to, bytes *out) {
 static uint64_t check_item(const party *p, const job *j, tables *to, bytes *out) {
     (void)to, (void)out;
     return p->sup_check(SHEET(&j->sheet), j->sup.at, j->sup.len).number;
+}
+
+static uint64_t cml_item(const party *p, const job *j, tables *to, bytes *out) {
+    (void)to;
+    return p->cml(SHEET(&j->sheet), out->at, out->len).number;
 }
 
 /* A mask of the border in row 0, about its place. */
@@ -273,6 +287,7 @@ int main(int argc, char **argv) {
     job listed = job_of(parcels(FULL), false), listed4 = job_of(parcels(FULL / 4), false);
     measure("sup", sup_item, exact, exact4);
     measure("sup parcels", sup_item, listed, listed4);
+    measure("cml", cml_item, job_of(lines(300, FULL), false), job_of(lines(300, FULL / 4), false));
     measure("check", check_item, exact, exact4);
     measure("check parcels", check_item, listed, listed4);
     return 0;

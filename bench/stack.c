@@ -164,6 +164,7 @@ static uint64_t call_listing(work *w) { return call_listed(w, cxf_listing); }
 static uint64_t call_convert(work *w) { return call_listed(w, cxf_convert); }
 static uint64_t call_sup(work *w) { return cxf_sup_write(CXF_SPREAD(w->sheet), DATE, sizeof DATE - 1, w->out, w->out_len).number; }
 static uint64_t call_sup_check(work *w) { return cxf_sup_check(CXF_SPREAD(w->sheet), w->sup, w->sup_len).number; }
+static uint64_t call_cml(work *w) { return cxf_cml_lines(CXF_SPREAD(w->sheet), w->out, w->out_len).number; }
 static uint64_t call_mask(work *w) { return cxf_mask_of(CXF_SPREAD(w->sheet), 0, -2100000, 4300000, 10000).number; }
 
 #define TABLES(w)                                                                                                        \
@@ -194,6 +195,7 @@ static const struct { const char *name; uint64_t (*call)(work *); } FUNCTIONS[] 
     { "cxf_move", call_move },
     { "cxf_convert", call_convert },
     { "cxf_sup_check", call_sup_check },
+    { "cxf_cml_lines", call_cml },
 };
 
 /* ---- the painted stack ---- */

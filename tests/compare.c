@@ -19,12 +19,13 @@
 
 typedef enum {
     READ, WRITE, BORDER_AT, TEXT_AT, RING_AREA, NET_AREA, TALLY_SHEET, TALLY_TAKE, RING_CHECK, TILE_POINT, RECORD_AT, INTEGER, REAL,
-    LISTING, SUP_WRITE, MASK_OF, REMOVE, MOVE, CONVERT, SUP_CHECK, ENTRIES
+    LISTING, SUP_WRITE, MASK_OF, REMOVE, MOVE, CONVERT, SUP_CHECK, CML_LINES, ENTRIES
 } entry;
 
 static const char *const NAMES[ENTRIES] = {
     "read", "write", "border_at", "text_at", "ring_area", "net_area", "tally_sheet", "tally_take", "ring_check", "tile_point",
     "record_at", "integer", "real", "listing", "sup_write", "mask_of", "remove", "move", "convert", "sup_check",
+    "cml_lines",
 };
 
 /* How often the reference gave each number, so that thin coverage shows. */
@@ -40,6 +41,7 @@ static uint64_t kinds_read[LAST_KIND + 1], joined_files, joined_tallies;
 static uint64_t masks_empty, masks_full, masks_part, masks_through, masks_level, masks_flat;
 static uint64_t removed[LAST_KIND + 1][4], moved_back; /* by the row's kind; only row, first, last, between */
 static uint64_t sup_other, sup_wrong[8]; /* right files that are not T-01's; wrong lines: the date, counts, FABBRIC, listed, .. */
+static uint64_t cml_elements, cml_several, cml_unlike;
 static uint64_t answers, differences, shown_most = 1;
 
 /* ---- What is being asked, for the report ---- */
@@ -658,6 +660,19 @@ static cxf_mask try_mask(const tables *t, uint64_t row, frame f) {
     return mine;
 }
 
+static cxf_written try_cml(rng *g, const tables *t, size_t out_len) {
+    ask_sheet(CML_LINES, t);
+    arg("out_len", out_len);
+    uint8_t *out = lend(&OUT, g, out_len, 1);
+    memset(OUT.at, (int)below(g, 256), OUT.len);
+    uint8_t *mine_out = copied(&out_copy, &OUT);
+    const cxf_written theirs = cxf_cml_lines(LENT(t), out, out_len), mine = ref_cml_lines(OWN(t), mine_out, out_len);
+    const char *lent = sheet_altered(t);
+    if (lent == NULL && !holds(&OUT, mine_out)) lent = "what was written, or what lies around it, differs";
+    judge(of_written(theirs), of_written(mine), lent);
+    return mine;
+}
+
 #define ALTERED(t, rows, letters, islands, points)                                                                   \
     (t)->kind, (t)->name, (t)->name_len, (t)->scale, (t)->count, rows, (t)->rows_len, letters, (t)->letters_len, islands, \
         (t)->islands_len, points, (t)->points_len
@@ -785,7 +800,7 @@ static uint64_t some_mode(rng *g, bool exact) { return !exact ? 0 : one_in(g, 4)
 /* Loose, exact or former. */
 static uint64_t any_mode(rng *g) { return one_in(g, 3) ? 2 : some_mode(g, one_in(g, 2)); }
 
-enum { BORDO = 1, TESTO = 2 };
+enum { BORDO = 1, TESTO = 2, LINEA = 5 };
 
 /* Far off, or good in its low bits alone. */
 static uint64_t far_from(rng *g, uint64_t n) { return one_in(g, 2) ? any(g) : n | 1ull << between(g, 32, 63); }
@@ -1069,6 +1084,67 @@ static void move_once(rng *g, const tables *t, pair by) {
     if (try_edit(g, t, MOVE, 0, by, &moved).number == 0) look_at_moved(g, t, by, &moved);
 }
 
+static bytes cml_of(const tables *t) {
+    bytes b = {0};
+    const cxf_written need = ref_cml_lines(OWN(t), NULL, 0);
+    b.len = b.room = (size_t)need.length;
+    b.at = malloc(b.len + 1);
+    if (b.at == NULL) exit(2);
+    if (need.number == 14) ref_cml_lines(OWN(t), b.at, b.len);
+    return b;
+}
+
+static void *twin(const void *from, size_t n) {
+    void *to = malloc(n + 1);
+    if (to == NULL) exit(2);
+    memcpy(to, from, n);
+    return to;
+}
+
+/* "two well made sheets whose lines agree in order, code, outside mark and points give the same bytes, and sheets whose lines differ in any
+   of these give unlike ones": the same sheet with its lines alone, under another name, and with one line altered. */
+static void look_at_cml(rng *g, const tables *t, const uint8_t *text, size_t length) {
+    tables twin_sheet = *t;
+    twin_sheet.rows = twin(t->rows, t->rows_len * sizeof t->rows[0]);
+    twin_sheet.letters = twin(t->letters, t->letters_len);
+    twin_sheet.islands = twin(t->islands, t->islands_len * sizeof t->islands[0]);
+    twin_sheet.points = twin(t->points, t->points_len * sizeof t->points[0]);
+    for (uint64_t row = t->count; row-- > 0;)
+        if (twin_sheet.rows[ROW_WIDTH * row] != LINEA) twin_sheet.count = ref_remove(OWN(&twin_sheet), row).count;
+    twin_sheet.rows_len = (size_t)twin_sheet.count * ROW_WIDTH;
+    twin_sheet.kind = 1;
+    twin_sheet.scale = 1;
+    memcpy(twin_sheet.name, "A000_000000", 11);
+    bytes other_text = cml_of(&twin_sheet);
+    if (other_text.len != length || memcmp(other_text.at, text, length) != 0) own_fault("the lines of a sheet depend on more than its lines");
+    free(other_text.at);
+    if (alter_line(g, &twin_sheet)) {
+        other_text = cml_of(&twin_sheet);
+        if (other_text.len == length && memcmp(other_text.at, text, length) == 0) own_fault("sheets whose lines differ give the same bytes");
+        free(other_text.at);
+        cml_unlike++;
+    }
+    free(twin_sheet.rows);
+    free(twin_sheet.letters);
+    free(twin_sheet.islands);
+    free(twin_sheet.points);
+}
+
+/* The sheet is lent. */
+static void cml_once(rng *g, const tables *t) {
+    size_t out_len = (size_t)ref_cml_lines(OWN(t), NULL, 0).length;
+    if (one_in(g, 4) && out_len > 0) out_len -= one_in(g, 2) ? 1 : 1 + below(g, out_len);
+    else if (one_in(g, 2)) out_len += below(g, 50);
+    const cxf_written w = try_cml(g, t, out_len);
+    if (w.number != 0) return;
+    for (uint64_t row = 0; row < t->count; row++) {
+        if (t->rows[ROW_WIDTH * row] != LINEA) continue;
+        cml_elements++;
+        if (t->rows[ROW_WIDTH * row + 11] > 1000) cml_several++;
+    }
+    if (one_in(g, 4)) look_at_cml(g, t, out_copy.at, (size_t)w.length);
+}
+
 /* Questions on one sheet; `all` asks each, else some. */
 static void question_sheet(rng *g, const tables *t, bool all) {
     lend_sheet(g, t);
@@ -1094,6 +1170,7 @@ static void question_sheet(rng *g, const tables *t, bool all) {
     }
     if (all || one_in(g, 3)) sup_once(g, t);
     if (all || one_in(g, 3)) check_once(g, t);
+    if (all || one_in(g, 3)) cml_once(g, t);
     if (all || one_in(g, 6)) mask_once(g, t, make_frame(g, t));
     if (all || one_in(g, 3)) {
         const uint64_t row = some_row(g, t, one_in(g, 3) ? TESTO : BORDO);
@@ -1381,6 +1458,27 @@ static void edit_case(rng *g, size_class size) {
     for (int i = 0; i < (size == LONG ? 1 : 3); i++) remove_once(g, &sheet);
 }
 
+static void lines_case(rng *g, size_class size) {
+    make_lines(g, size, &sheet);
+    if (one_in(g, 12)) damage_sheet(g, &sheet);
+    if (one_in(g, 4)) lengthen(g, &sheet);
+    lend_sheet(g, &sheet);
+    for (int i = 0; i < (size == LONG ? 1 : 3); i++) cml_once(g, &sheet);
+}
+
+/* Texts at the length limit. */
+static void big_lines_case(rng *g) {
+    static const size_t lengths[] = {FILE_LIMIT - 1, FILE_LIMIT, FILE_LIMIT + 1, FILE_LIMIT + 2, 1000000};
+    const size_t length = lengths[below(g, 5)];
+    make_full_lines(g, length, &second);
+    lend_sheet(g, &second);
+    const cxf_written need = ref_cml_lines(OWN(&second), NULL, 0);
+    if (need.number != (length > FILE_LIMIT ? 1 : 14) || (need.number == 14 && need.length != length))
+        own_fault("lines made for one length have another");
+    try_cml(g, &second, length);
+    try_cml(g, &second, length - 1);
+}
+
 static void number_case(rng *g) {
     for (int i = 0; i < 4; i++) {
         file.len = 0;
@@ -1469,6 +1567,7 @@ static void sheet_file_case(rng *g, size_class size) {
 static void one_case(rng *g) {
     const uint64_t draw = below(g, 100000);
     if (draw < 20) big_case(g);
+    else if (draw < 40) big_lines_case(g);
     else if (draw < 300) wound_case(g);
     else if (draw < 800) sheet_file_case(g, LONG);
     else if (draw < 1200) sheet_case(g, LONG);
@@ -1481,6 +1580,8 @@ static void one_case(rng *g) {
     else if (draw < 18000) joined_case(g);
     else if (draw < 18100) edit_case(g, LONG);
     else if (draw < 24000) edit_case(g, one_in(g, 2) ? SHORT : MIDDLE);
+    else if (draw < 24300) lines_case(g, LONG);
+    else if (draw < 27000) lines_case(g, one_in(g, 2) ? SHORT : MIDDLE);
     else if (draw < 42000) sheet_file_case(g, SHORT);
     else if (draw < 55000) sheet_file_case(g, MIDDLE);
     else if (draw < 74000) sheet_case(g, SHORT);
@@ -1594,6 +1695,8 @@ static void print_counts(void) {
            (unsigned long long)sup_other, (unsigned long long)sup_wrong[0], (unsigned long long)sup_wrong[1], (unsigned long long)sup_wrong[2],
            (unsigned long long)sup_wrong[3], (unsigned long long)sup_wrong[4], (unsigned long long)sup_wrong[5], (unsigned long long)sup_wrong[6],
            (unsigned long long)sup_wrong[7]);
+    printf("  CML elements %llu, of more than 1000 vertices %llu; sheets with one line altered %llu\n", (unsigned long long)cml_elements,
+           (unsigned long long)cml_several, (unsigned long long)cml_unlike);
     printf("  conversions: clean files %llu, REFUSED", (unsigned long long)converted);
     for (int n = 0; n < NUMBERS; n++)
         if (convert_says[n] > 0) printf("  %d:%llu", n, (unsigned long long)convert_says[n]);

@@ -1126,6 +1126,95 @@ void lengthen(rng *g, tables *t) {
 #undef LENGTHEN
 }
 
+/* ---- Sheets of lines ---- */
+
+static void add_line(rng *g, tables *t, size_t n, at origin) {
+    int64_t row[WIDTH] = {0};
+    row[KIND] = LINEA;
+    row[OUTSIDE] = one_in(g, 2) ? 1 : 0;
+    row[CODE] = one_in(g, 3) ? other_code(g) : listed_code(g, LINEA);
+    row[VERTICES] = (int64_t)n;
+    for (size_t i = 0; i < n; i++) add_point(t, some_real(g, origin.x), some_real(g, origin.y));
+    add_row(t, row);
+}
+
+void make_lines(rng *g, size_class size, tables *t) {
+    static const size_t lengths[] = {2, 3, 999, 1000, 1001, 1002, 1999, 2000, 2001, 3000, 9000, 9998, 9999};
+    empty_sheet(g, t);
+    const at origin = some_origin(g);
+    for (size_t i = below(g, 6); i > 0; i--) {
+        if (one_in(g, 3)) add_element(g, t, SHORT, origin);
+        add_line(g, t, size == LONG ? PICK(g, lengths) : 2 + below(g, size == SHORT ? 4 : 40), origin);
+    }
+}
+
+/* The bytes of an element of n vertices, its coordinates apart: tags, attributes, commas and what parts the pairs. */
+static size_t bare_element(const int64_t *row) {
+    char text[32];
+    const size_t n = (size_t)row[VERTICES], coords = (n + 999) / 1000;
+    return strlen("<LINEA valenza=\"CONSOLID\" esterconf=\"NO\" cod=\"\" n.vert=\"\"></LINEA>\n") +
+           (size_t)snprintf(text, sizeof text, "%lld%lld", (long long)row[CODE], (long long)row[VERTICES]) + coords * strlen("<COORD></COORD>") +
+           n + (n - coords);
+}
+
+/* A line of 2 vertices whose element has so many bytes, 5 to 12 for each coordinate. */
+static void add_exact_line(tables *t, const int64_t row[WIDTH], size_t length) {
+    size_t left = length - bare_element(row);
+    int64_t xy[4];
+    for (size_t i = 0; i < 4; i++) {
+        const size_t rest = 5 * (3 - i), size = left - rest > 12 ? 12 : left - rest;
+        xy[i] = 1000; /* 1.000 has 5 bytes */
+        for (size_t k = 5; k < size; k++) xy[i] *= 10;
+        left -= size;
+    }
+    add_point(t, xy[0], xy[1]);
+    add_point(t, xy[2], xy[3]);
+    add_row(t, row);
+}
+
+void make_full_lines(rng *g, size_t length, tables *t) {
+    empty_sheet(g, t);
+    int64_t row[WIDTH] = {0};
+    row[KIND] = LINEA;
+    size_t left = length;
+    while (left > 3000) { /* coordinates of 5 bytes, 0.000 to 9.999 */
+        row[CODE] = listed_code(g, LINEA);
+        row[OUTSIDE] = one_in(g, 2) ? 1 : 0;
+        size_t n = one_in(g, 2) ? 9999 : 2 + below(g, 3000);
+        if (12 * n + 200 > left - 1500) n = 2 + (left - 1500) / 24;
+        row[VERTICES] = (int64_t)n;
+        for (size_t i = 0; i < n; i++) add_point(t, between(g, 0, 9999), between(g, 0, 9999));
+        add_row(t, row);
+        left -= bare_element(row) + 10 * n;
+    }
+    row[CODE] = 1;
+    row[VERTICES] = 2;
+    const size_t least = bare_element(row) + 20;
+    for (size_t lines = left / least; lines > 0; lines--) {
+        const size_t part = lines == 1 ? left : left - least * (lines - 1) > least + 28 ? least + 28 : left - least * (lines - 1);
+        add_exact_line(t, row, part);
+        left -= part;
+    }
+}
+
+bool alter_line(rng *g, tables *t) {
+    const size_t rows = t->rows_len / WIDTH, start = below(g, rows + 1);
+    for (size_t i = 0; i < rows; i++) {
+        const size_t which = (start + i) % rows;
+        int64_t *row = t->rows + WIDTH * which;
+        if (row[KIND] != LINEA) continue;
+        size_t first = 0;
+        for (size_t k = 0; k < which; k++) first += (size_t)t->rows[WIDTH * k + VERTICES];
+        int64_t *n = t->points + 2 * first + below(g, 2 * (uint64_t)row[VERTICES]);
+        if (one_in(g, 3)) row[OUTSIDE] = 1 - row[OUTSIDE];
+        else if (one_in(g, 2)) row[CODE] = row[CODE] == 0 ? 1 : one_in(g, 2) ? row[CODE] - 1 : row[CODE] / 10;
+        else if (*n == 0) *n = one_in(g, 2) ? 1 : -1;
+        else *n = one_in(g, 2) && -*n >= REAL_LOW ? -*n : *n > 0 ? *n - 1 : *n + 1;
+        return true;
+    }
+    return false;
+}
+
 /* ---- Sheets damaged ---- */
 
 static void stretch(rng *g, size_t *len, size_t room) {

@@ -75,6 +75,12 @@ void make_moved(rng *g, size_class size, tables *t, pair *by);
 pair make_pair(rng *g);
 /* Lengthens the tables of a sheet, or some, with numbers that are no part of it. */
 void lengthen(rng *g, tables *t);
+/* A well made sheet of lines, of 2 vertices, 1000, 1001, 2000, 9999 and others, among other rows; any code. */
+void make_lines(rng *g, size_class size, tables *t);
+/* A well made sheet whose lines make a CML text of exactly `length` bytes (a million or more). */
+void make_full_lines(rng *g, size_t length, tables *t);
+/* Alters one line of a well made sheet: its outside mark, its code, or a coordinate. False where there is none. */
+bool alter_line(rng *g, tables *t);
 /* A sheet that is whole but for one count or length just past its rule: an island of 3, a line of 1 or of 10,000, 256
    letters and the like, with all that belongs to it. As a file too it is refused for that alone. */
 void make_odd(rng *g, tables *t);

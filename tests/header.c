@@ -51,6 +51,7 @@ DECLARE_MASK(cxf)
 DECLARE_EDITS(cxf)
 DECLARE_CONVERT(cxf)
 DECLARE_SUP_CHECK(cxf)
+DECLARE_CML(cxf)
 
 /* ---- structs: the offset, the size and the type of each field ---- */
 

@@ -1,4 +1,4 @@
-/* The reference: document 01's base, and T-01 to T-10 of document 02, in plain C, written from the papers for clarity, not for
+/* The reference: document 01's base, and T-01 to T-11 of document 02, in plain C, written from the papers for clarity, not for
    speed. It shares no line with the library. The sentences in comments are document 01's, or the interface paper's; those
    of the SUP file are T-01's, those of masks T-03's. */
 #include "reference.h"
@@ -24,6 +24,7 @@
 #define CELL_MOST 10000
 #define MASK_REACH 40000000LL
 #define MOVE_MOST 109999999998LL
+#define COORD_MOST 1000u
 
 /* The refusal numbers, by the names of document 01's table. */
 enum {
@@ -697,10 +698,15 @@ static void put_integer(writer *w, int64_t value) {
     put_line(w, text);
 }
 
+/* A real with its three decimals, not padded. */
+static void spell_real(char token[40], int64_t value) {
+    const long long size = value < 0 ? -(long long)value : (long long)value; /* only numbers in range come here */
+    snprintf(token, 40, "%s%lld.%03lld", value < 0 ? "-" : "", size / 1000, size % 1000);
+}
+
 static void put_real(writer *w, int64_t value) {
     char token[40], text[64];
-    const long long size = value < 0 ? -(long long)value : (long long)value; /* only numbers in range come here */
-    snprintf(token, sizeof token, "%s%lld.%03lld", value < 0 ? "-" : "", size / 1000, size % 1000);
+    spell_real(token, value);
     snprintf(text, sizeof text, "%12s", token);
     put_line(w, text);
 }
@@ -1550,4 +1556,58 @@ size_t near_sup(CXF_SHEET, const uint8_t *date, uint8_t *out) {
     free(borders);
     free(lines);
     return (size_t)(SUP_LINE * line_count);
+}
+
+/* ---- Lines as CML ---- */
+
+static void put_words(writer *w, const char *text) { put(w, text, strlen(text)); }
+
+/* T-11: "COORD with `x,y` pairs parted by one blank, three decimals, no padding". 001, note 9: "Ciascun elemento contiene al massimo 1000
+   vertici", so a longer line has several, filled in turn. */
+static void put_coord(writer *w, const sheet *s, size_t first, size_t vertices) {
+    char x[40], y[40];
+    put_words(w, "<COORD>");
+    for (size_t i = 0; i < vertices; i++) {
+        spell_real(x, point_x(s, first + i));
+        spell_real(y, point_y(s, first + i));
+        put_words(w, i == 0 ? "" : " ");
+        put_words(w, x);
+        put_words(w, ",");
+        put_words(w, y);
+    }
+    put_words(w, "</COORD>");
+}
+
+/* "attributes `valenza`, `esterconf`, `cod`, `n.vert` in that order, then COORD"; "Each element stands on one line ending in LF, with no
+   blank between tags and no outer document." */
+static void put_element(writer *w, const sheet *s, uint64_t row, spot at) {
+    const int64_t *n = row_of(s, row);
+    char tag[120];
+    snprintf(tag, sizeof tag, "<LINEA valenza=\"CONSOLID\" esterconf=\"%s\" cod=\"%lld\" n.vert=\"%lld\">", n[OUTSIDE] == 1 ? "SI" : "NO",
+             (long long)n[CODE_AT], (long long)n[VERTICES]);
+    put_words(w, tag);
+    for (size_t done = 0, all = (size_t)n[VERTICES]; done < all; done += COORD_MOST)
+        put_coord(w, s, at.points + done, all - done < COORD_MOST ? all - done : COORD_MOST);
+    put_words(w, "</LINEA>\n");
+}
+
+static void put_elements(writer *w, const sheet *s) {
+    spot at = {0, 0, 0};
+    for (uint64_t row = 0; row < s->count; row++) {
+        if (row_of(s, row)[KIND] == LINEA) put_element(w, s, row, at);
+        at = after_row(s, row, at);
+    }
+}
+
+/* "Refusals: 6, 15, 1 above 16,777,216 bytes, 14 with the needed length." */
+cxf_written ref_cml_lines(CXF_SHEET, uint8_t *out, size_t out_len) {
+    const sheet s = THE_SHEET;
+    const refusal r = judge_sheet(&s);
+    if (r.number != 0) return (cxf_written){r.number, r.row, 0};
+    writer measure = {NULL, 0}, w = {out, 0};
+    put_elements(&measure, &s);
+    if (measure.length > FILE_LIMIT) return (cxf_written){TOO_LONG, 0, 0};
+    if (measure.length > out_len) return (cxf_written){NO_ROOM, 0, measure.length};
+    put_elements(&w, &s);
+    return (cxf_written){0, 0, w.length};
 }

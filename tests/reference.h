@@ -117,6 +117,14 @@ DECLARE_SUP_CHECK(ref)
 size_t near_sup(CXF_SHEET, const uint8_t *date, uint8_t *out);
 #endif
 
+/* T-11: row with 15; length written, or needed with 14 */
+#define DECLARE_CML(P) cxf_written P##_cml_lines(CXF_SHEET, uint8_t *out, size_t out_len);
+
+#ifndef STRUCTS_ALONE
+DECLARE_CML(cxf)
+DECLARE_CML(ref)
+#endif
+
 #define DECLARE_MASK(P) cxf_mask P##_mask_of(CXF_SHEET, uint64_t row, int64_t corner_x, int64_t corner_y, int64_t cell);
 
 #ifndef STRUCTS_ALONE
