@@ -3,9 +3,9 @@ pub mod SupLaws
 pub mod SourceLaws
 pub mod WroteLaws
 pub mod FormLaws
-pub mod RoundWays
+mod RoundWays
 pub mod LineWays
-pub mod TotalWays
+mod TotalWays
 mod DateWays
 pub mod ListedWays
 pub mod TextWays

@@ -1,11 +1,11 @@
 -- The files that are accepted for one sheet are T-01's text with any date that it takes and any figures that are allowed, and nothing else: so two such files
 -- differ in the date and in figures within the allowances, and nowhere else (document 02, T-10). Assumes nothing.
-use Prim.Native.Nat.{ℕ, zero, suc, _+_, _-_, _*_, _≤_, _<_}
+use Prim.Native.Nat.{ℕ, zero, suc, _+_, _*_, _<_}
 use mathlib.Core.Path.{_≡_, refl, sym, ap, ap₂, subst, _∙_}
-use mathlib.Core.List.{List, [], _∷_, _++_, append-assoc}
+use mathlib.Core.List.{List, [], _∷_, _++_, append-assoc, append-nil}
 use mathlib.Core.Bool.{Bool, true, false, cond, _&&_}
 use native.Mathlib.Omega.{arith}
-use lib.ListN.{length, getD, take, drop, length-append, length-drop}
+use lib.ListN.{length, getD, take, drop, length-append}
 use lib.Dec.{eqb}
 use lib.IntN.{ℤ, pos, _-ℤ_}
 use borrow.Author.Tests.{eqb-true, eq-eqb}
@@ -23,20 +23,15 @@ use Rattle.sup.specs.Lines.{FigureLine, fieldsLine, dateText, linesText}
 use Rattle.sup.specs.Sup.{CodeNet, bordersIn, islandsIn, exactTotal, isLimited, headLines, figureLines, figuresIn}
 use Rattle.sup.specs.Answer.{codesInOrder}
 use Rattle.sup.proofs.SupLaws.{line-length}
-use Rattle.supcheck.specs.declared.SupChecked.{SupChecked}
 use Rattle.supcheck.specs.declared.SupChecked.the-variants.{Accepted, PastTotal, WrongLine}
 use Rattle.supline.specs.Right.{counted, DueLine, dueLine, lineFrom, figureIn, dateIn, isRightLine, isRightDate}
 use Rattle.supcheck.specs.Due.{dueUnder, headDues, headDue, dueWith, balanceIn, dueLines}
-use Rattle.supcheck.specs.Checked.{rightFrom, rightLines, lineCount, checkedLines, totalChecked, afterTally, supChecked}
+use Rattle.supcheck.specs.Checked.{rightFrom, rightLines, checkedLines, totalChecked, afterTally, supChecked}
 use Rattle.supcheck.specs.Allowed.{linesWith, Allowed, Allowed.noneDue, Allowed.nextDue, balanceOf, textWith, AllowedFile}
 use Rattle.supcheck.proofs.RightLaws.{AllRight, AllRight.nothing, AllRight.onward, right-all, all-right}
 use Rattle.supcheck.proofs.DueLaws.{SameNames, SameNames.nameless, SameNames.alike, due-count, due-names}
 use Rattle.supline.proofs.NearWays.{near-itself}
 use Rattle.supline.proofs.LineLaws.{next-line, behind-line, figure-back, line-right, right-line, date-long, date-right, right-date}
-
-append-none : (s : List ℕ) → s ++ [] ≡ s
-append-none [] = refl
-append-none (b ∷ s) = ap (λ (x : List ℕ). b ∷ x) (append-none s)
 
 -- the figures that stand in lines, from line k on
 unfoldable pub figuresAt : List ℕ → ℕ → List DueLine → List ℤ
@@ -161,7 +156,7 @@ module _ (h : Header) (f : List ℤ) (c : List CodeNet) (s : List ℕ) where
       let d = right-date (h .name) s (b .0) in
       let lines : List ℕ = linesText (linesWith (figureLines (h .kind) f c) z) in
       let rest : drop 23 s ≡ lines
-      = right-text s 1 (due-names (h .kind) f c (balanceIn size s)) (b .1) ∙ ap (λ (x : List ℕ). lines ++ x) (all-read (a .1)) ∙ append-none lines in
+      = right-text s 1 (due-names (h .kind) f c (balanceIn size s)) (b .1) ∙ ap (λ (x : List ℕ). lines ++ x) (all-read (a .1)) ∙ append-nil lines in
       record {
         date = dateIn s;
         figures = z;
@@ -191,7 +186,7 @@ module _ (h : Header) (f : List ℤ) (c : List CodeNet) (s : List ℕ) where
 
     behind-first : lineFrom s 1 ≡ lines ++ []
     unfolding lineFrom
-    behind-first = ap (drop 23) text-is ∙ behind-line (h .name) (dateText (g .date)) lines (g .named) (date-long (g .date) (g .dated)) ∙ sym (append-none lines)
+    behind-first = ap (drop 23) text-is ∙ behind-line (h .name) (dateText (g .date)) lines (g .named) (date-long (g .date) (g .dated)) ∙ sym (append-nil lines)
 
     reads : Found s 1 (dueWith (h .kind) f c balance) found
     reads = text-right s 1 [] names-are (g .allowed) behind-first

@@ -1,12 +1,12 @@
 -- The ways through the functions that say what figures have to be near, and that cutting counts and allowances off alters no answer. Assumes nothing.
-use Prim.Native.Nat.{ℕ, zero, suc, _+_, _-_, _*_, _^_, _≤_, _<_}
-use mathlib.Core.Path.{_≡_, refl, sym, ap, ap₂, subst, _∙_}
-use mathlib.Core.List.{List, [], _∷_, _++_}
+use Prim.Native.Nat.{ℕ, _+_, _^_, _≤_, _<_}
+use mathlib.Core.Path.{_≡_, refl, sym, ap, ap₂, _∙_}
+use mathlib.Core.List.{List, [], _∷_}
 use mathlib.Core.Bool.{Bool, true, false, cond, _&&_}
 use native.Mathlib.Omega.{arith}
-use lib.ListN.{length, getD, take, drop, replicate}
+use lib.ListN.{length, getD}
 use lib.Dec.{eqb, lit<}
-use lib.IntN.{ℤ, pos, negsuc, natAbs, _+ℤ_, _-ℤ_, _*ℤ_}
+use lib.IntN.{ℤ, pos, _+ℤ_, _-ℤ_, _*ℤ_}
 use lib.Signed.{mag, ltZ, leZ}
 use mir.Syntax.{w64}
 use mir.Val.{SFits, toZ, ofZ}
@@ -15,16 +15,15 @@ use borrow.Author.Tests.{eq-eqb, ne-eqb}
 use Rattle.laws.specs.Whole.{Within, lowZ}
 use Rattle.laws.specs.Text.{text}
 use Rattle.laws.proofs.Bits.{Holds, back, holds-as, holds-of, holds-bits, read-within, ask-add, holds-add, ask-sub, holds-sub, ask-mul, holds-mul, low-yes, low-no}
-use Rattle.laws.proofs.Bounds.{within-fits, within-lit, within-le}
-use Rattle.laws.proofs.Choice.{and-left, and-right}
+use Rattle.laws.proofs.Bounds.{within-fits, within-lit}
+use Rattle.laws.proofs.Choice.{and-left}
 use Rattle.laws.proofs.Parts.{P, N, num, sum, diff, ints, fit-parts, le-true}
-use Rattle.classes.specs.declared.Class.{Class}
 use Rattle.classes.specs.declared.Class.the-variants.{Confine, Other, Road, Water, Building, Parcel}
 use Rattle.tally.specs.Tally.{isFigure, Good}
 use Rattle.tally.proofs.TallyWays.{tally-at, figure-fits}
 use Rattle.spelling.specs.Figures.{isNarrow, figureText}
 use Rattle.sup.specs.Lines.{leftField, fieldsLine}
-use Rattle.sup.specs.Sup.{bordersIn, outerIn, islandsIn, innerIn, netIn, exactTotal, exactConfine, headLines, footLines}
+use Rattle.sup.specs.Sup.{bordersIn, islandsIn, innerIn, netIn, exactTotal, exactConfine, headLines, footLines}
 use Rattle.sup.specs.ExactAreas.{exactAreas}
 use Rattle.sup.proofs.TextWays.{headNames, footNames}
 use Rattle.supline.specs.Right.{Due, due, counted, DueLine, dueLine, lineFrom, figureIn, isFields, isNear, isRightLine}
@@ -346,23 +345,6 @@ module _ (kind : ℕ) (f v : List ℤ) (e : v ≡ exactAreas kind f) where
 -- of two numbers in locals
 pub foot-as : (v x : List ℤ) (t b : ℤ) → mag t < 2 ^ 63 → (z : ℤ) → mag z < 2 ^ 63 → z ≡ b → x ≡ footExact v (held t) (held z) → x ≡ footExact v t b
 foot-as v x t b mt z mz e q = q ∙ rw (back t mt, back z mz, e)
-
--- ---- what the walks ask
-
-pub head-asks : (f v x a : List ℤ) → x ≡ headExact f v → a ≡ headAllowed f → (66 ≡ 11 * length x) × (length a ≡ length x) × (1 + length x < 2 ^ 64)
-unfolding headExact headAllowed
-head-asks f v x a ex ea =
-    let i : length x ≡ 6 = ap length ex in
-    let j : length a ≡ 6 = ap length ea in
-    (omega (arith, i), omega (arith, i, j), omega (arith, i))
-
-pub foot-asks : (kind : ℕ) (f v : List ℤ) (t b : ℤ) (x a : List ℤ) → x ≡ footExact v t b → a ≡ footAllowed kind f → (n : ℕ) → n < 2 ^ 60
-    → (77 ≡ 11 * length x) × (length a ≡ length x) × (7 + n + length x < 2 ^ 64)
-unfolding footExact footAllowed
-foot-asks kind f v t b x a ex ea n h =
-    let i : length x ≡ 7 = ap length ex in
-    let j : length a ≡ 7 = ap length ea in
-    (omega (arith, i), omega (arith, i, j), omega (arith, i))
 
 -- ---- the balance of a file
 

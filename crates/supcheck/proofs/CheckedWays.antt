@@ -1,8 +1,8 @@
 -- The ways through the functions that count all right lines of a file, and answer. Assumes nothing.
-use Prim.Native.Nat.{ℕ, suc, _+_, _-_, _*_, _^_, _≤_, _<_}
-use mathlib.Core.Path.{_≡_, refl, sym, ap, subst, _∙_}
-use mathlib.Core.List.{List, [], _∷_, _++_}
-use mathlib.Core.Bool.{Bool, true, false, cond, not, _&&_}
+use Prim.Native.Nat.{ℕ, suc, _+_, _*_, _^_, _≤_, _<_}
+use mathlib.Core.Path.{_≡_, refl, sym, ap, _∙_}
+use mathlib.Core.List.{List, _++_}
+use mathlib.Core.Bool.{Bool, true, false, cond, not}
 use native.Mathlib.Omega.{arith}
 use lib.ListN.{length}
 use lib.Dec.{eqb}
@@ -25,13 +25,12 @@ use Rattle.tally.proofs.RunningLaws.{tally-good, tally-fine}
 use Rattle.sup.specs.declared.ExactSheet.{ExactSheet}
 use Rattle.sup.specs.declared.Total.{Total}
 use Rattle.sup.specs.declared.Total.the-variants.{Is, Past}
-use Rattle.sup.specs.Sup.{CodeNet, exactTotal, isLimited}
+use Rattle.sup.specs.Sup.{CodeNet, exactTotal}
 use Rattle.sup.specs.Totals.{totalOf}
 use Rattle.sup.specs.ExactAreas.{exactAreas, exactOf}
 use Rattle.sup.specs.Answer.{codesInOrder}
 use Rattle.sup.proofs.TextWays.{past-is, is-is, limited-small}
 use Rattle.sup.proofs.ListedWays.{listed-held}
-use Rattle.supcheck.specs.declared.SupChecked.{SupChecked}
 use Rattle.supcheck.specs.declared.SupChecked.the-variants.{Accepted, Refused, PastTotal, WrongLine}
 use Rattle.supline.specs.Right.{DueLine, isRightDate}
 use Rattle.supcheck.specs.Due.{headDue, listedDue, footDue, dueWith, balanceIn, dueLines}
@@ -166,6 +165,3 @@ module _ (h : Header) (count : ℕ) (t : Tables) (s : List ℕ) (x : ExactSheet)
     pub tally-checked : totalChecked h (x .figures) (codesInOrder h count t) s ≡ supChecked h count t s
     unfolding supChecked exactOf
     tally-checked = rw (none-is, e)
-
-pub ruleset checked-ways =
-    (count-date, count-head, count-listed, count-foot, listed-small, right-few, lines-wrong, bytes-behind, lines-accepted, total-past, total-known, total-small, total-on, tally-refused, tally-asks, tally-checked)

@@ -1,6 +1,6 @@
 -- The lines that are due are T-01's: as many, of the same names, in the same order (document 02, T-10). Assumes nothing.
 use Prim.Native.Nat.{ℕ, suc, _+_}
-use mathlib.Core.Path.{_≡_, refl, sym, ap, ap₂, _∙_}
+use mathlib.Core.Path.{_≡_, refl, ap, _∙_}
 use mathlib.Core.List.{List, [], _∷_, _++_}
 use native.Mathlib.Omega.{arith}
 use lib.ListN.{length, length-append}
@@ -12,9 +12,9 @@ use Rattle.order.specs.SupOrder.{supInOrder}
 use Rattle.order.proofs.OrderLaws.{in-order-length}
 use Rattle.sup.specs.Lines.{FigureLine}
 use Rattle.sup.specs.Sup.{CodeNet, headLines, listedLines, footLines, figureLines}
-use Rattle.sup.specs.Answer.{codeNets, codesInOrder}
+use Rattle.sup.specs.Answer.{codesInOrder}
 use Rattle.sup.proofs.SupLaws.{nets-count}
-use Rattle.supline.specs.Right.{Due, DueLine}
+use Rattle.supline.specs.Right.{DueLine}
 use Rattle.supcheck.specs.Due.{dueUnder, headDues, headDue, listedDues, listedDue, footDues, footDue, dueWith}
 
 -- ---- as many

@@ -3,18 +3,18 @@
 use Prim.Native.Nat.{ℕ, zero, suc, _+_, _-_}
 use mathlib.Core.Path.{_≡_, refl, sym, ap, _∙_}
 use mathlib.Core.List.{List, [], _∷_}
-use mathlib.Core.Bool.{Bool, true, false, cond, _&&_}
+use mathlib.Core.Bool.{Bool, true, false, cond}
 use native.Mathlib.Omega.{arith}
 use lib.ListN.{length, getD, take}
 use lib.Dec.{leb}
 use lib.IntN.{ℤ, pos, _+ℤ_}
 use lib.Signed.{leZ}
 use Rattle.laws.proofs.Choice.{false≢true, and-left, and-right}
-use Rattle.laws.proofs.Parts.{P, N, num, sum, ints, eq-parts}
+use Rattle.laws.proofs.Parts.{P, N, num, sum, ints}
 use Rattle.kinds.specs.Kinds.{islandsPlace, verticesPlace}
 use Rattle.heading.specs.declared.Header.{Header}
 use Rattle.sheet.specs.Tables.{Tables}
-use Rattle.made.specs.Made.{countAt, islandsOf, restOf}
+use Rattle.made.specs.Made.{countAt, restOf}
 use Rattle.made.specs.Made as made
 use Rattle.classes.specs.declared.Class.{Class}
 use Rattle.classes.specs.declared.Class.the-variants.{Confine, Other, Road, Water, Building, Parcel}

@@ -1,20 +1,17 @@
 -- The ways through the functions that count right lines: those behind the walk are right. Assumes nothing.
-use Prim.Native.Nat.{ℕ, zero, suc, _+_, _-_, _*_, _^_, _≤_, _<_}
-use mathlib.Core.Path.{_≡_, refl, sym, ap, subst, _∙_}
-use mathlib.Core.List.{List, [], _∷_, _++_}
-use mathlib.Core.Bool.{Bool, true, false, cond, not, _&&_}
+use Prim.Native.Nat.{ℕ, suc, _+_, _-_, _*_, _^_, _≤_, _<_}
+use mathlib.Core.Path.{_≡_, sym, ap, _∙_}
+use mathlib.Core.List.{List, [], _∷_}
+use mathlib.Core.Bool.{Bool, true, false, cond, not}
 use native.Mathlib.Nat.{sub-zero}
 use native.Mathlib.Omega.{arith}
 use lib.ListN.{length, getD, take, drop}
 use lib.IntN.{ℤ, pos}
 use lib.Signed.{mag}
 use mir.Syntax.{w64}
-use mir.Val.{SFits, toZ, ofZ}
-use mir.Facts.{toZ-ofZ}
+use mir.Val.{toZ, ofZ}
 use borrow.Author.Tests.{not-true, not-false}
-use Rattle.laws.specs.Whole.{Within}
 use Rattle.laws.proofs.Bits.{back}
-use Rattle.laws.proofs.Choice.{true≢false, false≢true}
 use Rattle.laws.proofs.ListLaws.{left as from-at, left-none}
 use Rattle.record.specs.declared.Mode.the-variants.{Loose}
 use Rattle.heading.specs.declared.Header.{Header}
@@ -24,21 +21,19 @@ use Rattle.made.specs.Made.{tablesOf, lettersOf, noneBefore, judgeRows}
 use Rattle.row.specs.declared.Stand.{Stand}
 use Rattle.row.specs.Walk.{leftAt}
 use Rattle.area.specs.Questions.{netAreaOf}
-use Rattle.spelling.specs.Figures.{isNarrow, figureText}
 use Rattle.order.specs.declared.Since.the-variants.{First, Past}
 use Rattle.order.specs.declared.Window.{Window}
 use Rattle.order.specs.SupOrder.{netLeft, supInOrder}
 use Rattle.order.specs.Windows.{windowWidth, Shows, windowOf}
 use Rattle.order.proofs.OrderLaws.{Small, in-order-length}
 use Rattle.order.proofs.TurnLaws.{Turning, turning-start, turning-end, turning-more, turning-item, turning-on, turning-next}
-use Rattle.sup.specs.Sup.{CodeNet, listedLines}
+use Rattle.sup.specs.Sup.{listedLines}
 use Rattle.sup.specs.Answer.{codeNets, codesInOrder}
 use Rattle.sup.proofs.ListedWays.{listed-held}
-use Rattle.supline.specs.Right.{Due, due, DueLine, dueLine, lineFrom, figureIn, isFields, isNear, isRightLine}
+use Rattle.supline.specs.Right.{due, DueLine, dueLine, lineFrom, isRightLine}
 use Rattle.supcheck.specs.Due.{dueUnder, listedDues, listedDue}
 use Rattle.supcheck.specs.Checked.{rightFrom}
 use Rattle.supcheck.specs.Walking.{packedFrom, packedDue}
-use Rattle.supline.proofs.LineLaws.{narrow-line}
 
 -- ---- lines whose names stand one behind the other
 
@@ -149,9 +144,3 @@ module _ {h : Header} {count : ℕ} {t : Tables} {s : List ℕ} {w : Window} {i 
 
     pub counting-next : not b ≡ false → (v : Window) → Shows v (windowOf h count t (Past (getD (w .items) j z))) → Counting h count t s v (i + 1) 0
     counting-next f v x = record { turns = turning-next (g .turns) e z v x; rest = counted-on f }
-
-pub ruleset border-ways = (border-known)
-
-pub ruleset righting-ways = (righting-start, righting-end, righting-stop, righting-on)
-
-pub ruleset counting-ways = (counting-start, counting-end, counting-stop, counting-on, counting-next)

@@ -1,13 +1,13 @@
 -- "Every file T-01 writes for the sheet is accepted" (document 02, T-10): its rounding stays within every allowance. Assumes nothing.
-use Prim.Native.Nat.{ℕ, zero, suc, _+_, _*_, _≤_, _<_}
-use mathlib.Core.Path.{_≡_, refl, sym, ap, ap₂, subst, _∙_}
+use Prim.Native.Nat.{ℕ, zero, suc, _+_}
+use mathlib.Core.Path.{_≡_, refl, ap, ap₂, _∙_}
 use mathlib.Core.List.{List, [], _∷_, _++_}
 use mathlib.Core.Bool.{Bool, true, false, cond}
 use native.Mathlib.Omega.{arith}
-use lib.ListN.{length, getD, length-append}
+use lib.ListN.{length, getD}
 use lib.Seq.{getD-append-add}
 use lib.Dec.{eqb}
-use lib.IntN.{ℤ, pos, negsuc, natAbs, _+ℤ_, _-ℤ_, _*ℤ_}
+use lib.IntN.{ℤ, pos, _+ℤ_, _-ℤ_, _*ℤ_}
 use Rattle.laws.proofs.Parts.{P, N, num, sum, diff, ints, eq-parts}
 use Rattle.heading.specs.declared.Header.{Header}
 use Rattle.sheet.specs.Tables.{Tables}
@@ -15,18 +15,17 @@ use Rattle.classes.specs.declared.Class.{Class}
 use Rattle.classes.specs.declared.Class.the-variants.{Confine, Other, Road, Water, Building, Parcel}
 use Rattle.tally.proofs.RunningLaws.{tally-fine}
 use Rattle.tally.specs.Take.{tallyOf}
-use Rattle.spelling.specs.Figures.{isNarrow}
 use Rattle.sup.specs.declared.SupAnswer.the-variants.{Wrote}
 use Rattle.sup.specs.Metres.{metresOf}
 use Rattle.sup.specs.Lines.{FigureLine}
 use Rattle.sup.specs.Sup.{CodeNet, bordersIn, outerIn, islandsIn, innerIn, netIn, exactTotal, exactConfine, headLines, listedLines, footLines, balance, figureLines, supText, figuresIn}
 use Rattle.sup.specs.Answer.{codesInOrder, sheetSup, supOf}
-use Rattle.sup.proofs.SupLaws.{metres-low, metres-high, Fitting, Fittings, Fittings.none, Fittings.more, lines-fit, listed-count}
+use Rattle.sup.proofs.SupLaws.{metres-low, metres-high, Fittings, Fittings.none, Fittings.more, lines-fit, listed-count}
 use Rattle.sup.proofs.WroteLaws.{SupWritten, wrote-sheet, header-named}
 use Rattle.supcheck.specs.declared.SupChecked.the-variants.{Accepted}
-use Rattle.supline.specs.Right.{Due, due, counted, DueLine, isNear}
+use Rattle.supline.specs.Right.{Due, due, DueLine, isNear}
 use Rattle.supcheck.specs.Due.{dueUnder, headDues, headDue, listedDues, listedDue, totalAllowance, confineAllowance, footDues, footDue, dueWith}
-use Rattle.supcheck.specs.Checked.{checkedLines, totalChecked, supChecked}
+use Rattle.supcheck.specs.Checked.{totalChecked, supChecked}
 use Rattle.supcheck.specs.Allowed.{linesWith, Allowed, Allowed.noneDue, Allowed.nextDue, balanceOf, textWith, AllowedFile}
 use Rattle.supline.proofs.NearWays.{metre, times, near-yes}
 use Rattle.supcheck.proofs.NoneLaws.{Four, Fours, tally-fours, class-four}

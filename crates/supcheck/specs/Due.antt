@@ -9,7 +9,7 @@ use lib.Dec.{eqb}
 use lib.IntN.{ℤ, pos, _+ℤ_, _-ℤ_}
 use Rattle.classes.specs.declared.Class.the-variants.{Confine, Other, Road, Water, Building, Parcel}
 use Rattle.sup.specs.Lines.{FigureLine}
-use Rattle.sup.specs.Sup.{CodeNet, bordersIn, outerIn, islandsIn, innerIn, netIn, unionKind, exactTotal, exactConfine, headLines, listedLines, footLines}
+use Rattle.sup.specs.Sup.{CodeNet, bordersIn, islandsIn, innerIn, netIn, unionKind, exactTotal, exactConfine, headLines, listedLines, footLines}
 use Rattle.supline.specs.Right.{Due, due, counted, DueLine, dueLine, lineFrom, figureIn}
 
 -- T-01's lines by name, each with what is due there

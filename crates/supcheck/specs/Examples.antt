@@ -4,7 +4,7 @@ use Prim.Native.String.{String}
 use mathlib.Core.Path.{_≡_, refl}
 use mathlib.Core.List.{List, [], _∷_, _++_}
 use lib.ListN.{take}
-use lib.IntN.{ℤ, pos, negℤ}
+use lib.IntN.{ℤ, pos}
 use Rattle.laws.specs.Lists.{same, holds}
 use Rattle.laws.specs.Text.{text}
 use Rattle.number.specs.Number.{value}
@@ -14,7 +14,7 @@ use Rattle.made.specs.declared.Verdict.the-variants.{BadHeader}
 use Rattle.made.specs.Made.{tablesOf}
 use Rattle.made.specs.Examples.{header}
 use Rattle.tally.specs.declared.Refusal.the-variants.{Sheet}
-use Rattle.tally.specs.Tally.{limit, noFigures}
+use Rattle.tally.specs.Tally.{limit}
 use Rattle.sup.specs.Sup.{CodeNet, supText}
 use Rattle.sup.specs.AnswerExamples.{computed as computedSup}
 use Rattle.supcheck.specs.declared.SupChecked.{SupChecked}

@@ -1,6 +1,5 @@
 // How many lines of a SUP file are right at the beginning (document 02, T-10).
 ghost use mathlib.Core.Path.{_≡_};
-ghost use mathlib.Core.List.{[]};
 ghost use Prim.Native.Nat.{_+_, _*_, _^_, _<_};
 ghost use lib.ListN.{length};
 ghost use lib.IntN.{pos};

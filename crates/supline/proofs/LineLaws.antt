@@ -1,14 +1,13 @@
 -- A right line is T-01's line of its name and the figure that stands there, and such a line is right (document 02, T-10). Assumes nothing.
-use Prim.Native.Nat.{ℕ, suc, _+_, _-_, _*_, _≤_}
-use mathlib.Core.Path.{_≡_, refl, sym, ap, ap₂, subst, _∙_}
+use Prim.Native.Nat.{ℕ, _+_, _-_, _*_, _≤_}
+use mathlib.Core.Path.{_≡_, refl, sym, ap, _∙_}
 use mathlib.Core.List.{List, [], _∷_, _++_, append-assoc}
-use mathlib.Core.Bool.{Bool, true, false, _&&_}
+use mathlib.Core.Bool.{Bool, true, false}
 use native.Mathlib.Omega.{arith}
 use lib.ListN.{length, take, drop, replicate, length-append, length-take, length-replicate, take-append-drop}
 use lib.Seq.{take-at, drop-drop, drop-append-seam}
 use lib.IntN.{ℤ}
-use Rattle.laws.specs.Lists.{same}
-use Rattle.laws.proofs.Choice.{and-left, and-right, and-both}
+use Rattle.laws.proofs.Choice.{and-left, and-right}
 use Rattle.laws.proofs.ListLaws.{same-is, same-refl}
 use Rattle.spelling.specs.Spelling.{aligned}
 use Rattle.spelling.specs.Figures.{isNarrow, figureText}
@@ -17,7 +16,7 @@ use Rattle.sup.specs.Date.{isDate}
 use Rattle.sup.specs.Lines.{leftField, fieldsLine, dateText}
 use Rattle.sup.proofs.SupLaws.{line-length}
 use Rattle.sup.proofs.TextWays.{date-eight}
-use Rattle.supline.specs.Right.{DueLine, lineFrom, rightField, figureSaid, figureIn, dateIn, isFields, isNear, isRightLine, isRightDate}
+use Rattle.supline.specs.Right.{DueLine, lineFrom, rightField, figureIn, dateIn, isFields, isNear, isRightLine, isRightDate}
 use Rattle.supline.proofs.SaidLaws.{figure-said, figure-sizes, narrow-by-size}
 
 -- line k + 1 stands behind line k
@@ -27,7 +26,7 @@ next-line s k = drop-drop 23 (23 * k) s ∙ ap (λ (n : ℕ). drop n s) (let e :
 
 -- ---- the form of a line
 
-fields-size : (n r : List ℕ) → length (fieldsLine n r) ≡ (11 - length n) + length n + length r + 2
+pub fields-size : (n r : List ℕ) → length (fieldsLine n r) ≡ (11 - length n) + length n + length r + 2
 unfolding fieldsLine leftField
 fields-size n r =
     let pad = replicate {A = ℕ} (11 - length n) 32 in

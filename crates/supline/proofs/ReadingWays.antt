@@ -1,24 +1,24 @@
 -- The ways through the functions that read a line: its parts, its figure, its date. Assumes nothing.
-use Prim.Native.Nat.{ℕ, zero, suc, _+_, _-_, _*_, _/_, _^_, _≤_, _<_}
-use mathlib.Core.Path.{_≡_, refl, sym, ap, ap₂, _∙_}
-use mathlib.Core.List.{List, [], _∷_, _++_, append-assoc}
+use Prim.Native.Nat.{ℕ, suc, _+_, _-_, _*_, _/_, _^_, _≤_, _<_}
+use mathlib.Core.Path.{_≡_, refl, sym, ap, _∙_}
+use mathlib.Core.List.{List, [], _∷_, _++_, append-assoc, append-nil}
 use mathlib.Core.Bool.{Bool, true, false, cond, not, _&&_}
 use native.Mathlib.Nat.{pow-suc, pow-le-pow-right}
 use native.Mathlib.Numerals.{add-one}
 use native.Mathlib.Omega.{arith}
-use lib.ListN.{length, getD, take, drop, replicate, length-append, length-take, length-drop, length-replicate}
-use lib.Seq.{take-all, take-nil, take-add, drop-drop, length-take-le}
+use lib.ListN.{length, getD, take, drop, replicate, length-take, length-drop, length-replicate}
+use lib.Seq.{take-all, take-add, drop-drop, length-take-le}
 use lib.Dec.{leb, eqb, lit<}
-use lib.IntN.{ℤ, pos, negsuc, negℤ, _-ℤ_}
+use lib.IntN.{ℤ, pos, negℤ, _-ℤ_}
 use lib.Signed.{mag}
 use mir.Syntax.{w64}
 use mir.Val.{SFits, toZ, ofZ}
-use mir.Facts.{toZ-ofZ, toZ-pos}
-use borrow.Author.Tests.{not-true, not-false, le-leb}
-use Rattle.laws.specs.Lists.{same, holds, tail, over, pasted}
+use mir.Facts.{toZ-pos}
+use borrow.Author.Tests.{not-true, not-false}
+use Rattle.laws.specs.Lists.{same, holds, tail, over}
 use Rattle.laws.specs.Whole.{Within}
 use Rattle.laws.proofs.Bits.{Holds, holds-bits, ask-sub, holds-sub, read-within, back}
-use Rattle.laws.proofs.Parts.{P, N, diff, neg-P, neg-N, eq-parts}
+use Rattle.laws.proofs.Parts.{diff, neg-P, neg-N, eq-parts}
 use Rattle.laws.proofs.Bounds.{within-lit}
 use Rattle.laws.proofs.ListLaws.{left, left-none, rest-is, same-short}
 use Rattle.number.specs.Number.{value}
@@ -30,6 +30,7 @@ use Rattle.sup.specs.Date.{isDate}
 use Rattle.sup.specs.Lines.{leftField, fieldsLine, dateText}
 use Rattle.sup.proofs.LineWays.{blanks-part, blank-size}
 use Rattle.sup.proofs.TextWays.{date-eight}
+use Rattle.supline.proofs.LineLaws.{fields-size, date-long}
 use Rattle.supline.specs.Right.{lineFrom, rightField, figureSaid, figureIn, dateIn, isFields, isRightDate}
 
 -- ---- parts of the file
@@ -154,34 +155,13 @@ same-parts (c ∷ a) [] x y l = absurd (omega arith)
 same-parts (c ∷ a) (d ∷ b) x y l = rw (same-parts a b x y (omega arith)) (and-assoc (eqb c d) (same a b) (same x y))
 
 module _ (name right s : List ℕ) (ten : length right ≡ 10) where
-  size-least : 23 ≤ length (fieldsLine name right)
-  unfolding fieldsLine leftField
-  size-least =
-      omega (
-        arith,
-        length-append ((name ++ replicate (11 - length name) 32) ++ right) (13 ∷ 10 ∷ []),
-        length-append (name ++ replicate (11 - length name) 32) right,
-        length-append name (replicate (11 - length name) 32),
-        length-replicate {A = ℕ} (11 - length name) 32,
-      )
-
-  size-more : 11 < length name → 23 < length (fieldsLine name right)
-  unfolding fieldsLine leftField
-  size-more h =
-      omega (
-        arith,
-        length-append ((name ++ replicate (11 - length name) 32) ++ right) (13 ∷ 10 ∷ []),
-        length-append (name ++ replicate (11 - length name) 32) right,
-        length-append name (replicate (11 - length name) 32),
-      )
-
   pub fields-short : length s < 23 → false ≡ isFields name right s
   unfolding isFields
-  fields-short h = same-short (take 23 s) (fieldsLine name right) (λ e. omega (arith, length-take 23 s, size-least))
+  fields-short h = same-short (take 23 s) (fieldsLine name right) (λ e. omega (arith, length-take 23 s, fields-size name right))
 
   pub fields-long : 11 < length name → false ≡ isFields name right s
   unfolding isFields
-  fields-long h = same-short (take 23 s) (fieldsLine name right) (λ e. omega (arith, length-take 23 s, size-more h))
+  fields-long h = same-short (take 23 s) (fieldsLine name right) (λ e. omega (arith, length-take 23 s, fields-size name right))
 
   module _ (h : 23 ≤ length s) (k : length name ≤ 11) where
     abbrev size : ℕ
@@ -243,10 +223,6 @@ module _ (name right s : List ℕ) (ten : length right ≡ 10) where
 
 -- ---- the right field that a line has to have
 
-append-none : (s : List ℕ) → s ++ [] ≡ s
-append-none [] = refl
-append-none (b ∷ s) = ap (λ (x : List ℕ). b ∷ x) (append-none s)
-
 abbrev blanks : List ℕ
 blanks = replicate 10 32
 
@@ -256,19 +232,14 @@ module _ (z : ℤ) (n : isNarrow z ≡ true) (m : mag z < 2 ^ 63) where
   figure-spelt r e o f =
       let q : r ≡ true = e ∙ rw (back z m, n) in
       let w : drop (length (figureText z)) blanks ≡ [] = left-none blanks (length (figureText z)) (omega (arith, figure-length z n)) in
-      f ∙ rw (q, back z m, w) (append-none (figureText z))
+      f ∙ rw (q, back z m, w) (append-nil (figureText z))
 
 -- ---- the first line
-
-date-ten : (date : List ℕ) → isDate date ≡ true → length (dateText date) ≡ 10
-unfolding dateText aligned
-date-ten date e =
-    omega (arith, date-eight date e, length-append (replicate {A = ℕ} (10 - length date) 32) date, length-replicate {A = ℕ} (10 - length date) 32)
 
 module _ (name s : List ℕ) where
   short-by : length s < 23 → (b : Bool) → isDate (dateIn s) ≡ b → false ≡ (b && isFields name (dateText (dateIn s)) s)
   short-by h false e = refl
-  short-by h true e = fields-short name (dateText (dateIn s)) s (date-ten (dateIn s) e) h
+  short-by h true e = fields-short name (dateText (dateIn s)) s (date-long (dateIn s) e) h
 
   pub date-short : length s < 23 → false ≡ isRightDate name s
   unfolding isRightDate
@@ -285,10 +256,10 @@ module _ (name s : List ℕ) where
 
       date-field : d ≡ dateText (take 8 (drop 13 s))
       unfolding hasRoom dateText aligned
-      date-field = let l = date-eight (take 8 (drop 13 s)) date-good in w .is ∙ rw l (append-none (32 ∷ 32 ∷ take 8 (drop 13 s)))
+      date-field = let l = date-eight (take 8 (drop 13 s)) date-good in w .is ∙ rw l (append-nil (32 ∷ 32 ∷ take 8 (drop 13 s)))
 
       pub date-size : length d ≡ 10
-      date-size = ap length date-field ∙ date-ten (take 8 (drop 13 s)) date-good
+      date-size = ap length date-field ∙ date-long (take 8 (drop 13 s)) date-good
 
       pub date-known : (x : Bool) → x ≡ isFields name d s → x ≡ isRightDate name s
       unfolding isRightDate dateIn

@@ -1,18 +1,18 @@
 -- A figure is read back from its field (document 02, T-10). Assumes nothing.
 use Prim.Native.Nat.{ℕ, zero, suc, _+_, _-_, _*_, _/_, _%_, _^_, _≤_, _<_}
-use mathlib.Core.Path.{_≡_, refl, sym, ap, _∙_}
+use mathlib.Core.Path.{_≡_, refl, ap, _∙_}
 use mathlib.Core.List.{List, [], _∷_, _++_}
-use mathlib.Core.Bool.{Bool, true, false, cond, _&&_}
+use mathlib.Core.Bool.{Bool, true, false}
 use native.Mathlib.Nat.{pow-suc, pow-le-pow-right}
 use native.Mathlib.Omega.{arith}
 use lib.ListN.{length, replicate, length-append, length-replicate}
-use lib.Dec.{leb, ltb, eqb}
-use lib.IntN.{ℤ, pos, negsuc, negℤ, natAbs}
+use lib.Dec.{leb}
+use lib.IntN.{ℤ, pos, negsuc, natAbs}
 use borrow.Author.Tests.{leb-true, leb-false, le-ltb, ne-eqb, le-leb}
 use Rattle.laws.specs.Lists.{all, holds}
-use Rattle.laws.proofs.Choice.{and-left, and-right, false≢true}
+use Rattle.laws.proofs.Choice.{and-left, and-right}
 use Rattle.number.specs.Number.{digit, value}
-use Rattle.spelling.specs.Spelling.{digits, countText, aligned, minus}
+use Rattle.spelling.specs.Spelling.{digits, countText, aligned}
 use Rattle.spelling.specs.Figures.{wholeText, isNarrow, figureText}
 use Rattle.spelling.proofs.DigitLaws.{digits-all, digit-low}
 use Rattle.spelling.proofs.FigureLaws.{whole-plus, whole-minus, count-value}

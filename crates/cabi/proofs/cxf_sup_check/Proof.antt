@@ -19,7 +19,7 @@ checked-told-requires c κs = search needs
 
 returns : tie.Need-returns
 returns c =
-    let s = c .before .before .before .before .before .before in
+    let s = c .before .before .before .before .before .before .before in
     let t = tablesOf (s .args .rows .now) (s .args .letters .now) (s .args .islands .now) (s .args .points .now) in
     answered checkedTold (λ (h : Header). supChecked h (s .args .count) t (s .args .sup .now)) (c .checked-told .ensures) (c .before .sup-check .ensures)
     (header-asked (s .args .kind) (s .args .name .now) (s .fits .scale) (c .before .before .header-of .ensures))

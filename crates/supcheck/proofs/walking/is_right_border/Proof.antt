@@ -1,6 +1,6 @@
 -- `is_right_border` meets its contract. Assumes nothing.
 use borrow.Author.Needs.{needs}
-use Rattle.supcheck.proofs.WalkingWays.{border-ways}
+use Rattle.supcheck.proofs.WalkingWays.{border-known}
 use Rattle.supcheck.proofs.walking.is_right_border.Statement.{statement}
 use Rattle.supcheck.proofs.walking.is_right_border.Tie as tie
 
@@ -14,7 +14,7 @@ is-right-line-requires : tie.Need-is-right-line-requires
 is-right-line-requires c κs = search needs
 
 returns : tie.Need-returns
-returns c = search (border-ways, needs)
+returns c = search (border-known, needs)
 
 pub is-right-border-spec : {M : Type 1} → statement M
 is-right-border-spec =

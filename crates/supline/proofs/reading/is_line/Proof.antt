@@ -3,7 +3,7 @@ use Prim.Native.Nat.{ℕ}
 use mathlib.Core.Path.{ap, _∙_}
 use mathlib.Core.List.{List}
 use Rattle.supline.specs.Right.{isFields}
-use Rattle.supline.proofs.ReadingWays.{figure-spelt, fields-ways}
+use Rattle.supline.proofs.ReadingWays.{figure-spelt}
 use borrow.Author.Needs.{needs}
 use Rattle.supline.proofs.reading.is_line.Statement.{statement}
 use Rattle.supline.proofs.reading.is_line.Tie as tie
