@@ -9,6 +9,7 @@ use lib.Dec.{eqb}
 use lib.IntN.{ℤ, pos}
 use mir.Syntax.{w64}
 use mir.Val.{toZ, ofZ}
+use borrow.Author.Tests.{eqb-true, eqb-false}
 use Rattle.laws.specs.Text.{text}
 use Rattle.laws.proofs.Choice.{and-left, and-right}
 use Rattle.laws.proofs.ListLaws.{left, left-none}
@@ -22,8 +23,8 @@ use Rattle.made.specs.Made.{areReals}
 use Rattle.writer.specs.Put.{Put}
 use Rattle.writer.proofs.Putting.{Putting, putting-start, putting-room, putting-on, stored-put, stored-on, stored-last, real-back}
 use Rattle.cml.specs.Element.{pairText}
-use Rattle.cml.specs.Spaced.{gap, spacedText}
-use Rattle.cml.proofs.CoordLaws.{gap-first}
+use Rattle.cml.specs.Spaced.{gap, gapsTo, spacedText}
+use Rattle.cml.proofs.CoordLaws.{gap-first, gap-full, gap-blank}
 
 -- ---- nothing, and bytes that are the text
 
@@ -49,6 +50,26 @@ gap-most i = go (eqb i 0) (eqb (i % 1000) 0)
     go true b = omega arith
     go false true = omega arith
     go false false = omega arith
+
+-- what stands before the vertices up to i, and before that one
+some : (k : ℕ) → (k ≡ 0 → ⊥) → 1 ≤ k
+some zero h = absurd (h refl)
+some (suc k) h = omega arith
+
+pub gaps-next : (i : ℕ) → gapsTo (i + 1) ≡ gapsTo i + length (gap i)
+gaps-next i = go (eqb i 0) refl (eqb (i % 1000) 0) refl
+  where
+    go : (a : Bool) → eqb i 0 ≡ a → (b : Bool) → eqb (i % 1000) 0 ≡ b → gapsTo (i + 1) ≡ gapsTo i + length (gap i)
+    go true e b f = let z = eqb-true i 0 e in omega (arith, z, ap length (gap-first i z))
+    go false e true f =
+        let n : i ≡ 0 → ⊥ = eqb-false i 0 e in
+        let z = eqb-true (i % 1000) 0 f in
+        let w : 1 ≤ i = some i n in
+        omega (arith, w, z, ap length (gap-full i n z))
+    go false e false f =
+        let n : i ≡ 0 → ⊥ = eqb-false i 0 e in
+        let z : 1 ≤ i % 1000 = some (i % 1000) (eqb-false (i % 1000) 0 f) in
+        omega (arith, z, ap length (gap-blank i n (eqb-false (i % 1000) 0 f)))
 
 -- ---- a real that is handed on as bits
 
@@ -90,8 +111,9 @@ module _ (i : ℕ) (x y : ℤ) (hx : isReal x ≡ true) (hy : isReal y ≡ true)
   unfolding pairText
   pair-length = omega (arith, length-append (gap i) (bareReal x ++ 44 ∷ bareReal y), length-append (bareReal x) (44 ∷ bareReal y))
 
-  pub pair-sized : (g a b : ℕ) → g ≡ length (gap i) → a ≡ sizeOf (toZ w64 (ofZ w64 x)) → b ≡ sizeOf (toZ w64 (ofZ w64 y)) → g + a + 1 + b ≡ length (gap i ++ pairText x y)
-  pair-sized g a b e f h = omega (arith, pair-length, e, f ∙ size-told x hx, h ∙ size-told y hy)
+pub pair-sized : (x y : ℤ) → isReal x ≡ true → isReal y ≡ true → (a b : ℕ) → a ≡ sizeOf (toZ w64 (ofZ w64 x)) → b ≡ sizeOf (toZ w64 (ofZ w64 y))
+    → a + b ≡ length (bareReal x) + length (bareReal y)
+pair-sized x y hx hy a b f h = omega (arith, f ∙ size-told x hx, h ∙ size-told y hy)
 
 pub size-most : (z : ℤ) → isReal z ≡ true → (a : ℕ) → a ≡ sizeOf (toZ w64 (ofZ w64 z)) → a ≤ 12
 size-most z h a e = omega (arith, e ∙ size-told z h, bare-most z h)
@@ -157,20 +179,34 @@ module _ (s : List ℤ) (n : ℕ) (e : length s ≡ 2 * n) (i : ℕ) where
       pub pair-sizes : (isReal (toZ w64 (ofZ w64 X)) ≡ true) × (isReal (toZ w64 (ofZ w64 Y)) ≡ true)
       pair-sizes = rw (real-back X x-real, real-back Y y-real) (x-real, y-real)
 
-      module _ (total : ℕ) (w : total + length (spacedText i (drop (2 * i) s)) ≡ length (spacedText 0 s)) (r : ℕ) (v : r ≡ length pair) where
-        pub measured-most : r ≤ 40
-        measured-most = omega (arith, v ∙ ap length pair-is, pair-most i X Y x-real y-real)
+      -- the numbers' sizes so far, commas and what stands before the vertices, and what is to come
+      module _ (total : ℕ) (w : total + (i + gapsTo i) + length (spacedText i (drop (2 * i) s)) ≡ length (spacedText 0 s)) (r : ℕ)
+          (v : r ≡ length (bareReal (toZ w64 (ofZ w64 X))) + length (bareReal (toZ w64 (ofZ w64 Y)))) where
+        measured-is : r ≡ length (bareReal X) + length (bareReal Y)
+        measured-is = v ∙ rw (real-back X x-real, real-back Y y-real)
 
-        pub measured-on : total + r + length (spacedText (i + 1) (drop (2 * (i + 1)) s)) ≡ length (spacedText 0 s)
+        pub measured-most : r ≤ 24
+        measured-most = omega (arith, measured-is, bare-most X x-real, bare-most Y y-real)
+
+        pub measured-on : total + r + (i + 1 + gapsTo (i + 1)) + length (spacedText (i + 1) (drop (2 * (i + 1)) s)) ≡ length (spacedText 0 s)
         measured-on =
-            omega (arith, w, v ∙ ap length pair-is, ap length pairs-here, length-append (gap i ++ pairText X Y) (spacedText (i + 1) (drop (2 * (i + 1)) s)))
+            omega (
+              arith,
+              w,
+              measured-is,
+              gaps-next i,
+              pair-length i X Y x-real y-real,
+              ap length pairs-here,
+              length-append (gap i ++ pairText X Y) (spacedText (i + 1) (drop (2 * (i + 1)) s)),
+            )
 
   pub pairs-over : n ≤ i → spacedText i (drop (2 * i) s) ≡ []
   unfolding spacedText
   pairs-over h = rw (left-none s (2 * i) (omega arith))
 
-  pub measured-end : n ≤ i → (total : ℕ) → total + length (spacedText i (drop (2 * i) s)) ≡ length (spacedText 0 s) → total ≡ length (spacedText 0 s)
-  measured-end h total w = omega (arith, w, ap length (pairs-over h))
+  pub measured-end : i ≤ n → n ≤ i → (total g : ℕ) → total + (i + gapsTo i) + length (spacedText i (drop (2 * i) s)) ≡ length (spacedText 0 s) → g ≡ gapsTo n
+      → total + n + g ≡ length (spacedText 0 s)
+  measured-end k h total g w q = let z : i ≡ n = omega arith in omega (arith, w, ap length (pairs-over h), q ∙ ap (λ (j : ℕ). gapsTo j) (sym z), z)
 
 -- ---- the size of a count
 

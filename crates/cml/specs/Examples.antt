@@ -15,7 +15,7 @@ use Rattle.writer.specs.declared.Written.{Written}
 use Rattle.writer.specs.declared.Written.the-variants.{Wrote, NoRoom, Refused}
 use Rattle.cml.specs.Element.{pairText, partedText, pairsText, coordText, coordCount, coordsText, outsideWord, opening, startTag, elementText, elementsText}
 use Rattle.cml.specs.Lines.{polylinesOf, cmlText, cmlOf}
-use Rattle.cml.specs.Spaced.{gap, spacedText}
+use Rattle.cml.specs.Spaced.{gap, gapsTo, spacedText}
 
 -- `cmlText` and `cmlOf` with every definition opened, so that they compute
 unfoldable pub computedText : ℕ → Tables → List ℕ
@@ -41,6 +41,10 @@ outside = refl
 -- lines of 2, 999, 1000, 1001, 2000, 2001 and 9999 vertices have so many COORDs
 counts : (coordCount 2 ≡ 1) × (coordCount 999 ≡ 1) × (coordCount 1000 ≡ 1) × (coordCount 1001 ≡ 2) × (coordCount 2000 ≡ 2) × (coordCount 2001 ≡ 3) × (coordCount 9999 ≡ 10)
 counts = (refl, refl, refl, refl, refl, refl, refl)
+
+-- what stands before so many vertices, all together: a new COORD takes 15 bytes in place of one
+gaps : (gapsTo 0 ≡ 0) × (gapsTo 1 ≡ 0) × (gapsTo 2 ≡ 1) × (gapsTo 1000 ≡ 999) × (gapsTo 1001 ≡ 1014) × (gapsTo 2001 ≡ 2028)
+gaps = (refl, refl, refl, refl, refl, refl)
 
 -- n vertices at 0, 0
 noughts : ℕ → List ℤ

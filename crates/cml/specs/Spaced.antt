@@ -1,6 +1,6 @@
 -- A line's points as the code writes them, vertex by vertex, and what it goes by: document 02, T-11. Assumes nothing: these are definitions.
 -- That this is the text of `Element` is a law (cml/proofs/CoordLaws: `coords-are`).
-use Prim.Native.Nat.{ℕ, _+_, _*_, _%_, _≤_}
+use Prim.Native.Nat.{ℕ, _+_, _-_, _*_, _/_, _%_, _≤_}
 use mathlib.Core.Path.{_≡_}
 use mathlib.Core.List.{List, [], _∷_, _++_}
 use mathlib.Core.Bool.{true, cond}
@@ -18,6 +18,10 @@ use Rattle.cml.specs.Lines.{lineKind, polylineOf}
 -- what stands before vertex i: nothing before the first, a new COORD where the one before it is full, else one blank
 unfoldable pub gap : ℕ → List ℕ
 gap i = cond (eqb i 0) [] (cond (eqb (i % coordMost) 0) (text "</COORD><COORD>") (text " "))
+
+-- the bytes that stand before the first n vertices, all together: one before each but the first, 14 more for each COORD that is full by then
+abbrev pub gapsTo : ℕ → ℕ
+gapsTo n = n - 1 + 14 * ((n - 1) / coordMost)
 
 -- the pairs with what stands before each, the first of them vertex i
 unfoldable pub spacedText : ℕ → List ℤ → List ℕ

@@ -10,6 +10,7 @@ ghost use Rattle.laws.specs.Lists.{over};
 ghost use Rattle.record.specs.Refusals.{fileMost};
 ghost use Rattle.record.specs.declared.Mode.the-variants.{Loose};
 ghost use Rattle.number.specs.Number.{isReal};
+ghost use Rattle.spelling.specs.Spelling.{bareReal};
 ghost use Rattle.made.specs.declared.Verdict.the-variants.{Fine};
 ghost use Rattle.made.specs.Made.{tablesOf, areReals, noneBefore, judgeRows};
 ghost use Rattle.writer.specs.Write.{writtenAfter, outputOf};
@@ -17,7 +18,7 @@ ghost use Rattle.row.specs.Walk.{cellIn};
 ghost use Rattle.writer.specs.Put.{Put};
 ghost use Rattle.cml.specs.Element.{pairText, opening, startTag, elementText};
 ghost use Rattle.cml.specs.Lines.{lineKind, polylineOf, cmlText, cmlOf};
-ghost use Rattle.cml.specs.Spaced.{gap, spacedText, rowElement, Drawn};
+ghost use Rattle.cml.specs.Spaced.{gap, gapsTo, spacedText, rowElement, Drawn};
 use heading::Header;
 use made::Verdict;
 use made::count_at;
@@ -176,31 +177,29 @@ fn put_lines(
     }
 }
 
-// The bytes before vertex i.
-fn gap_size(i: usize) -> usize
-    ensures { λ r. ⌜ r ≡ length (gap i) ⌝ }
-{
-    if i == 0 {
-        return 0;
-    }
-    if i % COORD_MOST == 0 {
-        return 15;
-    }
-    1
-}
-
-// The bytes of vertex i, and those before it.
-fn pair_size(i: usize, x: i64, y: i64) -> usize
+// The bytes of a vertex without its comma.
+fn pair_size(x: i64, y: i64) -> usize
     requires { ⌜ (isReal x ≡ true) × (isReal y ≡ true) ⌝ }
-    ensures { λ r. ⌜ r ≡ length (gap i ++ pairText x y) ⌝ }
+    ensures { λ r. ⌜ r ≡ length (bareReal x) + length (bareReal y) ⌝ }
 {
-    let gap = gap_size(i);
     let first = bare_size(x);
     let second = bare_size(y);
-    gap + first + 1 + second
+    first + second
 }
 
-// The bytes of the n vertices of a line.
+// The bytes that stand before n vertices: one before each but the first, and 14 more where a COORD is full.
+fn gaps_size(n: usize) -> usize
+    requires { ⌜ n ≤ 9999 ⌝ }
+    ensures { λ r. ⌜ r ≡ gapsTo n ⌝ }
+{
+    if n == 0 {
+        return 0;
+    }
+    let k = n - 1;
+    k + 14 * (k / COORD_MOST)
+}
+
+// The bytes of the n vertices of a line, each with its comma, and of what stands before them.
 fn pairs_size(n: usize, s: &[i64]) -> usize
     requires { ⌜ (n ≤ 9999) × (length (now s) ≡ 2 * n) × (areReals (now s) ≡ true) ⌝ }
     ensures { λ r. ⌜ r ≡ length (spacedText 0 (now (s .entry))) ⌝ }
@@ -210,10 +209,10 @@ fn pairs_size(n: usize, s: &[i64]) -> usize
     while i < n {
         let x = s[2 * i];
         let y = s[2 * i + 1];
-        total += pair_size(i, x, y);
+        total += pair_size(x, y);
         i += 1;
     }
-    total
+    total + n + gaps_size(n)
 }
 
 // The bytes of the element of the first row, if it is a line.

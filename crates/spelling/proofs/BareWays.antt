@@ -3,6 +3,7 @@ use Prim.Native.Nat.{ℕ, suc, _+_, _-_, _*_, _/_, _%_, _^_, _≤_, _<_}
 use mathlib.Core.Path.{_≡_, refl, sym, _∙_, ap}
 use mathlib.Core.List.{List, [], _∷_}
 use mathlib.Core.Bool.{Bool, true, false, cond}
+use native.Mathlib.Nat.{pow-suc}
 use native.Mathlib.Omega.{arith}
 use lib.ListN.{length, set, length-append}
 use lib.Seq.{sets-eq}
@@ -11,27 +12,52 @@ use lib.IntN.{ℤ, pos, natAbs}
 use lib.Signed.{ltZ}
 use mir.Syntax.{w64}
 use mir.Val.{SFits, toZ, ofZ}
-use borrow.Author.Tests.{le-leb}
+use borrow.Author.Tests.{le-leb, leb-true, leb-false}
 use Rattle.laws.specs.Lists.{over, pasted}
 use Rattle.laws.proofs.TableLaws.{pasted-none, pasted-front}
 use Rattle.number.specs.Number.{isReal}
 use Rattle.spelling.specs.Stored.{hasRoom, Stored}
 use Rattle.spelling.specs.Spelling.{digits, places, minus, decimal, bareReal, realText}
-use Rattle.spelling.proofs.DigitLaws.{digits-some, digits-most, digits-fit, digits-least, digits-below, digits-alike}
+use Rattle.spelling.proofs.DigitLaws.{digits-some, digits-most, digits-least, digits-wider, digits-below, digits-alike}
 use Rattle.spelling.proofs.SpellingLaws.{decimal-length, body-length}
 use Rattle.spelling.proofs.Ways.{back, abs-most, sign-long, sign-short, hundredth, stored-tight, blanks, aligned-over}
 
 -- ---- how many digits
 
-module _ (n : ℕ) where
-  pub one-digit : n < 10 → 1 ≡ length (digits 8 n)
-  one-digit h = omega (arith, digits-some 8 n (omega arith), digits-fit 8 1 n (omega arith) h)
+-- room for one more adds one where the number reaches that power of ten
+one-further : (w n : ℕ) → length (digits (suc (suc w)) n) ≡ length (digits (suc w) n) + cond (leb (10 ^ suc w) n) 1 0
+one-further w n = go (leb (10 ^ suc w) n) refl
+  where
+    go : (t : Bool) → leb (10 ^ suc w) n ≡ t → length (digits (suc (suc w)) n) ≡ length (digits (suc w) n) + cond t 1 0
+    go true e =
+        let l = leb-true (10 ^ suc w) n e in
+        omega (
+          arith,
+          digits-least (suc (suc w)) (suc w) n (omega arith) l,
+          digits-most (suc (suc w)) n,
+          digits-least (suc w) w n (omega arith) (omega (arith, l, pow-suc 10 w)),
+          digits-most (suc w) n,
+        )
+    go false e = omega (arith, ap length (digits-wider (suc w) (suc (suc w)) n (omega arith) (omega arith) (omega (arith, leb-false (10 ^ suc w) n e))))
 
-  pub more-digits : (k : ℕ) → k < 8 → 10 ^ k ≤ n → n < 10 ^ suc k → suc k ≡ length (digits 8 n)
-  more-digits k h l m = omega (arith, digits-least 8 k n h l, digits-fit 8 (suc k) n (omega arith) m)
+pub reach-most : (k n : ℕ) {r : ℕ} → r ≡ cond (leb k n) 1 0 → r ≤ 1
+reach-most k n e = rw e (go (leb k n))
+  where
+    go : (t : Bool) → cond t 1 0 ≤ 1
+    go true = omega arith
+    go false = omega arith
 
-  pub eight-digits : 10000000 ≤ n → 8 ≡ length (digits 8 n)
-  eight-digits l = omega (arith, digits-least 8 7 n (omega arith) l, digits-most 8 n)
+pub digits-sum : (n : ℕ) {a b c d e f g : ℕ} → a ≡ cond (leb 10 n) 1 0 → b ≡ cond (leb 100 n) 1 0 → c ≡ cond (leb 1000 n) 1 0 → d ≡ cond (leb 10000 n) 1 0
+    → e ≡ cond (leb 100000 n) 1 0 → f ≡ cond (leb 1000000 n) 1 0 → g ≡ cond (leb 10000000 n) 1 0 → 1 + a + b + c + d + e + f + g ≡ length (digits 8 n)
+digits-sum n p q r s t u v =
+    let i : length (digits 2 n) ≡ length (digits 1 n) + cond (leb 10 n) 1 0 = one-further 0 n in
+    let j : length (digits 3 n) ≡ length (digits 2 n) + cond (leb 100 n) 1 0 = one-further 1 n in
+    let k : length (digits 4 n) ≡ length (digits 3 n) + cond (leb 1000 n) 1 0 = one-further 2 n in
+    let l : length (digits 5 n) ≡ length (digits 4 n) + cond (leb 10000 n) 1 0 = one-further 3 n in
+    let m : length (digits 6 n) ≡ length (digits 5 n) + cond (leb 100000 n) 1 0 = one-further 4 n in
+    let o : length (digits 7 n) ≡ length (digits 6 n) + cond (leb 1000000 n) 1 0 = one-further 5 n in
+    let w : length (digits 8 n) ≡ length (digits 7 n) + cond (leb 10000000 n) 1 0 = one-further 6 n in
+    omega (arith, p, q, r, s, t, u, v, i, j, k, l, m, o, w, digits-some 1 n (omega arith), digits-most 1 n)
 
 -- ---- its size
 

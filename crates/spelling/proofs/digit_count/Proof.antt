@@ -1,34 +1,72 @@
--- `digit_count` meets its contract: one answer for each power of ten.
+-- `digit_count` meets its contract: one digit, and one more for each power of ten that the number reaches.
 use native.Mathlib.Omega.{arith}
-use Rattle.spelling.proofs.BareWays.{one-digit, more-digits, eight-digits}
+use borrow.Author.Needs.{needs}
+use Rattle.spelling.proofs.BareWays.{reach-most, digits-sum}
 use Rattle.spelling.proofs.digit_count.Statement.{statement}
 use Rattle.spelling.proofs.digit_count.Tie as tie
 
+reaches-requires : tie.Need-reaches-requires
+reaches-requires c κs = search needs
+
+reaches-requires-2 : tie.Need-reaches-requires-2
+reaches-requires-2 c κs = search needs
+
+reaches-requires-3 : tie.Need-reaches-requires-3
+reaches-requires-3 c κs = search needs
+
+add-four : tie.Need-add-four
+add-four c = let n = c .before .before .before .args .n in omega (arith, reach-most 1000 n (c .reaches3 .ensures), reach-most 100 n (c .before .reaches2 .ensures), reach-most 10 n (c .before .before .reaches .ensures))
+
+add-four-2 : tie.Need-add-four-2
+add-four-2 c = let n = c .before .before .before .args .n in omega (arith, reach-most 1000 n (c .reaches3 .ensures), reach-most 100 n (c .before .reaches2 .ensures), reach-most 10 n (c .before .before .reaches .ensures))
+
+add-four-3 : tie.Need-add-four-3
+add-four-3 c = let n = c .before .before .before .args .n in omega (arith, reach-most 1000 n (c .reaches3 .ensures), reach-most 100 n (c .before .reaches2 .ensures), reach-most 10 n (c .before .before .reaches .ensures))
+
+reaches-requires-4 : tie.Need-reaches-requires-4
+reaches-requires-4 c κs = search needs
+
+reaches-requires-5 : tie.Need-reaches-requires-5
+reaches-requires-5 c κs = search needs
+
+reaches-requires-6 : tie.Need-reaches-requires-6
+reaches-requires-6 c κs = search needs
+
+reaches-requires-7 : tie.Need-reaches-requires-7
+reaches-requires-7 c κs = search needs
+
+add-result : tie.Need-add-result
+add-result c = let n = c .before .before .before .before .before .before .before .args .n in omega (arith, reach-most 10000000 n (c .reaches7 .ensures), reach-most 1000000 n (c .before .reaches6 .ensures), reach-most 100000 n (c .before .before .reaches5 .ensures), reach-most 10000 n (c .before .before .before .reaches4 .ensures), reach-most 1000 n (c .before .before .before .before .reaches3 .ensures), reach-most 100 n (c .before .before .before .before .before .reaches2 .ensures), reach-most 10 n (c .before .before .before .before .before .before .reaches .ensures))
+
+add-result-2 : tie.Need-add-result-2
+add-result-2 c = let n = c .before .before .before .before .before .before .before .args .n in omega (arith, reach-most 10000000 n (c .reaches7 .ensures), reach-most 1000000 n (c .before .reaches6 .ensures), reach-most 100000 n (c .before .before .reaches5 .ensures), reach-most 10000 n (c .before .before .before .reaches4 .ensures), reach-most 1000 n (c .before .before .before .before .reaches3 .ensures), reach-most 100 n (c .before .before .before .before .before .reaches2 .ensures), reach-most 10 n (c .before .before .before .before .before .before .reaches .ensures))
+
+add-result-3 : tie.Need-add-result-3
+add-result-3 c = let n = c .before .before .before .before .before .before .before .args .n in omega (arith, reach-most 10000000 n (c .reaches7 .ensures), reach-most 1000000 n (c .before .reaches6 .ensures), reach-most 100000 n (c .before .before .reaches5 .ensures), reach-most 10000 n (c .before .before .before .reaches4 .ensures), reach-most 1000 n (c .before .before .before .before .reaches3 .ensures), reach-most 100 n (c .before .before .before .before .before .reaches2 .ensures), reach-most 10 n (c .before .before .before .before .before .before .reaches .ensures))
+
+add-result-4 : tie.Need-add-result-4
+add-result-4 c = let n = c .before .before .before .before .before .before .before .args .n in omega (arith, reach-most 10000000 n (c .reaches7 .ensures), reach-most 1000000 n (c .before .reaches6 .ensures), reach-most 100000 n (c .before .before .reaches5 .ensures), reach-most 10000 n (c .before .before .before .reaches4 .ensures), reach-most 1000 n (c .before .before .before .before .reaches3 .ensures), reach-most 100 n (c .before .before .before .before .before .reaches2 .ensures), reach-most 10 n (c .before .before .before .before .before .before .reaches .ensures))
+
 returns : tie.Need-returns
-returns c = one-digit _ (c .if1 .taken)
-
-returns-2 : tie.Need-returns-2
-returns-2 c = more-digits (c .before .before .args .n) 1 (omega arith) (c .before .if1 .left) (c .if2 .taken)
-
-returns-3 : tie.Need-returns-3
-returns-3 c = more-digits (c .before .before .before .args .n) 2 (omega arith) (c .before .if2 .left) (c .if3 .taken)
-
-returns-4 : tie.Need-returns-4
-returns-4 c = more-digits (c .before .before .before .before .args .n) 3 (omega arith) (c .before .if3 .left) (c .if4 .taken)
-
-returns-5 : tie.Need-returns-5
-returns-5 c = more-digits (c .before .before .before .before .before .args .n) 4 (omega arith) (c .before .if4 .left) (c .if5 .taken)
-
-returns-6 : tie.Need-returns-6
-returns-6 c = more-digits (c .before .before .before .before .before .before .args .n) 5 (omega arith) (c .before .if5 .left) (c .if6 .taken)
-
-returns-7 : tie.Need-returns-7
-returns-7 c = more-digits (c .before .before .before .before .before .before .before .args .n) 6 (omega arith) (c .before .if6 .left) (c .if7 .taken)
-
-returns-8 : tie.Need-returns-8
-returns-8 c = eight-digits _ (c .if7 .left)
+returns c =
+    digits-sum (c .before .before .before .before .before .before .before .args .n) (c .before .before .before .before .before .before .reaches .ensures) (c .before .before .before .before .before .reaches2 .ensures) (c .before .before .before .before .reaches3 .ensures) (c .before .before .before .reaches4 .ensures) (c .before .before .reaches5 .ensures) (c .before .reaches6 .ensures) (c .reaches7 .ensures)
 
 pub digit-count-spec : {M : Type 1} → statement M
 digit-count-spec =
     tie.close
-    (tie.spec returns returns-2 returns-3 returns-4 returns-5 returns-6 returns-7 returns-8)
+    (tie.spec
+    reaches-requires
+    reaches-requires-2
+    reaches-requires-3
+    add-four
+    add-four-2
+    add-four-3
+    reaches-requires-4
+    reaches-requires-5
+    reaches-requires-6
+    reaches-requires-7
+    add-result
+    add-result-2
+    add-result-3
+    add-result-4
+    returns)
