@@ -28,7 +28,7 @@ unfoldable pub computed : Header → ℕ → Tables → List ℕ → SupChecked
 unfolding supChecked totalChecked checkedLines rightLines rightFrom dueLines dueWith balanceIn headDue headDues listedDue listedDues footDue footDues totalAllowance confineAllowance dueUnder isRightLine isRightDate isFields isNear figureIn figureSaid rightField dateIn lineFrom same holds value computedSup
 computed h count t s = supChecked h count t s
 
--- ---- two parcels dueUnder 7, of 2.5 m2 and a little more; a road of a little less than 2 m2; the sheet's border of 10 m2
+-- ---- two parcels under the code 7, of 2.5 m2 and a little more; a road of a little less than 2 m2; the sheet's border of 10 m2
 
 abbrev four : ℕ → ℕ → ℕ → ℕ → List ℤ → List ℤ
 four a b c d s = pos a ∷ pos b ∷ pos c ∷ pos d ∷ s

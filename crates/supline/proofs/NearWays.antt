@@ -17,7 +17,6 @@ use Rattle.laws.proofs.Parts.{P, N, num, add-parts, sub-parts-ℤ, neg-P, neg-N
 use Rattle.spelling.specs.Figures.{isNarrow}
 use Rattle.spelling.proofs.FigureLaws.{narrow-plus, narrow-minus}
 use Rattle.supline.specs.Right.{isNear}
-use Rattle.supline.proofs.SaidLaws.{narrow-small}
 
 abbrev pub metre : ℤ
 metre = pos 2000000
@@ -108,8 +107,8 @@ module _ (f d n : ℤ) where
 -- ---- figures of ten characters
 
 pub narrow-within : (z : ℤ) → isNarrow z ≡ true → Within 9999999999 z
-narrow-within (pos a) e = record { within = leb-true a 9999999999 (sym (narrow-plus a (narrow-small (pos a) e)) ∙ e) }
-narrow-within (negsuc a) e = record { within = omega (arith, leb-true a 999999998 (sym (narrow-minus a (narrow-small (negsuc a) e)) ∙ e)) }
+narrow-within (pos a) e = record { within = leb-true a 9999999999 (sym (narrow-plus a) ∙ e) }
+narrow-within (negsuc a) e = record { within = omega (arith, leb-true a 999999998 (sym (narrow-minus a) ∙ e)) }
 
 quot-within : (z : ℤ) → SFits w64 z → Within 4611686018427 (quotZ z metre)
 quot-within (pos a) f = let h : a < 2 ^ 63 = f .sfits in record { within = omega arith }
