@@ -130,6 +130,11 @@ static uint64_t call_read(work *w)
     *last_digit(w->file) = '0';
     return broken == CXF_NUMBER ? read_file(w) : 1;
 }
+static uint64_t call_read_default(work *w)
+{
+    return cxf_read_default((const uint8_t *)w->file.at, w->file.len, w->rows, w->rows_len, w->letters, w->letters_len, w->islands, w->islands_len,
+                            w->points, w->points_len).number;
+}
 static uint64_t call_write(work *w) { return cxf_write(CXF_SPREAD(w->sheet), w->out, w->out_len).number; }
 static uint64_t call_border(work *w) { return cxf_border_at(CXF_SPREAD(w->sheet), 0).number; }
 static uint64_t call_text(work *w) { return cxf_text_at(CXF_SPREAD(w->sheet), 2).number; }
@@ -171,6 +176,7 @@ static uint64_t call_move(work *w) { return cxf_move(TABLES(w), 1, -1).number; }
 
 static const struct { const char *name; uint64_t (*call)(work *); } FUNCTIONS[] = {
     { "cxf_interface", call_interface },
+    { "cxf_read_default", call_read_default },
     { "cxf_read", call_read },
     { "cxf_write", call_write },
     { "cxf_border_at", call_border },

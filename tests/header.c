@@ -48,6 +48,7 @@ uint64_t cxf_interface(void);
 DECLARE_MASK(cxf)
 DECLARE_EDITS(cxf)
 DECLARE_CONVERT(cxf)
+DECLARE_DEFAULT(cxf)
 
 /* ---- structs: the offset, the size and the type of each field ---- */
 

@@ -559,6 +559,12 @@ cxf_reading ref_read(const uint8_t *src, size_t src_len, uint64_t mode, int64_t 
     return write.answer;
 }
 
+/* T-12: "From now on a reading with no mode named is exact." */
+cxf_reading ref_read_default(const uint8_t *src, size_t src_len, int64_t *rows, size_t rows_len, uint8_t *letters, size_t letters_len,
+                             uint16_t *islands, size_t islands_len, int64_t *points, size_t points_len) {
+    return ref_read(src, src_len, EXACT, rows, rows_len, letters, letters_len, islands, islands_len, points, points_len);
+}
+
 /* ---- Sheets handed in ---- */
 
 typedef struct {
