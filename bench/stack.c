@@ -156,15 +156,15 @@ static uint64_t call_real(work *w)
     return cxf_real(NO_NUMBER, sizeof NO_NUMBER - 1, CXF_EXACT).number == CXF_NUMBER ? cxf_real(REAL, sizeof REAL - 1, CXF_EXACT).number : 1;
 }
 /* a text of a small file, which is broken at its last number first */
-static uint64_t call_text(work *w, cxf_listed (*text_of)(const uint8_t *, size_t, uint8_t *, size_t))
+static uint64_t call_listed(work *w, cxf_listed (*text_of)(const uint8_t *, size_t, uint8_t *, size_t))
 {
     *last_digit(w->listed) = 'x';
     const uint64_t broken = text_of((const uint8_t *)w->listed.at, w->listed.len, w->out, w->out_len).number;
     *last_digit(w->listed) = '0';
     return broken | text_of((const uint8_t *)w->listed.at, w->listed.len, w->out, w->out_len).number;
 }
-static uint64_t call_listing(work *w) { return call_text(w, cxf_listing); }
-static uint64_t call_convert(work *w) { return call_text(w, cxf_convert); }
+static uint64_t call_listing(work *w) { return call_listed(w, cxf_listing); }
+static uint64_t call_convert(work *w) { return call_listed(w, cxf_convert); }
 static uint64_t call_sup(work *w) { return cxf_sup_write(CXF_SPREAD(w->sheet), DATE, sizeof DATE - 1, w->out, w->out_len).number; }
 static uint64_t call_mask(work *w) { return cxf_mask_of(CXF_SPREAD(w->sheet), 0, -2100000, 4300000, 10000).number; }
 
