@@ -186,12 +186,18 @@ typedef struct {
     uint8_t name[CXF_NAME_LENGTH];           /* the sheet's name, with no 0 at its end */
 } cxf_reading;
 
-/* Reads a whole file into four lent tables: rows, 15 numbers each; letters; island counts; points, x and y after each other. The mode is
-   CXF_LOOSE for work on what comes in, CXF_EXACT for a sheet that goes out (cxf_write then gives its very bytes again), CXF_FORMER for a
-   file of the first year that is to be converted (see above): a file without notes is answered by it as by CXF_LOOSE, refused or not.
+/* Reads a whole file into four lent tables: rows, 15 numbers each; letters; island counts; points, x and y after each other. It names no
+   mode, and so takes the printed layout alone: CXF_EXACT. A sheet that goes out is read so; cxf_write then gives its very bytes again.
    The room of a table is rows_len / 15 rows, letters_len letters, islands_len counts, points_len / 2 points. CXF_ROWS_MOST and
    the three beside it are enough for any file. To learn what a file needs, ask with four lengths of 0: the answer is 14 and the
-   needs (0 where the sheet has no rows). Past the used part no table is altered. Stack: 1,928 bytes. */
+   needs (0 where the sheet has no rows). Past the used part no table is altered. Stack: ? bytes. */
+cxf_reading cxf_read_default(const uint8_t *src, size_t src_len,
+                             int64_t *rows, size_t rows_len, uint8_t *letters, size_t letters_len,
+                             uint16_t *islands, size_t islands_len, int64_t *points, size_t points_len);
+
+/* The same in a mode that is named. Name CXF_LOOSE for work on what comes in, where every sheet is to be taken that can be understood, and
+   never for a sheet that goes out. CXF_FORMER is for a file of the first year that is to be converted (see above): a file without notes
+   has the same number, record and offset with it as with CXF_LOOSE. Stack: 1,928 bytes. */
 cxf_reading cxf_read(const uint8_t *src, size_t src_len, uint64_t mode,
                      int64_t *rows, size_t rows_len, uint8_t *letters, size_t letters_len,
                      uint16_t *islands, size_t islands_len, int64_t *points, size_t points_len);

@@ -75,7 +75,7 @@ static bool starts_true(const int64_t *n, spot at) {
 static bool is_digit(uint8_t b) { return b >= '0' && b <= '9'; }
 static bool is_capital(uint8_t b) { return b >= 'A' && b <= 'Z'; }
 
-enum { LOOSE = 0, FORMER = 2 };
+enum { LOOSE = 0, EXACT = 1, FORMER = 2 };
 
 static bool is_exact(uint64_t mode) { return mode != LOOSE && mode != FORMER; }
 
