@@ -125,13 +125,20 @@ static const int64_t NO_FIGURES[CXF_FIGURES];
 static const uint8_t DATE[] = "20261115", INTEGER[] = "9999", REAL[] = "-9999999.999", NO_NUMBER[] = "        -0.x";
 
 static uint64_t call_interface(work *w) { (void)w; return cxf_interface() != CXF_INTERFACE; }
-static uint64_t call_read(work *w)
+static uint64_t read_unnamed(work *w)
+{
+    return cxf_read_default((const uint8_t *)w->file.at, w->file.len, w->rows, w->rows_len, w->letters, w->letters_len, w->islands, w->islands_len,
+                            w->points, w->points_len).number;
+}
+static uint64_t call_reading(work *w, uint64_t (*reading)(work *))
 {
     *last_digit(w->file) = 'x';
-    const uint64_t broken = read_file(w);
+    const uint64_t broken = reading(w);
     *last_digit(w->file) = '0';
-    return broken == CXF_NUMBER ? read_file(w) : 1;
+    return broken == CXF_NUMBER ? reading(w) : 1;
 }
+static uint64_t call_read_default(work *w) { return call_reading(w, read_unnamed); }
+static uint64_t call_read(work *w) { return call_reading(w, read_file); }
 static uint64_t call_write(work *w) { return cxf_write(CXF_SPREAD(w->sheet), w->out, w->out_len).number; }
 static uint64_t call_border(work *w) { return cxf_border_at(CXF_SPREAD(w->sheet), 0).number; }
 static uint64_t call_text(work *w) { return cxf_text_at(CXF_SPREAD(w->sheet), 2).number; }
@@ -175,6 +182,7 @@ static uint64_t call_move(work *w) { return cxf_move(TABLES(w), 1, -1).number; }
 
 static const struct { const char *name; uint64_t (*call)(work *); } FUNCTIONS[] = {
     { "cxf_interface", call_interface },
+    { "cxf_read_default", call_read_default },
     { "cxf_read", call_read },
     { "cxf_write", call_write },
     { "cxf_border_at", call_border },

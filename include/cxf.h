@@ -139,7 +139,8 @@ static inline const char *cxf_refusal_text(uint64_t number)
 /* Every mode gives a file that it takes the same meaning: what exact takes, loose takes as the same sheet, and what loose takes, former does.
      CXF_LOOSE   takes what is met in practice: an LF alone, an EOF with no line end, blanks at the ends of words and round numbers, a plus,
                  minus zero, needless zeros, unlisted codes, anything that follows EOF.
-     CXF_EXACT   takes only the layout of the specification, which cxf_write writes. Any mode but 0 and 2 is exact.
+     CXF_EXACT   takes only the layout of the specification, which cxf_write writes. Any mode but 0 and 2 is exact, and so is a reading
+                 with no mode named (cxf_read_default).
      CXF_FORMER  is loose mode as it was before notes were retired: behind a number it also takes a blank and then any note, as hand-made
                  files of the first year have them ("   1          numero isole"). It drops the note, be it a second number. Use it to
                  convert such files, or to see what they said (cxf_convert does both at once); else use CXF_LOOSE, which refuses a note
@@ -188,13 +189,18 @@ typedef struct {
     uint8_t name[CXF_NAME_LENGTH];           /* the sheet's name, with no 0 at its end */
 } cxf_reading;
 
-/* Reads a whole file into four lent tables: rows, 15 numbers each; letters; island counts; points, x and y after each other. The mode is
-   CXF_LOOSE for work on what comes in, CXF_EXACT for a sheet that goes out (cxf_write then gives its very bytes again), CXF_FORMER for a
-   file of the first year that is to be converted (see above): a file without notes has the same number, record and offset with it as with
-   CXF_LOOSE.
+/* Reads a whole file into four lent tables: rows, 15 numbers each; letters; island counts; points, x and y after each other. It names no
+   mode, and so takes the printed layout alone: CXF_EXACT. A sheet that goes out is read so; cxf_write then gives its very bytes again.
    The room of a table is rows_len / 15 rows, letters_len letters, islands_len counts, points_len / 2 points. CXF_ROWS_MOST and
    the three beside it are enough for any file. To learn what a file needs, ask with four lengths of 0: the answer is 14 and the
-   needs (0 where the sheet has no rows). Past the used part no table is altered. Stack: 1,928 bytes. */
+   needs (0 where the sheet has no rows). Past the used part no table is altered. Stack: ? bytes. */
+cxf_reading cxf_read_default(const uint8_t *src, size_t src_len,
+                             int64_t *rows, size_t rows_len, uint8_t *letters, size_t letters_len,
+                             uint16_t *islands, size_t islands_len, int64_t *points, size_t points_len);
+
+/* The same in a mode that is named. Name CXF_LOOSE for work on what comes in, where every sheet is to be taken that can be understood, and
+   never for a sheet that goes out. CXF_FORMER is for a file of the first year that is to be converted (see above): a file without notes
+   has the same number, record and offset with it as with CXF_LOOSE. Stack: 1,928 bytes. */
 cxf_reading cxf_read(const uint8_t *src, size_t src_len, uint64_t mode,
                      int64_t *rows, size_t rows_len, uint8_t *letters, size_t letters_len,
                      uint16_t *islands, size_t islands_len, int64_t *points, size_t points_len);

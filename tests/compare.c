@@ -394,10 +394,14 @@ static cxf_reading try_read(rng *g, const bytes *src, uint64_t mode, rooms r) {
     uint8_t *my_letters = copied(&letters_copy, &LETTERS);
     uint16_t *my_islands = copied(&islands_copy, &ISLANDS);
 
+    const bool unnamed = mode == 1 && below(g, 2);
+    arg("no mode named", unnamed);
     const cxf_reading theirs =
-        cxf_read(lent_src, src->len, mode, rows, r.rows, letters, r.letters, islands, r.islands, points, r.points);
+        unnamed ? cxf_read_default(lent_src, src->len, rows, r.rows, letters, r.letters, islands, r.islands, points, r.points)
+                : cxf_read(lent_src, src->len, mode, rows, r.rows, letters, r.letters, islands, r.islands, points, r.points);
     const cxf_reading mine =
-        ref_read(src->at, src->len, mode, my_rows, r.rows, my_letters, r.letters, my_islands, r.islands, my_points, r.points);
+        unnamed ? ref_read_default(src->at, src->len, my_rows, r.rows, my_letters, r.letters, my_islands, r.islands, my_points, r.points)
+                : ref_read(src->at, src->len, mode, my_rows, r.rows, my_letters, r.letters, my_islands, r.islands, my_points, r.points);
     const char *lent = NULL;
     if (!holds(&SRC, src->at)) lent = "the input was altered, or what lies around it";
     else if (!holds(&ROWS, my_rows)) lent = "the row table, or what lies around it, differs";

@@ -52,6 +52,7 @@ DECLARE_EDITS(cxf)
 DECLARE_CONVERT(cxf)
 DECLARE_SUP_CHECK(cxf)
 DECLARE_CML(cxf)
+DECLARE_DEFAULT(cxf)
 
 /* ---- structs: the offset, the size and the type of each field ---- */
 

@@ -76,7 +76,7 @@ static bool starts_true(const int64_t *n, spot at) {
 static bool is_digit(uint8_t b) { return b >= '0' && b <= '9'; }
 static bool is_capital(uint8_t b) { return b >= 'A' && b <= 'Z'; }
 
-enum { LOOSE = 0, FORMER = 2 };
+enum { LOOSE = 0, EXACT = 1, FORMER = 2 };
 
 static bool is_exact(uint64_t mode) { return mode != LOOSE && mode != FORMER; }
 
@@ -558,6 +558,12 @@ cxf_reading ref_read(const uint8_t *src, size_t src_len, uint64_t mode, int64_t 
     write.points = points;
     (void)take_file(&write);
     return write.answer;
+}
+
+/* T-12: "From now on a reading with no mode named is exact." */
+cxf_reading ref_read_default(const uint8_t *src, size_t src_len, int64_t *rows, size_t rows_len, uint8_t *letters, size_t letters_len,
+                             uint16_t *islands, size_t islands_len, int64_t *points, size_t points_len) {
+    return ref_read(src, src_len, EXACT, rows, rows_len, letters, letters_len, islands, islands_len, points, points_len);
 }
 
 /* ---- Sheets handed in ---- */

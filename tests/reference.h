@@ -97,6 +97,17 @@ DECLARE_EDITS(ref)
 /* The modes: 0 is loose, 1 (or anything else) exact; T-09: "mode 2 is the former reading". */
 enum { MODES = 3 };
 
+/* T-12: a reading with no mode named */
+#define DECLARE_DEFAULT(P)                                                                               \
+    cxf_reading P##_read_default(const uint8_t *src, size_t src_len, int64_t *rows, size_t rows_len,     \
+                                 uint8_t *letters, size_t letters_len, uint16_t *islands,                \
+                                 size_t islands_len, int64_t *points, size_t points_len);
+
+#ifndef STRUCTS_ALONE
+DECLARE_DEFAULT(cxf)
+DECLARE_DEFAULT(ref)
+#endif
+
 #define DECLARE_CONVERT(P) cxf_listed P##_convert(const uint8_t *src, size_t src_len, uint8_t *out, size_t out_len);
 
 #ifndef STRUCTS_ALONE

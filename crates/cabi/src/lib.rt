@@ -3,6 +3,7 @@
 // out in a struct.
 ghost use mathlib.Core.Path.{_≡_};
 ghost use lib.ListN.{length};
+ghost use Rattle.record.specs.declared.Mode.the-variants.{Exact};
 ghost use Rattle.record.specs.Record.{recordAt};
 ghost use Rattle.column.specs.Columns.{integerPlaced, realPlaced};
 ghost use Rattle.sheet.specs.Reading.{reading};
@@ -49,6 +50,7 @@ use edit::removing::remove_row;
 use listing::Listed;
 use listing::list_text;
 use mask::mask_of;
+use reader::read;
 use reader::read_as;
 use record::Found;
 use record::record_at;
@@ -102,7 +104,25 @@ pub extern "C" fn cxf_interface() -> usize
     4
 }
 
-// Reads a sheet into the tables that are lent.
+// Reads a sheet into the tables that are lent, in exact mode, since no mode is named.
+#[no_mangle]
+pub extern "C" fn cxf_read_default(
+    src: &[u8],
+    rows: &mut [i64],
+    letters: &mut [u8],
+    islands: &mut [u16],
+    points: &mut [i64],
+) -> CxfReading
+    ensures { λ r. ⌜ r ≡ readTold (readOf Exact (now (src .entry)) (roomsOf (length (now (rows .entry))) (length (now (letters .entry))) (length (now (islands .entry))) (length (now (points .entry))))) ⌝ }
+    ensures { λ r. ⌜ now (rows .exit) ≡ written (readOf Exact (now (src .entry)) (roomsOf (length (now (rows .entry))) (length (now (letters .entry))) (length (now (islands .entry))) (length (now (points .entry)))) .answer) (tablesIn (reading Exact (now (src .entry))) .rows) (now (rows .entry)) ⌝ }
+    ensures { λ r. ⌜ now (letters .exit) ≡ written (readOf Exact (now (src .entry)) (roomsOf (length (now (rows .entry))) (length (now (letters .entry))) (length (now (islands .entry))) (length (now (points .entry)))) .answer) (tablesIn (reading Exact (now (src .entry))) .letters) (now (letters .entry)) ⌝ }
+    ensures { λ r. ⌜ now (islands .exit) ≡ written (readOf Exact (now (src .entry)) (roomsOf (length (now (rows .entry))) (length (now (letters .entry))) (length (now (islands .entry))) (length (now (points .entry)))) .answer) (tablesIn (reading Exact (now (src .entry))) .islands) (now (islands .entry)) ⌝ }
+    ensures { λ r. ⌜ now (points .exit) ≡ written (readOf Exact (now (src .entry)) (roomsOf (length (now (rows .entry))) (length (now (letters .entry))) (length (now (islands .entry))) (length (now (points .entry)))) .answer) (tablesIn (reading Exact (now (src .entry))) .points) (now (points .entry)) ⌝ }
+{
+    reading_of(read(src, rows, letters, islands, points))
+}
+
+// The same in the mode that is named.
 #[no_mangle]
 pub extern "C" fn cxf_read(
     src: &[u8],

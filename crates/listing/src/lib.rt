@@ -18,7 +18,8 @@ use kinds::ROW_WIDTH;
 use made::count_at;
 use reader::Answer;
 use reader::Needs;
-use reader::read;
+use reader::read_as;
+use record::Mode;
 use record::refusal::TOO_LONG;
 use spelling::put_bytes;
 use spelling::put_count;
@@ -214,7 +215,14 @@ fn put_reading(src: &[u8], out: &mut [u8]) -> usize
     let mut letters = [0u8; LETTERS_ROOM];
     let mut islands = [0u16; ISLANDS_ROOM];
     let mut points = [0i64; POINTS_ROOM];
-    let outcome = read(src, &mut rows, &mut letters, &mut islands, &mut points);
+    let outcome = read_as(
+        Mode::Loose,
+        src,
+        &mut rows,
+        &mut letters,
+        &mut islands,
+        &mut points,
+    );
     let answer = outcome.answer;
     let header = outcome.header;
     let column = outcome.column;

@@ -26,6 +26,8 @@ use Rattle.reader.proofs.read as read
 use Rattle.reader.proofs.read.Reads as read-reads
 use Rattle.told.specs.Told.{readTold}
 use Rattle.told.specs.Asked.{modeOf}
+use Rattle.cabi.proofs.cxf_read_default as cxf-read-default
+use Rattle.cabi.proofs.cxf_read_default.Reads as cxf-read-default-reads
 use Rattle.cabi.proofs.cxf_read as cxf-read
 use Rattle.cabi.proofs.cxf_read.Reads as cxf-read-reads
 
@@ -98,6 +100,10 @@ scanned-read : readOf Exact scanned (roomsOf 30 22 0 12) ≡ itsScan
 unfolding readOf holdsAll scannedTables
 scanned-read = rw scanned-exact refl
 
+scanned-short : readOf Exact scanned (roomsOf 29 22 0 12) ≡ refusedWith (NoRoom scannedNeeds)
+unfolding readOf holdsAll scannedTables
+scanned-short = rw scanned-exact refl
+
 -- a refused file, whatever the tables
 refused-raster : (x : Rooms) → readOf Loose raster x ≡ refusedWith (Refused 7 4 27)
 unfolding readOf computedColumn
@@ -106,6 +112,10 @@ refused-raster x = refl
 refused-tailed : (x : Rooms) → readOf Exact tailed x ≡ refusedWith (Refused 13 5 39)
 unfolding readOf computedColumn
 refused-tailed x = refl
+
+refused-listed : (x : Rooms) → readOf Exact listed x ≡ refusedWith (Refused 3 1 0)
+unfolding readOf listed computedColumn
+refused-listed x = refl
 
 refused-scale : (x : Rooms) → readOf Loose badScale x ≡ refusedIn 9 (Refused 8 3 18)
 unfolding readOf computedColumn
@@ -215,7 +225,7 @@ module _ (κs : Lfts 5) (a : ArgsD read-as.signature κs) (r : ResD read-as.sign
   pub read-as-column-untouched : a .0 ≡ Loose → now (a .1 .0) ≡ badScale → left ≡ lent
   read-as-column-untouched m s = untouched (read-as-column m s)
 
--- ---- `read`: no mode is named, and the example is read, which exact mode refuses
+-- ---- `read`: no mode is named, so it is exact: the scanned sheet is read, and the example, whose records end in LF alone, is refused
 
 module _ (κs : Lfts 5) (a : ArgsD read.signature κs) (r : ResD read.signature κs) (e : AtExit read.ended κs) (post : read-reads.Learnt κs a r e) where
   abbrev pub readLent : Tables
@@ -227,30 +237,65 @@ module _ (κs : Lfts 5) (a : ArgsD read.signature κs) (r : ResD read.signature 
   abbrev pub ReadLengths : ℕ → ℕ → ℕ → ℕ → Type 0
   ReadLengths n l i p = (length (readLent .rows) ≡ n) × (length (readLent .letters) ≡ l) × (length (readLent .islands) ≡ i) × (length (readLent .points) ≡ p)
 
-  pub read-answers : now (a .0) ≡ listed → ReadLengths 45 6 1 11 → r ≡ itsSheet
-  read-answers s n = post .0 ∙ rw (s, n .0, n .1, n .2, n .3) spare
+  pub read-answers : now (a .0) ≡ scanned → ReadLengths 30 22 0 12 → r ≡ itsScan
+  read-answers s n = post .0 ∙ rw (s, n .0, n .1, n .2, n .3) scanned-read
 
-  pub read-not-empty : now (a .0) ≡ listed → ReadLengths 45 6 1 11 → readLeft ≡ holding readLent
-  unfolding rowsHeld pointsHeld
+  pub read-not-empty : now (a .0) ≡ scanned → ReadLengths 30 22 0 12 → readLeft ≡ holdingScan readLent
+  unfolding scannedTables
   read-not-empty s n =
-      let q : r ≡ itsSheet = read-answers s n in
-      four (post .1 .0 ∙ rw (q, s, is) refl) (post .1 .1 .0 ∙ rw (q, s, is) refl) (post .1 .1 .1 .0 ∙ rw (q, s, is) refl) (post .1 .1 .1 .1 ∙ rw (q, s, is) refl)
+      let q : r ≡ itsScan = read-answers s n in
+      four (post .1 .0 ∙ rw (q, s, scanned-exact) refl) (post .1 .1 .0 ∙ rw (q, s, scanned-exact) refl) (post .1 .1 .1 .0 ∙ rw (q, s, scanned-exact) refl) (post .1 .1 .1 .1 ∙ rw (q, s, scanned-exact) refl)
 
-  pub read-needs : now (a .0) ≡ listed → ReadLengths 29 6 1 11 → r ≡ refusedWith (NoRoom needs)
-  read-needs s n = post .0 ∙ rw (s, n .0, n .1, n .2, n .3) short
+  pub read-needs : now (a .0) ≡ scanned → ReadLengths 29 22 0 12 → r ≡ refusedWith (NoRoom scannedNeeds)
+  read-needs s n = post .0 ∙ rw (s, n .0, n .1, n .2, n .3) scanned-short
 
-  pub read-needs-untouched : now (a .0) ≡ listed → ReadLengths 29 6 1 11 → readLeft ≡ readLent
+  pub read-needs-untouched : now (a .0) ≡ scanned → ReadLengths 29 22 0 12 → readLeft ≡ readLent
   read-needs-untouched s n =
-      let q : r ≡ refusedWith (NoRoom needs) = read-needs s n in
+      let q : r ≡ refusedWith (NoRoom scannedNeeds) = read-needs s n in
       four (post .1 .0 ∙ rw q refl) (post .1 .1 .0 ∙ rw q refl) (post .1 .1 .1 .0 ∙ rw q refl) (post .1 .1 .1 .1 ∙ rw q refl)
 
-  pub read-refuses : now (a .0) ≡ raster → r ≡ refusedWith (Refused 7 4 27)
-  read-refuses s = post .0 ∙ rw s (refused-raster _)
+  -- shuts out a reading that is loose
+  pub read-refuses : now (a .0) ≡ listed → r ≡ refusedWith (Refused 3 1 0)
+  read-refuses s = post .0 ∙ rw s (refused-listed _)
 
-  pub read-untouched : now (a .0) ≡ raster → readLeft ≡ readLent
+  pub read-untouched : now (a .0) ≡ listed → readLeft ≡ readLent
   read-untouched s =
-      let q : r ≡ refusedWith (Refused 7 4 27) = read-refuses s in
+      let q : r ≡ refusedWith (Refused 3 1 0) = read-refuses s in
       four (post .1 .0 ∙ rw q refl) (post .1 .1 .0 ∙ rw q refl) (post .1 .1 .1 .0 ∙ rw q refl) (post .1 .1 .1 .1 ∙ rw q refl)
+
+-- ---- `cxf_read_default`: the same from C
+
+module _ (κs : Lfts 5) (a : ArgsD cxf-read-default.signature κs) (r : ResD cxf-read-default.signature κs) (e : AtExit cxf-read-default.ended κs) (post : cxf-read-default-reads.Learnt κs a r e) where
+  abbrev pub defaultLent : Tables
+  defaultLent = tablesOf (now (a .1 .0)) (now (a .1 .1 .0)) (now (a .1 .1 .1 .0)) (now (a .1 .1 .1 .1 .0))
+
+  abbrev pub defaultLeft : Tables
+  defaultLeft = tablesOf (now (e .1 .0)) (now (e .1 .1 .0)) (now (e .1 .1 .1 .0)) (now (e .1 .1 .1 .1 .0))
+
+  abbrev pub DefaultLengths : ℕ → ℕ → ℕ → ℕ → Type 0
+  DefaultLengths n l i p = (length (defaultLent .rows) ≡ n) × (length (defaultLent .letters) ≡ l) × (length (defaultLent .islands) ≡ i) × (length (defaultLent .points) ≡ p)
+
+  module _ (s : now (a .0) ≡ scanned) (n : DefaultLengths 30 22 0 12) where
+    default-within : readOf Exact (now (a .0)) (roomsOf (length (defaultLent .rows)) (length (defaultLent .letters)) (length (defaultLent .islands)) (length (defaultLent .points))) ≡ itsScan
+    default-within = rw (s, n .0, n .1, n .2, n .3) scanned-read
+
+    pub cxf-read-default-answers : r ≡ record { number = 0; nth = 0; offset = 0; column = 0; rows = 2; letters = 22; islands = 0; points = 6; kind = 1; scale = pos 1000000; name = text "Z999_000100" }
+    cxf-read-default-answers = post .0 ∙ ap readTold default-within
+
+    pub cxf-read-default-stores : defaultLeft ≡ holdingScan defaultLent
+    unfolding scannedTables
+    cxf-read-default-stores =
+        let q = default-within in
+        four (post .1 .0 ∙ rw (q, s, scanned-exact) refl) (post .1 .1 .0 ∙ rw (q, s, scanned-exact) refl) (post .1 .1 .1 .0 ∙ rw (q, s, scanned-exact) refl) (post .1 .1 .1 .1 ∙ rw (q, s, scanned-exact) refl)
+
+  pub cxf-read-default-refuses : now (a .0) ≡ listed
+      → r ≡ record { number = 3; nth = 1; offset = 0; column = 0; rows = 0; letters = 0; islands = 0; points = 0; kind = 0; scale = pos 0; name = replicate 11 0 }
+  cxf-read-default-refuses s = post .0 ∙ rw (s, refused-listed _) refl
+
+  pub cxf-read-default-untouched : now (a .0) ≡ listed → defaultLeft ≡ defaultLent
+  cxf-read-default-untouched s =
+      let q = refused-listed (roomsOf (length (defaultLent .rows)) (length (defaultLent .letters)) (length (defaultLent .islands)) (length (defaultLent .points))) in
+      four (post .1 .0 ∙ rw (s, q) refl) (post .1 .1 .0 ∙ rw (s, q) refl) (post .1 .1 .1 .0 ∙ rw (s, q) refl) (post .1 .1 .1 .1 ∙ rw (s, q) refl)
 
 -- ---- `cxf_read`: mode 0 is loose, mode 2 the former reading, mode 3 exact
 

@@ -10,7 +10,7 @@ mod turns;
 
 ghost use mathlib.Core.Path.{_≡_};
 ghost use lib.ListN.{length};
-ghost use Rattle.record.specs.declared.Mode.the-variants.{Loose};
+ghost use Rattle.record.specs.declared.Mode.the-variants.{Exact};
 ghost use Rattle.sheet.specs.Reading.{reading};
 ghost use Rattle.reader.specs.Read.{roomsOf, holdsAll, refusedIn, readOf, tablesIn, written};
 use crate::first_pass::judge;
@@ -215,7 +215,7 @@ pub fn read_as(
     }
 }
 
-// A reading that names no mode is loose.
+// A reading that names no mode is exact (document 02, T-12).
 pub fn read(
     src: &[u8],
     rows: &mut [i64],
@@ -223,11 +223,11 @@ pub fn read(
     islands: &mut [u16],
     points: &mut [i64],
 ) -> Outcome
-    ensures { λ r. ⌜ r ≡ readOf Loose (now (src .entry)) (roomsOf (length (now (rows .entry))) (length (now (letters .entry))) (length (now (islands .entry))) (length (now (points .entry)))) ⌝ }
-    ensures { λ r. ⌜ now (rows .exit) ≡ written (r .answer) (tablesIn (reading Loose (now (src .entry))) .rows) (now (rows .entry)) ⌝ }
-    ensures { λ r. ⌜ now (letters .exit) ≡ written (r .answer) (tablesIn (reading Loose (now (src .entry))) .letters) (now (letters .entry)) ⌝ }
-    ensures { λ r. ⌜ now (islands .exit) ≡ written (r .answer) (tablesIn (reading Loose (now (src .entry))) .islands) (now (islands .entry)) ⌝ }
-    ensures { λ r. ⌜ now (points .exit) ≡ written (r .answer) (tablesIn (reading Loose (now (src .entry))) .points) (now (points .entry)) ⌝ }
+    ensures { λ r. ⌜ r ≡ readOf Exact (now (src .entry)) (roomsOf (length (now (rows .entry))) (length (now (letters .entry))) (length (now (islands .entry))) (length (now (points .entry)))) ⌝ }
+    ensures { λ r. ⌜ now (rows .exit) ≡ written (r .answer) (tablesIn (reading Exact (now (src .entry))) .rows) (now (rows .entry)) ⌝ }
+    ensures { λ r. ⌜ now (letters .exit) ≡ written (r .answer) (tablesIn (reading Exact (now (src .entry))) .letters) (now (letters .entry)) ⌝ }
+    ensures { λ r. ⌜ now (islands .exit) ≡ written (r .answer) (tablesIn (reading Exact (now (src .entry))) .islands) (now (islands .entry)) ⌝ }
+    ensures { λ r. ⌜ now (points .exit) ≡ written (r .answer) (tablesIn (reading Exact (now (src .entry))) .points) (now (points .entry)) ⌝ }
 {
-    read_as(Mode::Loose, src, rows, letters, islands, points)
+    read_as(Mode::Exact, src, rows, letters, islands, points)
 }
