@@ -300,7 +300,7 @@ cxf_written cxf_write(CXF_SHEET, uint8_t *out, size_t out_len);
 
 /* Writes the LINEA rows of a sheet as elements of CML, one a line ending in LF, with no outer document: valenza CONSOLID, esterconf SI where
    the row is outside, else NO, cod, n.vert; then COORD of at most 1000 vertices each. A sheet without lines gives no bytes. 6, 15, 1, then
-   14; a code that is not listed is copied. Past the text out is not altered. Stack: 768 bytes. */
+   14; a code that is not listed is copied. Past the text out is not altered. Stack: 832 bytes. */
 cxf_written cxf_cml_lines(CXF_SHEET, uint8_t *out, size_t out_len);
 
 /* ---- borders and texts ----------------------------------------------------------------------------------------------- */
@@ -382,7 +382,7 @@ typedef struct {
 /* Whether a SUP file, whoever rounded its figures, is right for a sheet: lines, names, counts and order as cxf_sup_write has them, any date that
    it takes, each area within 1 square metre of the exact one for each border that it counts (each island for SVIL-ALL), and SBILANCIO just the
    difference of the file's TOTALE and CONFINE. Refused are the header (6), the rows (15), the tally (17, 18), a TOTALE beyond the tally's limit
-   (18, with no row), then the file (25). What cxf_sup_write writes for the sheet is right. */
+   (18, with no row), then the file (25). What cxf_sup_write writes for the sheet is right. Stack: 26,288 bytes. */
 cxf_sup_checked cxf_sup_check(CXF_SHEET, const uint8_t *sup, size_t sup_len);
 
 /* ---- ring check ------------------------------------------------------------------------------------------------------ */
@@ -492,7 +492,7 @@ cxf_listed cxf_listing(const uint8_t *src, size_t src_len, uint8_t *out, size_t 
        REFUSED 1 0 0 0                           src has more than CXF_LISTING_FILE_MOST bytes
    Such a line is an answer as well: number is 0 whenever the text stands in out, and 14, with the length that is needed, is the only
    refusal of the call. The clean file may be longer than src; no text is longer than CXF_CONVERT_MOST. Past the text out is not altered. The
-   tables are on the stack. Stack: 64,920 bytes. */
+   tables are on the stack. Stack: 64,984 bytes. */
 cxf_listed cxf_convert(const uint8_t *src, size_t src_len, uint8_t *out, size_t out_len);
 
 #ifdef __cplusplus
