@@ -458,12 +458,15 @@ static unsigned refusal_said(const uint8_t *text) {
     return says < NUMBERS ? says : 0;
 }
 
-static void try_listing(rng *g, const bytes *src) {
-    ask(LISTING);
+typedef cxf_listed printing(const uint8_t *src, size_t src_len, uint8_t *out, size_t out_len);
+
+/* What a program prints for an input, in room that is enough, too little or more. The answer that both gave; the text is left in the
+   reference's copy of the output. */
+static cxf_listed try_printed(rng *g, const bytes *src, entry asked, printing *library, printing *reference) {
+    ask(asked);
     now.src = src->at;
     now.src_len = src->len;
-    const cxf_listed need = ref_listing(src->at, src->len, NULL, 0);
-    size_t out_len = (size_t)need.length;
+    size_t out_len = (size_t)reference(src->at, src->len, NULL, 0).length;
     if (one_in(g, 4)) out_len = one_in(g, 2) ? out_len - 1 : below(g, out_len);
     else if (one_in(g, 2)) out_len += below(g, 40);
     arg("out_len", out_len);
@@ -471,8 +474,8 @@ static void try_listing(rng *g, const bytes *src) {
     uint8_t *out = lend(&OUT, g, out_len, 1);
     memset(OUT.at, (int)below(g, 256), OUT.len);
     uint8_t *mine_out = copied(&out_copy, &OUT);
-    const cxf_listed theirs = cxf_listing(lent_src, src->len, out, out_len);
-    const cxf_listed mine = ref_listing(src->at, src->len, mine_out, out_len);
+    const cxf_listed theirs = library(lent_src, src->len, out, out_len);
+    const cxf_listed mine = reference(src->at, src->len, mine_out, out_len);
     const char *lent = NULL;
     if (!holds(&SRC, src->at)) lent = "the input was altered, or what lies around it";
     else if (!holds(&OUT, mine_out)) lent = "the text, or what lies around it, differs";
@@ -481,35 +484,22 @@ static void try_listing(rng *g, const bytes *src) {
                (const char *)mine_out);
     }
     judge(of_listed(theirs), of_listed(mine), lent);
-    if (mine.number == 0) {
-        if (mine_out[0] == 'R') listing_says[refusal_said(mine_out)]++;
-        else lists_whole++;
-    }
+    return mine;
 }
 
-/* The answer that both gave; the text is left in the reference's copy of the output. */
+static void try_listing(rng *g, const bytes *src) {
+    if (try_printed(g, src, LISTING, cxf_listing, ref_listing).number != 0) return;
+    const uint8_t *text = out_copy.at;
+    if (text[0] == 'R') listing_says[refusal_said(text)]++;
+    else lists_whole++;
+}
+
 static cxf_listed try_convert(rng *g, const bytes *src) {
-    ask(CONVERT);
-    now.src = src->at;
-    now.src_len = src->len;
-    size_t out_len = (size_t)ref_convert(src->at, src->len, NULL, 0).length;
-    if (one_in(g, 4)) out_len = one_in(g, 2) ? out_len - 1 : below(g, out_len);
-    else if (one_in(g, 2)) out_len += below(g, 40);
-    arg("out_len", out_len);
-    const uint8_t *lent_src = lend_copy(&SRC, g, src->at, src->len, 1);
-    uint8_t *out = lend(&OUT, g, out_len, 1);
-    memset(OUT.at, (int)below(g, 256), OUT.len);
-    uint8_t *mine_out = copied(&out_copy, &OUT);
-    const cxf_listed theirs = cxf_convert(lent_src, src->len, out, out_len);
-    const cxf_listed mine = ref_convert(src->at, src->len, mine_out, out_len);
-    const char *lent = NULL;
-    if (!holds(&SRC, src->at)) lent = "the input was altered, or what lies around it";
-    else if (!holds(&OUT, mine_out)) lent = "the text, or what lies around it, differs";
-    judge(of_listed(theirs), of_listed(mine), lent);
-    if (mine.number == 0) {
-        if (mine_out[0] == 'R') convert_says[refusal_said(mine_out)]++;
-        else converted++;
-    }
+    const cxf_listed mine = try_printed(g, src, CONVERT, cxf_convert, ref_convert);
+    if (mine.number != 0) return mine;
+    const uint8_t *text = out_copy.at;
+    if (text[0] == 'R') convert_says[refusal_said(text)]++;
+    else converted++;
     return mine;
 }
 
