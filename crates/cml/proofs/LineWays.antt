@@ -147,7 +147,7 @@ module _ (rows points : List ℤ) (g : Drawn rows points) where
             points-size,
           )
 
-      pub element-sum : 82 + c + m + p < 500000
+      pub element-sum : 82 + c + m + p ≤ 98 + 28 * n
       element-sum =
           omega (
             arith,
@@ -212,10 +212,10 @@ module _ (rows points : List ℤ) (g : Drawn rows points) where
 
   -- ---- and at most so long
 
-  pub element-most : length (rowElement t) < 500000
+  pub element-most : length (rowElement t) ≤ 98 + 28 * n
   unfolding rowElement
   element-most = go (eqb (cellIn rows 0) lineKind) refl
     where
-      go : (x : Bool) → eqb (cellIn rows 0) lineKind ≡ x → length (cond x (elementText a) []) < 500000
+      go : (x : Bool) → eqb (cellIn rows 0) lineKind ≡ x → length (cond x (elementText a) []) ≤ 98 + 28 * n
       go true f = let k = eqb-true (cellIn rows 0) lineKind f in omega (arith, element-size k refl refl refl refl refl, element-sum k refl refl refl refl refl)
       go false f = omega arith

@@ -4,7 +4,7 @@ use mathlib.Core.Path.{_≡_, refl, sym, _∙_, ap}
 use mathlib.Core.List.{List, [], _∷_, _++_, append-assoc}
 use mathlib.Core.Bool.{Bool, true, false, cond, _&&_}
 use native.Mathlib.Omega.{arith}
-use lib.ListN.{length, getD, drop, length-append}
+use lib.ListN.{length, getD, set, drop, length-append}
 use lib.Dec.{eqb}
 use lib.IntN.{ℤ, pos}
 use mir.Syntax.{w64}
@@ -13,7 +13,7 @@ use borrow.Author.Tests.{eqb-true, eqb-false}
 use Rattle.laws.specs.Text.{text}
 use Rattle.laws.proofs.Choice.{and-left, and-right}
 use Rattle.laws.proofs.ListLaws.{left, left-none}
-use Rattle.laws.proofs.TableLaws.{pasted-none, length-pasted}
+use Rattle.laws.proofs.TableLaws.{pasted-none, pasted-one, length-pasted}
 use Rattle.number.specs.Number.{isReal}
 use Rattle.spelling.specs.Stored.{Stored}
 use Rattle.spelling.specs.Spelling.{digits, countText, bareReal}
@@ -34,6 +34,9 @@ put-none l at = record { is = pasted-none l at; next = omega arith }
 pub put-same : {s t : List ℕ} → t ≡ s → {l d : List ℕ} {at r : ℕ} → at + length t ≤ length l → Stored l at s d r → Put l at t d r
 put-same {s} {t} e {l} {d} {at} {r} room w = rw e (stored-put (rw e at room) w)
 
+pub put-one : (l : List ℕ) (at v : ℕ) → at + 1 ≤ length l → Put l at (v ∷ []) (set l at v) (at + 1)
+put-one l at v h = record { is = pasted-one l at v (omega arith); next = refl }
+
 pub put-length : {l d : List ℕ} {at r : ℕ} {s : List ℕ} → at + length s ≤ length l → Put l at s d r → length d ≡ length l
 put-length {l} {d} {at} {r} {s} room p = ap length (p .is) ∙ length-pasted l at s room
 
@@ -42,14 +45,11 @@ put-length {l} {d} {at} {r} {s} room p = ap length (p .is) ∙ length-pasted l a
 pub gap-none-put : (l : List ℕ) (at i : ℕ) → i ≡ 0 → Put l at (gap i) l at
 gap-none-put l at i e = rw (gap-first i e) (put-none l at)
 
-pub gap-most : (i : ℕ) → length (gap i) ≤ 15
-unfolding gap
-gap-most i = go (eqb i 0) (eqb (i % 1000) 0)
-  where
-    go : (a b : Bool) → length {A = ℕ} (cond a [] (cond b (text "</COORD><COORD>") (text " "))) ≤ 15
-    go true b = omega arith
-    go false true = omega arith
-    go false false = omega arith
+pub blank-room : (l : List ℕ) (at i : ℕ) → (i ≡ 0 → ⊥) → (i % 1000 ≡ 0 → ⊥) → at + length (gap i) ≤ length l → at + 1 ≤ length l
+blank-room l at i h k room = omega (arith, room, ap length (gap-blank i h k))
+
+pub blank-put : (l : List ℕ) (at i : ℕ) → (i ≡ 0 → ⊥) → (i % 1000 ≡ 0 → ⊥) → at + 1 ≤ length l → Put l at (gap i) (set l at 32) (at + 1)
+blank-put l at i h k room = rw (gap-blank i h k) (put-one l at 32 room)
 
 -- what stands before the vertices up to i, and before that one
 some : (k : ℕ) → (k ≡ 0 → ⊥) → 1 ≤ k
@@ -98,13 +98,18 @@ module _ (l : List ℕ) (at i : ℕ) (x y : ℤ) (hx : isReal x ≡ true) (hy : 
   pub pair-gap-room : at + length (gap i) ≤ length l
   pair-gap-room = putting-room pair-start (gap i) (bareReal x ++ 44 ∷ bareReal y) refl
 
-  pub pair-put : {d e f g : List ℕ} {n m k j : ℕ} → Put l at (gap i) d n → Stored d n (told (toZ w64 (ofZ w64 x))) e m → Stored e m (44 ∷ []) f k
-      → Stored f k (told (toZ w64 (ofZ w64 y))) g j → Put l at whole g j
-  pair-put p u v w =
-      let a = putting-on pair-start (gap i) (bareReal x ++ 44 ∷ bareReal y) refl p in
-      let b = stored-on a (bareReal x) (44 ∷ bareReal y) refl (rw (told-is x hx) at u) in
-      let c = stored-on b (44 ∷ []) (bareReal y) refl v in
-      stored-last c (rw (told-is y hy) at w)
+  -- behind x: the comma, and y
+  module _ {d e : List ℕ} {n m : ℕ} (p : Put l at (gap i) d n) (u : Stored d n (told (toZ w64 (ofZ w64 x))) e m) where
+    x-put : Putting l at whole e m (44 ∷ bareReal y)
+    x-put =
+        let a = putting-on pair-start (gap i) (bareReal x ++ 44 ∷ bareReal y) refl p in
+        stored-on a (bareReal x) (44 ∷ bareReal y) refl (rw (told-is x hx) at u)
+
+    pub comma-room : m + 1 ≤ length e
+    comma-room = putting-room x-put (44 ∷ []) (bareReal y) refl
+
+    pub pair-put : {f : List ℕ} {k : ℕ} → Stored (set e m 44) (m + 1) (told (toZ w64 (ofZ w64 y))) f k → Put l at whole f k
+    pair-put w = stored-last (putting-on x-put (44 ∷ []) (bareReal y) refl (put-one e m 44 comma-room)) (rw (told-is y hy) at w)
 
 module _ (i : ℕ) (x y : ℤ) (hx : isReal x ≡ true) (hy : isReal y ≡ true) where
   pair-length : length (gap i ++ pairText x y) ≡ length (gap i) + length (bareReal x) + 1 + length (bareReal y)
@@ -117,9 +122,6 @@ pair-sized x y hx hy a b f h = omega (arith, f ∙ size-told x hx, h ∙ size-to
 
 pub size-most : (z : ℤ) → isReal z ≡ true → (a : ℕ) → a ≡ sizeOf (toZ w64 (ofZ w64 z)) → a ≤ 12
 size-most z h a e = omega (arith, e ∙ size-told z h, bare-most z h)
-
-pub pair-most : (i : ℕ) (x y : ℤ) → isReal x ≡ true → isReal y ≡ true → length (gap i ++ pairText x y) ≤ 40
-pair-most i x y hx hy = omega (arith, pair-length i x y hx hy, gap-most i, bare-most x hx, bare-most y hy)
 
 -- ---- the vertices from i on
 
@@ -214,17 +216,23 @@ pub count-size : (n : ℕ) → n ≤ 9999 → length (digits 8 n) ≡ length (co
 unfolding countText
 count-size n h = ap length (sym (digits-wider 8 20 n (omega arith) (omega arith) (omega arith)))
 
--- ---- the size of all
+-- ---- the size of all: 25 bytes a vertex at most, and what stands before them
 
-pub pairs-most : (k : ℕ) (s : List ℤ) (n i : ℕ) → length s ≡ 2 * n → i + k ≡ n → areReals (drop (2 * i) s) ≡ true → length (spacedText i (drop (2 * i) s)) ≤ 40 * k
-pairs-most zero s n i e h q = omega (arith, ap length (pairs-over s n e i (omega arith)))
+pub pairs-most : (k : ℕ) (s : List ℤ) (n i : ℕ) → length s ≡ 2 * n → i + k ≡ n → areReals (drop (2 * i) s) ≡ true
+    → length (spacedText i (drop (2 * i) s)) + gapsTo i ≤ 25 * k + gapsTo n
+pairs-most zero s n i e h q = let z : i ≡ n = omega arith in omega (arith, ap length (pairs-over s n e i (omega arith)), z)
 pairs-most (suc k) s n i e h q =
     let l : i < n = omega arith in
     let r = pairs-most k s n (i + 1) e (omega arith) (reals-next s n e i l q) in
+    let x = x-real s n e i l q in
+    let y = y-real s n e i l q in
     omega (
       arith,
       r,
+      gaps-next i,
       ap length (pairs-here s n e i l),
       length-append (gap i ++ pairText (X s n e i) (Y s n e i)) (spacedText (i + 1) (drop (2 * (i + 1)) s)),
-      pair-most i (X s n e i) (Y s n e i) (x-real s n e i l q) (y-real s n e i l q),
+      pair-length i (X s n e i) (Y s n e i) x y,
+      bare-most (X s n e i) x,
+      bare-most (Y s n e i) y,
     )

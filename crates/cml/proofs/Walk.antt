@@ -1,31 +1,36 @@
 -- The walks over the rows, one that measures and one that writes: document 02, T-11. Assumes nothing.
-use Prim.Native.Nat.{ℕ, suc, _+_, _-_, _≤_, _<_, min}
+use Prim.Native.Nat.{ℕ, zero, suc, _+_, _-_, _*_, _≤_, _<_, min}
 use mathlib.Core.Path.{_≡_, refl, sym, _∙_, ap}
 use mathlib.Core.List.{List, [], _∷_, _++_}
 use mathlib.Core.Bool.{Bool, true, false, cond}
 use native.Mathlib.Nat.{sub-zero, zero-add}
 use native.Mathlib.Omega.{arith}
-use lib.ListN.{length, drop, length-append}
-use lib.Dec.{eqb}
+use lib.ListN.{length, drop, length-append, length-drop}
+use lib.Dec.{eqb, leb}
+use borrow.Author.Tests.{leb-true}
 use Rattle.laws.specs.Lists.{tail, over}
 use Rattle.record.specs.declared.Mode.the-variants.{Loose}
 use Rattle.record.specs.Refusals.{fileMost}
+use Rattle.kinds.specs.Kinds.{verticesPlace}
 use Rattle.heading.specs.declared.Header.{Header}
 use Rattle.sheet.specs.Tables.{Tables}
 use Rattle.made.specs.declared.Verdict.{Verdict}
 use Rattle.made.specs.declared.Verdict.the-variants.{Fine}
-use Rattle.made.specs.Made.{tablesOf, kindOf, restOf, isMade, noneBefore, judgeRows, judgeOf}
+use Rattle.made.specs.Made.{tablesOf, kindOf, restOf, isMade, Before, noneBefore, pastRow, judgeRows, judgeOf}
+use Rattle.made.proofs.UsedLaws.{fine-on}
 use Rattle.row.specs.declared.Stand.{Stand}
-use Rattle.row.specs.Walk.{firstStand, nextStand, leftAt}
+use Rattle.row.specs.Walk.{cellIn, firstStand, nextStand, leftAt}
 use Rattle.row.proofs.SeekLaws.{fine-rows}
 use Rattle.row.proofs.Walk.{Walk, walk-start, walk-made, walk-on, one-more, tailsAt, tails-are, left-next}
 use Rattle.writer.specs.Put.{Put}
+use Rattle.writer.specs.declared.Written.the-variants.{Wrote}
 use Rattle.writer.specs.Write.{writtenAfter}
 use Rattle.writer.proofs.Putting.{Putting, putting-start, putting-room, putting-on, putting-end}
 use Rattle.writer.proofs.RowFacts.{row-is, vertices-in}
+use Rattle.writer.proofs.SheetWays.{wrote-whole}
 use Rattle.cml.specs.Element.{elementText, elementsText}
 use Rattle.cml.specs.Lines.{lineKind, polylineOf, polylinesOf, cmlText, cmlOf}
-use Rattle.cml.specs.Spaced.{rowElement, Drawn}
+use Rattle.cml.specs.Spaced.{rowElement, linesMost, Drawn}
 use Rattle.cml.proofs.CmlLaws.{line-code}
 use Rattle.cml.proofs.LineWays.{element-most}
 
@@ -55,9 +60,12 @@ cml-step n t = go (eqb (kindOf t) lineKind)
 abbrev pub here : Tables → Stand → Tables
 here t d = tablesOf (tail (t .rows) (d .row)) [] [] (tail (t .points) (d .points))
 
-here-is : (t : Tables) (d : Stand) → rowElement (here t d) ≡ rowElement (tailsAt t d)
+row-alone : (t : Tables) → rowElement (tablesOf (t .rows) [] [] (t .points)) ≡ rowElement t
 unfolding rowElement
-here-is t d = refl
+row-alone t = refl
+
+here-is : (t : Tables) (d : Stand) → rowElement (here t d) ≡ rowElement (tailsAt t d)
+here-is t d = row-alone (tailsAt t d)
 
 module _ {t : Tables} {count : ℕ} {d : Stand} {k : ℕ} (w : Walk Loose t count d k) (h : k < count) where
   pub walk-drawn : Drawn (tail (t .rows) (d .row)) (tail (t .points) (d .points))
@@ -95,7 +103,9 @@ module _ {t : Tables} {count : ℕ} {d : Stand} {total k : ℕ} (m : Measured t 
         )
 
     pub measured-most : r < 500000
-    measured-most = omega (arith, q, element-most (tail (t .rows) (d .row)) (tail (t .points) (d .points)) (walk-drawn (m .walk) h))
+    measured-most =
+        let g = walk-drawn (m .walk) h in
+        omega (arith, q, element-most (tail (t .rows) (d .row)) (tail (t .points) (d .points)) g, g .vertices-most)
 
     pub measured-on : (e : Stand) → e ≡ nextStand (t .rows) d → total + r ≤ fileMost → Measured t count e (total + r) (k + 1)
     measured-on e f s = rw f (record { walk = walk-on (m .walk) h (nextStand (t .rows) d) refl; small = s; sum = measured-row })
@@ -127,9 +137,44 @@ module _ {t : Tables} {count : ℕ} {l : List ℕ} {d : Stand} {out : List ℕ} 
     writing-on {e} {x} {r} f p =
         rw f (record { walk = walk-on (m .walk) h (nextStand (t .rows) d) refl; puts = putting-on (m .puts) (rowElement (here t d)) _ (lines-here (m .walk) h) p })
 
-  pub writing-end : count ≤ k → out ≡ over (cmlText count t) l
-  writing-end h =
-      putting-end (m .puts) (lines-over (leftAt t d) count k h) .is ∙ ap (λ (k : ℕ). cmlText count t ++ drop k l) (zero-add (length (cmlText count t)))
+  module _ (h : count ≤ k) where
+    written : Put l 0 (cmlText count t) out next
+    written = putting-end (m .puts) (lines-over (leftAt t d) count k h)
+
+    pub writing-length : next ≡ length (cmlText count t)
+    writing-length = written .next ∙ zero-add (length (cmlText count t))
+
+    pub writing-end : out ≡ over (cmlText count t) l
+    writing-end = written .is ∙ ap (λ (k : ℕ). cmlText count t ++ drop k l) (zero-add (length (cmlText count t)))
+
+-- ---- room whatever the numbers are
+
+lines-most : (n : ℕ) (b : Before) (t : Tables) → judgeRows Loose n b t ≡ Fine → length (cmlText n t) ≤ linesMost n (length (t .points))
+unfolding cmlText polylinesOf elementsText
+lines-most zero b t e = omega arith
+lines-most (suc n) b t e =
+    let j = fine-on Loose n b t e in
+    let g = drawn-row t (j .0) in
+    omega (
+      arith,
+      lines-most n (pastRow b t) (restOf t) (j .1),
+      ap length (cml-step n t),
+      length-append (rowElement t) (cmlText n (restOf t)),
+      ap length (row-alone t),
+      element-most (t .rows) (t .points) g,
+      g .held,
+      length-drop (2 * cellIn (t .rows) verticesPlace) (t .points),
+    )
+
+module _ (t : Tables) (count room : ℕ) (e : judgeRows Loose count noneBefore t ≡ Fine) {b : Bool} (q : b ≡ leb (linesMost count (length (t .points))) (min fileMost room)) (h : b ≡ true) where
+  roomy : length (cmlText count t) ≤ min fileMost room
+  roomy = omega (arith, lines-most count noneBefore t e, leb-true (linesMost count (length (t .points))) (min fileMost room) (sym q ∙ h))
+
+  pub roomy-room : length (cmlText count t) ≤ room
+  roomy-room = omega (arith, roomy)
+
+  pub roomy-wrote : {n : ℕ} → n ≡ length (cmlText count t) → Wrote n ≡ writtenAfter Fine (length (cmlText count t)) room
+  roomy-wrote {n} p = wrote-whole (length (cmlText count t)) room n (omega (arith, p, roomy)) (omega (arith, p, roomy)) (omega (arith, p, roomy))
 
 -- ---- the answer is the verdict's that the code found
 

@@ -33,6 +33,10 @@ spacedText i (x ∷ y ∷ s) = gap i ++ (pairText x y ++ spacedText (i + 1) s)
 unfoldable pub rowElement : Tables → List ℕ
 rowElement t = cond (eqb (kindOf t) lineKind) (elementText (polylineOf t)) []
 
+-- the bytes of so many rows and coordinates at most: 98 for a row without its points, 14 for a coordinate with what stands before it
+abbrev pub linesMost : ℕ → ℕ → ℕ
+linesMost count coordinates = 98 * count + 14 * coordinates
+
 -- what a row that was judged has, and its element is written by: counts in their range, points held and real
 pub record Drawn (rows points : List ℤ) : Type 0 where
   pub code-most : cellIn rows 0 ≡ lineKind → cellIn rows codePlace ≤ 9999

@@ -3,6 +3,7 @@
 // refusal alters nothing, and past the text nothing is altered.
 ghost use mathlib.Core.Path.{_≡_};
 ghost use mathlib.Core.Bool.{true};
+ghost use lib.Dec.{leb};
 ghost use mathlib.Core.List.{[], _++_};
 ghost use Prim.Native.Nat.{_+_, _*_, _≤_, min};
 ghost use lib.ListN.{length};
@@ -18,7 +19,7 @@ ghost use Rattle.row.specs.Walk.{cellIn};
 ghost use Rattle.writer.specs.Put.{Put};
 ghost use Rattle.cml.specs.Element.{pairText, opening, startTag, elementText};
 ghost use Rattle.cml.specs.Lines.{lineKind, polylineOf, cmlText, cmlOf};
-ghost use Rattle.cml.specs.Spaced.{gap, gapsTo, spacedText, rowElement, Drawn};
+ghost use Rattle.cml.specs.Spaced.{gap, gapsTo, spacedText, rowElement, linesMost, Drawn};
 use heading::Header;
 use made::Verdict;
 use made::count_at;
@@ -46,6 +47,11 @@ const VERTICES_PLACE: usize = 11;
 // The bytes of an element without its numbers.
 const FRAME: usize = 82;
 
+// The bytes of an element without its points, at most; and of a coordinate with what stands before it.
+const FRAME_MOST: usize = 98;
+
+const COORDINATE_MOST: usize = 14;
+
 // What stands before vertex i.
 fn put_gap(out: &mut [u8], at: usize, i: usize) -> usize
     requires { ⌜ at + length (gap i) ≤ length (now out) ⌝ }
@@ -57,7 +63,8 @@ fn put_gap(out: &mut [u8], at: usize, i: usize) -> usize
     if i % COORD_MOST == 0 {
         return put_bytes(out, at, b"</COORD><COORD>");
     }
-    put_bytes(out, at, b" ")
+    out[at] = b' ';
+    at + 1
 }
 
 // Vertex i, and what stands before it.
@@ -67,8 +74,8 @@ fn put_pair(out: &mut [u8], at: usize, i: usize, x: i64, y: i64) -> usize
 {
     let gap_end = put_gap(out, at, i);
     let x_end = put_bare(out, gap_end, x);
-    let comma_end = put_bytes(out, x_end, b",");
-    put_bare(out, comma_end, y)
+    out[x_end] = b',';
+    put_bare(out, x_end + 1, y)
 }
 
 // The n vertices of a line.
@@ -147,7 +154,7 @@ fn put_row(out: &mut [u8], at: usize, rows: &[i64], points: &[i64]) -> usize
     at
 }
 
-// The elements of all rows.
+// The elements of all rows; the answer is the place behind them.
 fn put_lines(
     out: &mut [u8],
     count: usize,
@@ -155,9 +162,10 @@ fn put_lines(
     letters: &[u8],
     islands: &[u16],
     points: &[i64],
-)
+) -> usize
     requires { ⌜ judgeRows Loose count noneBefore (tablesOf (now rows) (now letters) (now islands) (now points)) ≡ Fine ⌝ }
     requires { ⌜ length (cmlText count (tablesOf (now rows) (now letters) (now islands) (now points))) ≤ length (now out) ⌝ }
+    ensures { λ r. ⌜ r ≡ length (cmlText count (tablesOf (now (rows .entry)) (now (letters .entry)) (now (islands .entry)) (now (points .entry)))) ⌝ }
     ensures { λ _. ⌜ now (out .exit) ≡ over (cmlText count (tablesOf (now (rows .entry)) (now (letters .entry)) (now (islands .entry)) (now (points .entry)))) (now (out .entry)) ⌝ }
 {
     let mut d = Stand {
@@ -175,6 +183,7 @@ fn put_lines(
         d = stand_next(rows, d);
         k += 1;
     }
+    next
 }
 
 // The bytes of a vertex without its comma.
@@ -257,6 +266,26 @@ fn lines_size(count: usize, rows: &[i64], letters: &[u8], islands: &[u16], point
     total
 }
 
+// Whether the elements find room whatever their numbers are: then none has to be measured.
+fn is_roomy(count: usize, coordinates: usize, room: usize) -> bool
+    ensures { λ r. ⌜ r ≡ leb (linesMost count coordinates) (min fileMost room) ⌝ }
+{
+    if count > FILE_MOST {
+        return false;
+    }
+    if coordinates > FILE_MOST {
+        return false;
+    }
+    let most = FRAME_MOST * count + COORDINATE_MOST * coordinates;
+    if most > FILE_MOST {
+        return false;
+    }
+    if most > room {
+        return false;
+    }
+    true
+}
+
 // The length, the room, then the text of a sheet that was judged.
 fn lines_judged(
     count: usize,
@@ -270,6 +299,10 @@ fn lines_judged(
     ensures { λ r. ⌜ r ≡ writtenAfter Fine (length (cmlText count (tablesOf (now (rows .entry)) (now (letters .entry)) (now (islands .entry)) (now (points .entry))))) (length (now (out .entry))) ⌝ }
     ensures { λ r. ⌜ now (out .exit) ≡ outputOf r (cmlText count (tablesOf (now (rows .entry)) (now (letters .entry)) (now (islands .entry)) (now (points .entry)))) (now (out .entry)) ⌝ }
 {
+    if is_roomy(count, points.len(), out.len()) {
+        let length = put_lines(out, count, rows, letters, islands, points);
+        return Written::Wrote(length);
+    }
     let needed = lines_size(count, rows, letters, islands, points);
     if needed > FILE_MOST {
         return Written::TooLong;

@@ -1,7 +1,8 @@
 -- `put_gap` meets its contract: nothing, a closed and an opened COORD, or a blank. Assumes nothing.
+use native.Mathlib.Omega.{arith}
+use Rattle.cml.proofs.CoordLaws.{gap-full}
+use Rattle.cml.proofs.PairWays.{put-same, gap-none-put, blank-room, blank-put}
 use borrow.Author.Needs.{needs}
-use Rattle.cml.proofs.CoordLaws.{gap-full, gap-blank}
-use Rattle.cml.proofs.PairWays.{put-same, gap-none-put}
 use Rattle.cml.proofs.put_gap.Statement.{statement}
 use Rattle.cml.proofs.put_gap.Tie as tie
 
@@ -18,19 +19,19 @@ same-length : tie.Need-same-length
 same-length c = search needs
 
 returns-2 : tie.Need-returns-2
-returns-2 c = put-same (gap-full _ (c .before .before .before .before .before .before .if1 .left) (c .before .before .before .before .before .if2 .taken)) ((c .before .before .before .before .before .before .before .before) .pre) (c .before .before .put-bytes .ensures)
+returns-2 c = put-same (gap-full _ ((c .before .before .before .before .before .before) .if1 .left) ((c .before .before .before .before .before) .if2 .taken)) ((c .before .before .before .before .before .before .before .before) .pre) ((c .before .before) .put-bytes .ensures)
 
-slice-aggregate-put-bytes-2 : tie.Need-slice-aggregate-put-bytes-2
-slice-aggregate-put-bytes-2 c = search needs
+slice-write-out : tie.Need-slice-write-out
+slice-write-out c = omega (arith, blank-room ((c .before .before .before) .args .out .now) ((c .before .before .before) .args .at) _ ((c .before) .if1 .left) (c .if2 .left) ((c .before .before .before) .pre))
 
-put-bytes-requires-2 : tie.Need-put-bytes-requires-2
-put-bytes-requires-2 c κs = search needs
+add-result : tie.Need-add-result
+add-result c = search needs
 
 same-length-2 : tie.Need-same-length-2
 same-length-2 c = search needs
 
 returns-3 : tie.Need-returns-3
-returns-3 c = put-same (gap-blank _ (c .before .before .before .before .before .before .if1 .left) (c .before .before .before .before .before .if2 .left)) ((c .before .before .before .before .before .before .before .before) .pre) (c .before .before .put-bytes2 .ensures)
+returns-3 c = blank-put ((c .before .before .before) .args .out .now) ((c .before .before .before) .args .at) _ ((c .before) .if1 .left) (c .if2 .left) (blank-room ((c .before .before .before) .args .out .now) ((c .before .before .before) .args .at) _ ((c .before) .if1 .left) (c .if2 .left) ((c .before .before .before) .pre))
 
 pub put-gap-spec : {M : Type 1} → statement M
 put-gap-spec =
@@ -41,7 +42,7 @@ put-gap-spec =
     put-bytes-requires
     same-length
     returns-2
-    slice-aggregate-put-bytes-2
-    put-bytes-requires-2
+    slice-write-out
+    add-result
     same-length-2
     returns-3)

@@ -6,7 +6,7 @@ use mathlib.Core.Path.{_∙_}
 use Rattle.made.specs.Made.{tablesOf}
 use Rattle.row.proofs.NextWays.{after-next}
 use Rattle.row.proofs.Walk.{walk-stands, stands-small}
-use Rattle.cml.proofs.Walk.{walk-drawn, Writing, writing-start, writing-room, writing-on, writing-end}
+use Rattle.cml.proofs.Walk.{walk-drawn, Writing, writing-start, writing-room, writing-on, writing-length, writing-end}
 use Rattle.cml.proofs.put_lines.Statement.{statement}
 use Rattle.cml.proofs.put_lines.Tie as tie
 
@@ -62,7 +62,7 @@ same-length : tie.Need-same-length Inv-loop μ-loop
 same-length c = c .before .loop .inv .puts .size
 
 returns : tie.Need-returns Inv-loop μ-loop
-returns c = writing-end (c .before .loop .inv) (c .loop-test .left)
+returns c = (writing-length (c .before .loop .inv) (c .loop-test .left), writing-end (c .before .loop .inv) (c .loop-test .left))
 
 pub put-lines-spec : {M : Type 1} → statement M
 put-lines-spec =

@@ -1,6 +1,7 @@
 -- `put_pair` meets its contract: what stands before it, x, a comma, y. Assumes nothing.
+use native.Mathlib.Omega.{arith}
+use Rattle.cml.proofs.PairWays.{put-length, pair-gap-room, comma-room, pair-put}
 use borrow.Author.Needs.{needs}
-use Rattle.cml.proofs.PairWays.{pair-gap-room, pair-put}
 use Rattle.cml.proofs.put_pair.Statement.{statement}
 use Rattle.cml.proofs.put_pair.Tie as tie
 
@@ -10,20 +11,20 @@ put-gap-requires c κs = let s = (c .before .before) in pair-gap-room (s .args .
 put-bare-requires : tie.Need-put-bare-requires
 put-bare-requires c κs = search needs
 
-slice-aggregate-put-bytes : tie.Need-slice-aggregate-put-bytes
-slice-aggregate-put-bytes c = search needs
+slice-write-out : tie.Need-slice-write-out
+slice-write-out c = let s = (c .before .before .before .before .before .before .before .before .before) in omega (arith, comma-room (s .args .out .now) (s .args .at) (s .args .i) (s .args .x) (s .args .y) (s .pre .0) (s .pre .1) (s .pre .2) ((c .before .before .before .before .before .before) .put-gap .ensures) ((c .before .before) .put-bare .ensures))
 
-put-bytes-requires : tie.Need-put-bytes-requires
-put-bytes-requires c κs = search needs
+add-put-bare : tie.Need-add-put-bare
+add-put-bare c = let s = (c .before .before .before .before .before .before .before .before .before .before) in omega (arith, comma-room (s .args .out .now) (s .args .at) (s .args .i) (s .args .x) (s .args .y) (s .pre .0) (s .pre .1) (s .pre .2) ((c .before .before .before .before .before .before .before) .put-gap .ensures) ((c .before .before .before) .put-bare .ensures))
 
 put-bare-requires-2 : tie.Need-put-bare-requires-2
 put-bare-requires-2 c κs = search needs
 
 same-length : tie.Need-same-length
-same-length c = search needs
+same-length c = let s = (c .before .before .before .before .before .before .before .before .before .before .before .before .before) in put-length (s .pre .2) (pair-put (s .args .out .now) (s .args .at) (s .args .i) (s .args .x) (s .args .y) (s .pre .0) (s .pre .1) (s .pre .2) ((c .before .before .before .before .before .before .before .before .before .before) .put-gap .ensures) ((c .before .before .before .before .before .before) .put-bare .ensures) ((c .before .before) .put-bare2 .ensures))
 
 returns : tie.Need-returns
-returns c = let s = (c .before .before .before .before .before .before .before .before .before .before .before .before .before .before .before .before .before .before) in pair-put (s .args .out .now) (s .args .at) (s .args .i) (s .args .x) (s .args .y) (s .pre .0) (s .pre .1) (s .pre .2) (c .before .before .before .before .before .before .before .before .before .before .before .before .before .before .before .put-gap .ensures) (c .before .before .before .before .before .before .before .before .before .before .before .put-bare .ensures) (c .before .before .before .before .before .before .put-bytes .ensures) (c .before .before .put-bare2 .ensures)
+returns c = let s = (c .before .before .before .before .before .before .before .before .before .before .before .before .before) in pair-put (s .args .out .now) (s .args .at) (s .args .i) (s .args .x) (s .args .y) (s .pre .0) (s .pre .1) (s .pre .2) ((c .before .before .before .before .before .before .before .before .before .before) .put-gap .ensures) ((c .before .before .before .before .before .before) .put-bare .ensures) ((c .before .before) .put-bare2 .ensures)
 
 pub put-pair-spec : {M : Type 1} → statement M
 put-pair-spec =
@@ -31,8 +32,8 @@ put-pair-spec =
     (tie.spec
     put-gap-requires
     put-bare-requires
-    slice-aggregate-put-bytes
-    put-bytes-requires
+    slice-write-out
+    add-put-bare
     put-bare-requires-2
     same-length
     returns)

@@ -33,13 +33,13 @@ pairs-size-requires : tie.Need-pairs-size-requires
 pairs-size-requires c κs = let s = (c .before .before .before .before .before .before .before) in vertices-asks (s .args .rows .now) (s .args .points .now) (s .pre) (c .before .before .count-at3 .ensures)
 
 add-result : tie.Need-add-result
-add-result c = let s = (c .before .before .before .before .before .before .before .before) in omega (arith, element-sum (s .args .rows .now) (s .args .points .now) (s .pre) (is-line (s .args .rows .now) (s .args .points .now) (s .pre) (c .before .before .before .before .before .before .before .count-at .ensures) (c .before .before .before .before .before .before .if1 .taken)) (c .before .before .before .before .before .count-at2 .ensures) (c .before .before .before .before .digit-count .ensures) (c .before .before .before .count-at3 .ensures) (c .before .before .digit-count2 .ensures) (c .pairs-size .ensures))
+add-result c = let s = (c .before .before .before .before .before .before .before .before) in omega (arith, s .pre .vertices-most, element-sum (s .args .rows .now) (s .args .points .now) (s .pre) (is-line (s .args .rows .now) (s .args .points .now) (s .pre) (c .before .before .before .before .before .before .before .count-at .ensures) (c .before .before .before .before .before .before .if1 .taken)) (c .before .before .before .before .before .count-at2 .ensures) (c .before .before .before .before .digit-count .ensures) (c .before .before .before .count-at3 .ensures) (c .before .before .digit-count2 .ensures) (c .pairs-size .ensures))
 
 add-result-2 : tie.Need-add-result-2
-add-result-2 c = let s = (c .before .before .before .before .before .before .before .before) in omega (arith, element-sum (s .args .rows .now) (s .args .points .now) (s .pre) (is-line (s .args .rows .now) (s .args .points .now) (s .pre) (c .before .before .before .before .before .before .before .count-at .ensures) (c .before .before .before .before .before .before .if1 .taken)) (c .before .before .before .before .before .count-at2 .ensures) (c .before .before .before .before .digit-count .ensures) (c .before .before .before .count-at3 .ensures) (c .before .before .digit-count2 .ensures) (c .pairs-size .ensures))
+add-result-2 c = let s = (c .before .before .before .before .before .before .before .before) in omega (arith, s .pre .vertices-most, element-sum (s .args .rows .now) (s .args .points .now) (s .pre) (is-line (s .args .rows .now) (s .args .points .now) (s .pre) (c .before .before .before .before .before .before .before .count-at .ensures) (c .before .before .before .before .before .before .if1 .taken)) (c .before .before .before .before .before .count-at2 .ensures) (c .before .before .before .before .digit-count .ensures) (c .before .before .before .count-at3 .ensures) (c .before .before .digit-count2 .ensures) (c .pairs-size .ensures))
 
 add-result-3 : tie.Need-add-result-3
-add-result-3 c = let s = (c .before .before .before .before .before .before .before .before) in omega (arith, element-sum (s .args .rows .now) (s .args .points .now) (s .pre) (is-line (s .args .rows .now) (s .args .points .now) (s .pre) (c .before .before .before .before .before .before .before .count-at .ensures) (c .before .before .before .before .before .before .if1 .taken)) (c .before .before .before .before .before .count-at2 .ensures) (c .before .before .before .before .digit-count .ensures) (c .before .before .before .count-at3 .ensures) (c .before .before .digit-count2 .ensures) (c .pairs-size .ensures))
+add-result-3 c = let s = (c .before .before .before .before .before .before .before .before) in omega (arith, s .pre .vertices-most, element-sum (s .args .rows .now) (s .args .points .now) (s .pre) (is-line (s .args .rows .now) (s .args .points .now) (s .pre) (c .before .before .before .before .before .before .before .count-at .ensures) (c .before .before .before .before .before .before .if1 .taken)) (c .before .before .before .before .before .count-at2 .ensures) (c .before .before .before .before .digit-count .ensures) (c .before .before .before .count-at3 .ensures) (c .before .before .digit-count2 .ensures) (c .pairs-size .ensures))
 
 returns : tie.Need-returns
 returns c = let s = (c .before .before .before .before .before .before .before .before) in row-sized (s .args .rows .now) (s .args .points .now) (s .pre) (c .before .before .before .before .before .before .before .count-at .ensures) (c .before .before .before .before .before .before .if1 .taken) (element-size (s .args .rows .now) (s .args .points .now) (s .pre) (is-line (s .args .rows .now) (s .args .points .now) (s .pre) (c .before .before .before .before .before .before .before .count-at .ensures) (c .before .before .before .before .before .before .if1 .taken)) (c .before .before .before .before .before .count-at2 .ensures) (c .before .before .before .before .digit-count .ensures) (c .before .before .before .count-at3 .ensures) (c .before .before .digit-count2 .ensures) (c .pairs-size .ensures))
