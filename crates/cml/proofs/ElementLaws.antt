@@ -18,7 +18,7 @@ use Rattle.spelling.proofs.DigitLaws.{digits-all, digits-some, digits-value, pl
 use Rattle.spelling.proofs.SpellingLaws.{in-plus, in-minus}
 use Rattle.made.specs.Made.{areReals}
 use Rattle.cml.specs.Element.{Polyline, verticesOf, pairText, outsideWord, opening, startTag, elementText, elementsText}
-use Rattle.cml.specs.Spaced.{gap, spacedText}
+use Rattle.cml.specs.Spaced.{mark, spacedText}
 use Rattle.cml.proofs.CoordLaws.{points-text}
 
 -- ---- fronts of lists
@@ -109,34 +109,28 @@ real-cut (negsuc a) (negsuc b) {r} {q} h k e =
     let x : a ≡ b = omega (arith, c .0) in
     (ap negsuc x, c .1)
 
--- ---- the pairs: as many on both sides
+-- ---- the coordinates: as many on both sides
 
-pairs-front : (i : ℕ) (x y : ℤ) (s : List ℤ) (r : List ℕ)
-    → spacedText i (x ∷ y ∷ s) ++ r ≡ gap i ++ (bareReal x ++ 44 ∷ (bareReal y ++ (spacedText (i + 1) s ++ r)))
-unfolding spacedText pairText
-pairs-front i x y s r = simp append-assoc
+coordinate-front : (j : ℕ) (z : ℤ) (s : List ℤ) (r : List ℕ) → spacedText j (z ∷ s) ++ r ≡ mark j ++ (bareReal z ++ (spacedText (j + 1) s ++ r))
+unfolding spacedText
+coordinate-front j z s r = simp append-assoc
 
 real-head : (z : ℤ) (s : List ℤ) → areReals (z ∷ s) ≡ true → (isReal z ≡ true) × (areReals s ≡ true)
 unfolding areReals
 real-head z s e = (and-left (isReal z) (areReals s) e, and-right (isReal z) (areReals s) e)
 
-pairs-cut : (s t : List ℤ) (v i : ℕ) {r q : List ℕ} → length s ≡ 2 * v → length t ≡ 2 * v → areReals s ≡ true → areReals t ≡ true
-    → spacedText i s ++ r ≡ spacedText i t ++ q → (s ≡ t) × (r ≡ q)
+coordinates-cut : (s t : List ℤ) (j : ℕ) {r q : List ℕ} → length s ≡ length t → areReals s ≡ true → areReals t ≡ true
+    → spacedText j s ++ r ≡ spacedText j t ++ q → (s ≡ t) × (r ≡ q)
 unfolding spacedText
-pairs-cut [] [] v i m n h k e = (refl, e)
-pairs-cut [] (x ∷ t) v i m n h k e = absurd (omega arith)
-pairs-cut (x ∷ []) t v i m n h k e = absurd (omega arith)
-pairs-cut (x ∷ y ∷ s) [] v i m n h k e = absurd (omega arith)
-pairs-cut (x ∷ y ∷ s) (u ∷ []) v i m n h k e = absurd (omega arith)
-pairs-cut (x ∷ y ∷ s) (u ∷ w ∷ t) v i {r} {q} m n h k e =
-    let a = real-head x (y ∷ s) h in
-    let b = real-head u (w ∷ t) k in
-    let f = real-cut x u (a .0) (b .0) (behind (gap i) (sym (pairs-front i x y s r) ∙ e ∙ pairs-front i u w t q)) in
-    let c = real-head y s (a .1) in
-    let d = real-head w t (b .1) in
-    let g = real-cut y w (c .0) (d .0) (ap (drop 1) (f .1)) in
-    let z = pairs-cut s t (v - 1) (i + 1) (omega arith) (omega arith) (c .1) (d .1) (g .1) in
-    (rw (f .0, g .0, z .0), z .1)
+coordinates-cut [] [] j n h k e = (refl, e)
+coordinates-cut [] (y ∷ t) j n h k e = absurd (omega arith)
+coordinates-cut (x ∷ s) [] j n h k e = absurd (omega arith)
+coordinates-cut (x ∷ s) (y ∷ t) j {r} {q} n h k e =
+    let a = real-head x s h in
+    let b = real-head y t k in
+    let f = real-cut x y (a .0) (b .0) (behind (mark j) (sym (coordinate-front j x s r) ∙ e ∙ coordinate-front j y t q)) in
+    let z = coordinates-cut s t (j + 1) (omega arith) (a .1) (b .1) (f .1) in
+    (rw (f .0, z .0), z .1)
 
 -- ---- a line
 
@@ -215,8 +209,8 @@ element-cut a b {r} {q} g h e =
     (behind opened (sym (element-front a r g) ∙ e ∙ element-front b q h)) in
     let c = count-cut (a .code) (b .code) (g .code-in) (h .code-in) (behind coded (o .1)) in
     let n = count-cut (verticesOf a) (verticesOf b) (omega (arith, good-count g, g .most)) (omega (arith, good-count h, h .most)) (behind counted (c .1)) in
-    let v : length (b .points) ≡ 2 * g .vertices = omega (arith, n .0, g .pairs, h .pairs) in
-    let p = pairs-cut (a .points) (b .points) (g .vertices) 0 (g .pairs) v (g .reals) (h .reals) (behind begun (n .1)) in
+    let v : length (a .points) ≡ length (b .points) = omega (arith, n .0, g .pairs, h .pairs) in
+    let p = coordinates-cut (a .points) (b .points) 0 v (g .reals) (h .reals) (behind begun (n .1)) in
     (polyline-same a b (word-cut (a .outside) (b .outside) (g .mark) (h .mark) (o .0)) (c .0) (p .0), behind closed (p .1))
 
 -- ---- all lines

@@ -1,5 +1,5 @@
--- The vertices of a line, one behind the other, written and measured: document 02, T-11. Assumes nothing.
-use Prim.Native.Nat.{ℕ, zero, suc, _+_, _*_, _%_, _≤_, _<_}
+-- The points of a line, written coordinate by coordinate and measured vertex by vertex: document 02, T-11. Assumes nothing.
+use Prim.Native.Nat.{ℕ, zero, suc, _+_, _*_, _/_, _%_, _≤_, _<_}
 use mathlib.Core.Path.{_≡_, refl, sym, _∙_, ap}
 use mathlib.Core.List.{List, [], _∷_, _++_, append-assoc}
 use mathlib.Core.Bool.{Bool, true, false, cond, _&&_}
@@ -23,8 +23,8 @@ use Rattle.made.specs.Made.{areReals}
 use Rattle.writer.specs.Put.{Put}
 use Rattle.writer.proofs.Putting.{Putting, putting-start, putting-room, putting-on, stored-put, stored-on, stored-last, real-back}
 use Rattle.cml.specs.Element.{pairText}
-use Rattle.cml.specs.Spaced.{gap, gapsTo, spacedText}
-use Rattle.cml.proofs.CoordLaws.{gap-first, gap-full, gap-blank}
+use Rattle.cml.specs.Spaced.{gap, gapsTo, mark, spacedText}
+use Rattle.cml.proofs.CoordLaws.{gap-first, gap-full, gap-blank, mark-comma, mark-gap, spaced-none, spaced-two}
 
 -- ---- nothing, and bytes that are the text
 
@@ -85,31 +85,73 @@ sizeOf z = cond (isReal z) (length (bareReal z)) 0
 size-told : (z : ℤ) → isReal z ≡ true → sizeOf (toZ w64 (ofZ w64 z)) ≡ length (bareReal z)
 size-told z h = rw (real-back z h, h)
 
--- ---- a vertex
+-- ---- what stands before a coordinate
 
-module _ (l : List ℕ) (at i : ℕ) (x y : ℤ) (hx : isReal x ≡ true) (hy : isReal y ≡ true) (room : at + length (gap i ++ pairText x y) ≤ length l) where
-  abbrev whole : List ℕ
-  whole = gap i ++ pairText x y
+module _ (l : List ℕ) (at j : ℕ) (room : at + length (mark j) ≤ length l) where
+  module _ (e : j % 2 ≡ 1) where
+    pub comma-room : at + 1 ≤ length l
+    comma-room = omega (arith, room, ap length (mark-comma j e))
 
-  pair-start : Putting l at whole l at (gap i ++ (bareReal x ++ 44 ∷ bareReal y))
-  unfolding pairText
-  pair-start = putting-start l at (gap i ++ pairText x y) room
+    pub comma-put : Put l at (mark j) (set l at 44) (at + 1)
+    comma-put = rw (mark-comma j e) (put-one l at 44 comma-room)
 
-  pub pair-gap-room : at + length (gap i) ≤ length l
-  pair-gap-room = putting-room pair-start (gap i) (bareReal x ++ 44 ∷ bareReal y) refl
+  module _ (f : j % 2 ≡ 1 → ⊥) where
+    pub mark-room : at + length (gap (j / 2)) ≤ length l
+    mark-room = rw (mark-gap j f) at room
 
-  -- behind x: the comma, and y
-  module _ {d e : List ℕ} {n m : ℕ} (p : Put l at (gap i) d n) (u : Stored d n (told (toZ w64 (ofZ w64 x))) e m) where
-    x-put : Putting l at whole e m (44 ∷ bareReal y)
-    x-put =
-        let a = putting-on pair-start (gap i) (bareReal x ++ 44 ∷ bareReal y) refl p in
-        stored-on a (bareReal x) (44 ∷ bareReal y) refl (rw (told-is x hx) at u)
+    pub mark-put : {d : List ℕ} {r : ℕ} → Put l at (gap (j / 2)) d r → Put l at (mark j) d r
+    mark-put p = rw (mark-gap j f) p
 
-    pub comma-room : m + 1 ≤ length e
-    comma-room = putting-room x-put (44 ∷ []) (bareReal y) refl
+-- ---- a coordinate
 
-    pub pair-put : {f : List ℕ} {k : ℕ} → Stored (set e m 44) (m + 1) (told (toZ w64 (ofZ w64 y))) f k → Put l at whole f k
-    pair-put w = stored-last (putting-on x-put (44 ∷ []) (bareReal y) refl (put-one e m 44 comma-room)) (rw (told-is y hy) at w)
+module _ (l : List ℕ) (at j : ℕ) (z : ℤ) (h : isReal z ≡ true) (room : at + length (mark j ++ bareReal z) ≤ length l) where
+  coordinate-start : Putting l at (mark j ++ bareReal z) l at (mark j ++ bareReal z)
+  coordinate-start = putting-start l at (mark j ++ bareReal z) room
+
+  pub before-room : at + length (mark j) ≤ length l
+  before-room = putting-room coordinate-start (mark j) (bareReal z) refl
+
+  pub coordinate-put : {d e : List ℕ} {n m : ℕ} → Put l at (mark j) d n → Stored d n (told (toZ w64 (ofZ w64 z))) e m → Put l at (mark j ++ bareReal z) e m
+  coordinate-put p w = stored-last (putting-on coordinate-start (mark j) (bareReal z) refl p) (rw (told-is z h) at w)
+
+-- ---- the coordinates from j on
+
+module _ (s : List ℤ) (j : ℕ) where
+  abbrev Z : ℤ
+  Z = getD s j (pos 0)
+
+  module _ (h : j < length s) where
+    one-left : drop j s ≡ Z ∷ drop (j + 1) s
+    one-left = left s j (pos 0) h
+
+    coordinate-here : spacedText j (drop j s) ≡ (mark j ++ bareReal Z) ++ spacedText (j + 1) (drop (j + 1) s)
+    unfolding spacedText
+    coordinate-here = rw one-left (sym (append-assoc (mark j) (bareReal Z) (spacedText (j + 1) (drop (j + 1) s))))
+
+    module _ (q : areReals (drop j s) ≡ true) where
+      both-real : (isReal Z && areReals (drop (j + 1) s)) ≡ true
+      unfolding areReals
+      both-real = rw one-left at q
+
+      here-real : isReal Z ≡ true
+      here-real = and-left (isReal Z) (areReals (drop (j + 1) s)) both-real
+
+      pub rest-real : areReals (drop (j + 1) s) ≡ true
+      rest-real = and-right (isReal Z) (areReals (drop (j + 1) s)) both-real
+
+      -- what the function that writes it asks
+      pub coordinate-asks : {l : List ℕ} {at : ℕ} {u d : List ℕ} {m : ℕ} → Putting l at u d m (spacedText j (drop j s))
+          → (isReal (toZ w64 (ofZ w64 Z)) ≡ true) × (m + length (mark j ++ bareReal (toZ w64 (ofZ w64 Z))) ≤ length d)
+      coordinate-asks p = rw (real-back Z here-real) (here-real, putting-room p (mark j ++ bareReal Z) (spacedText (j + 1) (drop (j + 1) s)) coordinate-here)
+
+      pub coordinates-on : {l : List ℕ} {at : ℕ} {u d : List ℕ} {m : ℕ} → Putting l at u d m (spacedText j (drop j s)) → {v : List ℕ} {r : ℕ}
+          → Put d m (mark j ++ bareReal (toZ w64 (ofZ w64 Z))) v r → Putting l at u v r (spacedText (j + 1) (drop (j + 1) s))
+      coordinates-on p w = putting-on p (mark j ++ bareReal Z) (spacedText (j + 1) (drop (j + 1) s)) coordinate-here (rw (real-back Z here-real) at w)
+
+  pub coordinates-over : length s ≤ j → spacedText j (drop j s) ≡ []
+  coordinates-over h = rw (left-none s j h) (spaced-none j)
+
+-- ---- the size of a vertex
 
 module _ (i : ℕ) (x y : ℤ) (hx : isReal x ≡ true) (hy : isReal y ≡ true) where
   pair-length : length (gap i ++ pairText x y) ≡ length (gap i) + length (bareReal x) + 1 + length (bareReal y)
@@ -123,7 +165,7 @@ pair-sized x y hx hy a b f h = omega (arith, f ∙ size-told x hx, h ∙ size-to
 pub size-most : (z : ℤ) → isReal z ≡ true → (a : ℕ) → a ≡ sizeOf (toZ w64 (ofZ w64 z)) → a ≤ 12
 size-most z h a e = omega (arith, e ∙ size-told z h, bare-most z h)
 
--- ---- the vertices from i on
+-- ---- the vertices from i on, measured
 
 module _ (s : List ℤ) (n : ℕ) (e : length s ≡ 2 * n) (i : ℕ) where
   abbrev X : ℤ
@@ -138,9 +180,11 @@ module _ (s : List ℤ) (n : ℕ) (e : length s ≡ 2 * n) (i : ℕ) where
         let z : 2 * i + 1 + 1 ≡ 2 * (i + 1) = omega arith in
         left s (2 * i) (pos 0) (omega arith) ∙ ap (λ (r : List ℤ). X ∷ r) (left s (2 * i + 1) (pos 0) (omega arith) ∙ ap (λ (k : ℕ). Y ∷ drop k s) z)
 
-    pub pairs-here : spacedText i (drop (2 * i) s) ≡ (gap i ++ pairText X Y) ++ spacedText (i + 1) (drop (2 * (i + 1)) s)
-    unfolding spacedText
-    pairs-here = rw two-left (sym (append-assoc (gap i) (pairText X Y) (spacedText (i + 1) (drop (2 * (i + 1)) s))))
+    pub pairs-here : spacedText (2 * i) (drop (2 * i) s) ≡ (gap i ++ pairText X Y) ++ spacedText (2 * (i + 1)) (drop (2 * (i + 1)) s)
+    pairs-here =
+        ap (spacedText (2 * i)) two-left
+        ∙ spaced-two i X Y (drop (2 * (i + 1)) s)
+        ∙ sym (append-assoc (gap i) (pairText X Y) (spacedText (2 * (i + 1)) (drop (2 * (i + 1)) s)))
 
     reals-here : areReals (drop (2 * i) s) ≡ true → (isReal X ≡ true) × (isReal Y ≡ true) × (areReals (drop (2 * (i + 1)) s) ≡ true)
     unfolding areReals
@@ -160,29 +204,12 @@ module _ (s : List ℤ) (n : ℕ) (e : length s ≡ 2 * n) (i : ℕ) where
       pub reals-next : areReals (drop (2 * (i + 1)) s) ≡ true
       reals-next = reals-here q .2
 
-      abbrev pair : List ℕ
-      pair = gap i ++ pairText (toZ w64 (ofZ w64 X)) (toZ w64 (ofZ w64 Y))
-
-      pair-is : pair ≡ gap i ++ pairText X Y
-      pair-is = rw (real-back X x-real, real-back Y y-real)
-
-      -- what the function that writes it asks
-      pub pair-asks : {l : List ℕ} {at : ℕ} {u d : List ℕ} {m : ℕ} → Putting l at u d m (spacedText i (drop (2 * i) s))
-          → (isReal (toZ w64 (ofZ w64 X)) ≡ true) × (isReal (toZ w64 (ofZ w64 Y)) ≡ true) × (m + length pair ≤ length d)
-      pair-asks p =
-          rw (real-back X x-real, real-back Y y-real)
-          (x-real, y-real, putting-room p (gap i ++ pairText X Y) (spacedText (i + 1) (drop (2 * (i + 1)) s)) pairs-here)
-
-      pub pairs-on : {l : List ℕ} {at : ℕ} {u d : List ℕ} {m : ℕ} → Putting l at u d m (spacedText i (drop (2 * i) s)) → {v : List ℕ} {r : ℕ}
-          → Put d m pair v r → Putting l at u v r (spacedText (i + 1) (drop (2 * (i + 1)) s))
-      pairs-on p w = putting-on p (gap i ++ pairText X Y) (spacedText (i + 1) (drop (2 * (i + 1)) s)) pairs-here (rw pair-is at w)
-
-      -- and the one that measures it
+      -- what the function that measures it asks
       pub pair-sizes : (isReal (toZ w64 (ofZ w64 X)) ≡ true) × (isReal (toZ w64 (ofZ w64 Y)) ≡ true)
       pair-sizes = rw (real-back X x-real, real-back Y y-real) (x-real, y-real)
 
       -- the numbers' sizes so far, commas and what stands before the vertices, and what is to come
-      module _ (total : ℕ) (w : total + (i + gapsTo i) + length (spacedText i (drop (2 * i) s)) ≡ length (spacedText 0 s)) (r : ℕ)
+      module _ (total : ℕ) (w : total + (i + gapsTo i) + length (spacedText (2 * i) (drop (2 * i) s)) ≡ length (spacedText 0 s)) (r : ℕ)
           (v : r ≡ length (bareReal (toZ w64 (ofZ w64 X))) + length (bareReal (toZ w64 (ofZ w64 Y)))) where
         measured-is : r ≡ length (bareReal X) + length (bareReal Y)
         measured-is = v ∙ rw (real-back X x-real, real-back Y y-real)
@@ -190,7 +217,7 @@ module _ (s : List ℤ) (n : ℕ) (e : length s ≡ 2 * n) (i : ℕ) where
         pub measured-most : r ≤ 24
         measured-most = omega (arith, measured-is, bare-most X x-real, bare-most Y y-real)
 
-        pub measured-on : total + r + (i + 1 + gapsTo (i + 1)) + length (spacedText (i + 1) (drop (2 * (i + 1)) s)) ≡ length (spacedText 0 s)
+        pub measured-on : total + r + (i + 1 + gapsTo (i + 1)) + length (spacedText (2 * (i + 1)) (drop (2 * (i + 1)) s)) ≡ length (spacedText 0 s)
         measured-on =
             omega (
               arith,
@@ -199,14 +226,13 @@ module _ (s : List ℤ) (n : ℕ) (e : length s ≡ 2 * n) (i : ℕ) where
               gaps-next i,
               pair-length i X Y x-real y-real,
               ap length pairs-here,
-              length-append (gap i ++ pairText X Y) (spacedText (i + 1) (drop (2 * (i + 1)) s)),
+              length-append (gap i ++ pairText X Y) (spacedText (2 * (i + 1)) (drop (2 * (i + 1)) s)),
             )
 
-  pub pairs-over : n ≤ i → spacedText i (drop (2 * i) s) ≡ []
-  unfolding spacedText
-  pairs-over h = rw (left-none s (2 * i) (omega arith))
+  pub pairs-over : n ≤ i → spacedText (2 * i) (drop (2 * i) s) ≡ []
+  pairs-over h = coordinates-over s (2 * i) (omega arith)
 
-  pub measured-end : i ≤ n → n ≤ i → (total g : ℕ) → total + (i + gapsTo i) + length (spacedText i (drop (2 * i) s)) ≡ length (spacedText 0 s) → g ≡ gapsTo n
+  pub measured-end : i ≤ n → n ≤ i → (total g : ℕ) → total + (i + gapsTo i) + length (spacedText (2 * i) (drop (2 * i) s)) ≡ length (spacedText 0 s) → g ≡ gapsTo n
       → total + n + g ≡ length (spacedText 0 s)
   measured-end k h total g w q = let z : i ≡ n = omega arith in omega (arith, w, ap length (pairs-over h), q ∙ ap (λ (j : ℕ). gapsTo j) (sym z), z)
 
@@ -219,7 +245,7 @@ count-size n h = ap length (sym (digits-wider 8 20 n (omega arith) (omega arith)
 -- ---- the size of all: 25 bytes a vertex at most, and what stands before them
 
 pub pairs-most : (k : ℕ) (s : List ℤ) (n i : ℕ) → length s ≡ 2 * n → i + k ≡ n → areReals (drop (2 * i) s) ≡ true
-    → length (spacedText i (drop (2 * i) s)) + gapsTo i ≤ 25 * k + gapsTo n
+    → length (spacedText (2 * i) (drop (2 * i) s)) + gapsTo i ≤ 25 * k + gapsTo n
 pairs-most zero s n i e h q = let z : i ≡ n = omega arith in omega (arith, ap length (pairs-over s n e i (omega arith)), z)
 pairs-most (suc k) s n i e h q =
     let l : i < n = omega arith in
@@ -231,7 +257,7 @@ pairs-most (suc k) s n i e h q =
       r,
       gaps-next i,
       ap length (pairs-here s n e i l),
-      length-append (gap i ++ pairText (X s n e i) (Y s n e i)) (spacedText (i + 1) (drop (2 * (i + 1)) s)),
+      length-append (gap i ++ pairText (X s n e i) (Y s n e i)) (spacedText (2 * (i + 1)) (drop (2 * (i + 1)) s)),
       pair-length i (X s n e i) (Y s n e i) x y,
       bare-most (X s n e i) x,
       bare-most (Y s n e i) y,

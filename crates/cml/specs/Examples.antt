@@ -15,7 +15,7 @@ use Rattle.writer.specs.declared.Written.{Written}
 use Rattle.writer.specs.declared.Written.the-variants.{Wrote, NoRoom, Refused}
 use Rattle.cml.specs.Element.{pairText, partedText, pairsText, coordText, coordCount, coordsText, outsideWord, opening, startTag, elementText, elementsText}
 use Rattle.cml.specs.Lines.{polylinesOf, cmlText, cmlOf}
-use Rattle.cml.specs.Spaced.{gap, gapsTo, spacedText}
+use Rattle.cml.specs.Spaced.{gap, gapsTo, mark, spacedText}
 
 -- `cmlText` and `cmlOf` with every definition opened, so that they compute
 unfoldable pub computedText : ℕ → Tables → List ℕ
@@ -57,8 +57,8 @@ unfolding noughts computedText
 filled = (refl, refl)
 
 -- the vertices 1000 and 1001 of a line, counted from 1, as the code comes to them
-full : spacedText 999 (pos 1 ∷ pos 2 ∷ pos 3 ∷ pos 4 ∷ []) ≡ text " 0.001,0.002</COORD><COORD>0.003,0.004"
-unfolding spacedText gap computedText
+full : spacedText 1998 (pos 1 ∷ pos 2 ∷ pos 3 ∷ pos 4 ∷ []) ≡ text " 0.001,0.002</COORD><COORD>0.003,0.004"
+unfolding spacedText mark gap computedText
 full = refl
 
 -- only LINEA rows are written: no symbol, no line of LIBRETTO; no lines, no bytes

@@ -1,4 +1,4 @@
--- A line's points as the code writes them, vertex by vertex, and what it goes by: document 02, T-11. Assumes nothing: these are definitions.
+-- A line's points as the code writes them, coordinate by coordinate, and what it goes by: document 02, T-11. Assumes nothing: these are definitions.
 -- That this is the text of `Element` is a law (cml/proofs/CoordLaws: `coords-are`).
 use Prim.Native.Nat.{ℕ, _+_, _-_, _*_, _/_, _%_, _≤_}
 use mathlib.Core.Path.{_≡_}
@@ -8,11 +8,12 @@ use lib.ListN.{length, take}
 use lib.Dec.{eqb}
 use lib.IntN.{ℤ}
 use Rattle.laws.specs.Text.{text}
+use Rattle.spelling.specs.Spelling.{bareReal}
 use Rattle.kinds.specs.Kinds.{codePlace, verticesPlace}
 use Rattle.sheet.specs.Tables.{Tables}
 use Rattle.made.specs.Made.{kindOf, areReals}
 use Rattle.row.specs.Walk.{cellIn}
-use Rattle.cml.specs.Element.{coordMost, pairText, elementText}
+use Rattle.cml.specs.Element.{coordMost, elementText}
 use Rattle.cml.specs.Lines.{lineKind, polylineOf}
 
 -- what stands before vertex i: nothing before the first, a new COORD where the one before it is full, else one blank
@@ -23,11 +24,14 @@ gap i = cond (eqb i 0) [] (cond (eqb (i % coordMost) 0) (text "</COORD><COORD>")
 abbrev pub gapsTo : ℕ → ℕ
 gapsTo n = n - 1 + 14 * ((n - 1) / coordMost)
 
--- the pairs with what stands before each, the first of them vertex i
+-- what stands before coordinate j: a comma before a y, before an x what stands before its vertex
+unfoldable pub mark : ℕ → List ℕ
+mark j = cond (eqb (j % 2) 1) (text ",") (gap (j / 2))
+
+-- the coordinates with what stands before each, the first of them coordinate j
 unfoldable pub spacedText : ℕ → List ℤ → List ℕ
-spacedText i [] = []
-spacedText i (x ∷ []) = []
-spacedText i (x ∷ y ∷ s) = gap i ++ (pairText x y ++ spacedText (i + 1) s)
+spacedText j [] = []
+spacedText j (z ∷ s) = mark j ++ (bareReal z ++ spacedText (j + 1) s)
 
 -- the first row as an element, if it is a line
 unfoldable pub rowElement : Tables → List ℕ

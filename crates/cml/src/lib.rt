@@ -17,9 +17,9 @@ ghost use Rattle.made.specs.Made.{tablesOf, areReals, noneBefore, judgeRows};
 ghost use Rattle.writer.specs.Write.{writtenAfter, outputOf};
 ghost use Rattle.row.specs.Walk.{cellIn};
 ghost use Rattle.writer.specs.Put.{Put};
-ghost use Rattle.cml.specs.Element.{pairText, opening, startTag, elementText};
+ghost use Rattle.cml.specs.Element.{opening, startTag, elementText};
 ghost use Rattle.cml.specs.Lines.{lineKind, polylineOf, cmlText, cmlOf};
-ghost use Rattle.cml.specs.Spaced.{gap, gapsTo, spacedText, rowElement, linesMost, Drawn};
+ghost use Rattle.cml.specs.Spaced.{gap, gapsTo, mark, spacedText, rowElement, linesMost, Drawn};
 use heading::Header;
 use made::Verdict;
 use made::count_at;
@@ -67,30 +67,39 @@ fn put_gap(out: &mut [u8], at: usize, i: usize) -> usize
     at + 1
 }
 
-// Vertex i, and what stands before it.
-fn put_pair(out: &mut [u8], at: usize, i: usize, x: i64, y: i64) -> usize
-    requires { ⌜ (isReal x ≡ true) × (isReal y ≡ true) × (at + length (gap i ++ pairText x y) ≤ length (now out)) ⌝ }
-    ensures { λ r. ⌜ Put (now (out .entry)) at (gap i ++ pairText x y) (now (out .exit)) r ⌝ }
+// What stands before coordinate j.
+fn put_mark(out: &mut [u8], at: usize, j: usize) -> usize
+    requires { ⌜ at + length (mark j) ≤ length (now out) ⌝ }
+    ensures { λ r. ⌜ Put (now (out .entry)) at (mark j) (now (out .exit)) r ⌝ }
 {
-    let gap_end = put_gap(out, at, i);
-    let x_end = put_bare(out, gap_end, x);
-    out[x_end] = b',';
-    put_bare(out, x_end + 1, y)
+    if j % 2 == 1 {
+        out[at] = b',';
+        return at + 1;
+    }
+    put_gap(out, at, j / 2)
 }
 
-// The n vertices of a line.
-fn put_pairs(out: &mut [u8], at: usize, n: usize, s: &[i64]) -> usize
-    requires { ⌜ (n ≤ 9999) × (length (now s) ≡ 2 * n) × (areReals (now s) ≡ true) ⌝ }
+// Coordinate j, and what stands before it.
+fn put_coordinate(out: &mut [u8], at: usize, j: usize, value: i64) -> usize
+    requires { ⌜ (isReal value ≡ true) × (at + length (mark j ++ bareReal value) ≤ length (now out)) ⌝ }
+    ensures { λ r. ⌜ Put (now (out .entry)) at (mark j ++ bareReal value) (now (out .exit)) r ⌝ }
+{
+    let mark_end = put_mark(out, at, j);
+    put_bare(out, mark_end, value)
+}
+
+// The coordinates of a line: one call for x and y alike, so that it is compiled into the loop.
+fn put_coordinates(out: &mut [u8], at: usize, s: &[i64]) -> usize
+    requires { ⌜ areReals (now s) ≡ true ⌝ }
     requires { ⌜ at + length (spacedText 0 (now s)) ≤ length (now out) ⌝ }
     ensures { λ r. ⌜ Put (now (out .entry)) at (spacedText 0 (now (s .entry))) (now (out .exit)) r ⌝ }
 {
     let mut next = at;
-    let mut i = 0;
-    while i < n {
-        let x = s[2 * i];
-        let y = s[2 * i + 1];
-        next = put_pair(out, next, i, x, y);
-        i += 1;
+    let mut j = 0;
+    while j < s.len() {
+        let value = s[j];
+        next = put_coordinate(out, next, j, value);
+        j += 1;
     }
     next
 }
@@ -138,8 +147,8 @@ fn put_line(out: &mut [u8], at: usize, rows: &[i64], points: &[i64]) -> usize
     let p = 2 * n;
     let tag_end = put_tag(out, at, outside, code, n);
     let begun = put_bytes(out, tag_end, b"<COORD>");
-    let pairs_end = put_pairs(out, begun, n, &points[..p]);
-    put_bytes(out, pairs_end, b"</COORD></LINEA>\n")
+    let points_end = put_coordinates(out, begun, &points[..p]);
+    put_bytes(out, points_end, b"</COORD></LINEA>\n")
 }
 
 // The element of the first row, if it is a line.

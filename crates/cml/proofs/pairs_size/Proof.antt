@@ -13,7 +13,7 @@ use Rattle.cml.proofs.pairs_size.Statement.{statement}
 use Rattle.cml.proofs.pairs_size.Tie as tie
 
 abbrev Inv-loop : tie.InvT-loop
-Inv-loop n s total₀ i₀ total i = (total + (i + gapsTo i) + length (spacedText i (drop (2 * i) s)) ≡ length (spacedText 0 s)) × (areReals (drop (2 * i) s) ≡ true) × (total ≤ 24 * i) × (i ≤ n)
+Inv-loop n s total₀ i₀ total i = (total + (i + gapsTo i) + length (spacedText (2 * i) (drop (2 * i) s)) ≡ length (spacedText 0 s)) × (areReals (drop (2 * i) s) ≡ true) × (total ≤ 24 * i) × (i ≤ n)
 
 abbrev μ-loop : tie.MeasureT-loop
 μ-loop n s total₀ i₀ total i = n - i

@@ -28,15 +28,15 @@ slice-aggregate-put-bytes c = search needs
 put-bytes-requires : tie.Need-put-bytes-requires
 put-bytes-requires c κs = search needs
 
-slice-aggregate-put-pairs : tie.Need-slice-aggregate-put-pairs
-slice-aggregate-put-pairs c =
+slice-aggregate-put-coordinates : tie.Need-slice-aggregate-put-coordinates
+slice-aggregate-put-coordinates c =
     let s = c .before .before .before .before .before .before .before .before .before .before .before .before .before .before .before in
     sym (length-take-le (2 * (c .before .before .before .before .before .before .before .before .before .before .before .count-at3 .result)) (s .args .points .now) (rw (c .before .before .before .before .before .before .before .before .before .before .before .count-at3 .ensures) (s .pre .0 .0 .held)))
 
-put-pairs-requires : tie.Need-put-pairs-requires
-put-pairs-requires c κs =
+put-coordinates-requires : tie.Need-put-coordinates-requires
+put-coordinates-requires c κs =
     let s = c .before .before .before .before .before .before .before .before .before .before .before .before .before .before .before in
-    (vertices-asks (s .args .rows .now) (s .args .points .now) (s .pre .0 .0) (c .before .before .before .before .before .before .before .before .before .before .before .count-at3 .ensures), pairs-room (s .args .rows .now) (s .args .points .now) (s .pre .0 .0) (s .pre .0 .1) (s .args .out .now) (s .args .at) (s .pre .1) (c .before .before .before .before .before .before .before .before .before .before .before .before .before .count-at .ensures) (c .before .before .before .before .before .before .before .before .before .before .before .before .count-at2 .ensures) (c .before .before .before .before .before .before .before .before .before .before .before .count-at3 .ensures) (c .before .before .before .before .before .before .before .before .before .put-tag .ensures) (c .before .before .before .before .put-bytes .ensures))
+    (vertices-asks (s .args .rows .now) (s .args .points .now) (s .pre .0 .0) (c .before .before .before .before .before .before .before .before .before .before .before .count-at3 .ensures) .2, pairs-room (s .args .rows .now) (s .args .points .now) (s .pre .0 .0) (s .pre .0 .1) (s .args .out .now) (s .args .at) (s .pre .1) (c .before .before .before .before .before .before .before .before .before .before .before .before .before .count-at .ensures) (c .before .before .before .before .before .before .before .before .before .before .before .before .count-at2 .ensures) (c .before .before .before .before .before .before .before .before .before .before .before .count-at3 .ensures) (c .before .before .before .before .before .before .before .before .before .put-tag .ensures) (c .before .before .before .before .put-bytes .ensures))
 
 slice-aggregate-put-bytes-2 : tie.Need-slice-aggregate-put-bytes-2
 slice-aggregate-put-bytes-2 c = search needs
@@ -61,8 +61,8 @@ put-line-spec =
     put-tag-requires
     slice-aggregate-put-bytes
     put-bytes-requires
-    slice-aggregate-put-pairs
-    put-pairs-requires
+    slice-aggregate-put-coordinates
+    put-coordinates-requires
     slice-aggregate-put-bytes-2
     put-bytes-requires-2
     same-length
