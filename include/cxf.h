@@ -293,7 +293,9 @@ typedef struct {
     uint64_t length;      /* the bytes that were written, or that are needed with 14 */
 } cxf_written;
 
-/* Writes a sheet in the layout of the exact mode to the start of out. After the header (6) the rows are judged in order, each for
+/* Writes a sheet in the layout of the exact mode to the start of out. A file that was read in CXF_LOOSE comes out as its clean file, which
+   CXF_EXACT accepts; two files come out as equal bytes exactly when they are the same sheet, header values and elements
+   (examples/repeats.c). After the header (6) the rows are judged in order, each for
    15 and then for its code (10), so a 10 in row 0 comes before a 15 in row 1; then whether the file would be too long (1), then
    the room (14). Past the text out is not altered. Stack: 1,472 bytes. */
 cxf_written cxf_write(CXF_SHEET, uint8_t *out, size_t out_len);

@@ -42,6 +42,7 @@ static uint64_t masks_empty, masks_full, masks_part, masks_through, masks_level,
 static uint64_t removed[LAST_KIND + 1][4], moved_back; /* by the row's kind; only row, first, last, between */
 static uint64_t sup_other, sup_wrong[8]; /* right files that are not T-01's; wrong lines: the date, counts, FABBRIC, listed, .. */
 static uint64_t cml_elements, cml_several, cml_unlike;
+static uint64_t cleaned_alike, cleaned_unlike;
 static uint64_t answers, differences, shown_most = 1;
 
 /* ---- What is being asked, for the report ---- */
@@ -1315,6 +1316,74 @@ static void file_case(rng *g, bool whole_sheet) {
     question_sheet(g, &t, false);
 }
 
+/* A file of a well made sheet that loose mode takes: no note stands behind a number. */
+static void make_taken(rng *g, const tables *t, bytes *out) {
+    while (make_file(g, t, 0, out)) continue;
+}
+
+/* Reading in loose mode and writing what was read. */
+static bytes clean_of(rng *g, const bytes *src) {
+    bytes clean = {0};
+    const cxf_reading need = needs_of(src, 0), r = try_read(g, src, 0, room_for(&need));
+    const tables t = as_tables(&r);
+    if (r.number != 0) own_fault("a file with no fault is refused in loose mode");
+    lend_sheet(g, &t);
+    const cxf_written w = try_write(g, &t, (size_t)ref_write(OWN(&t), NULL, 0).length);
+    if (w.number != 0) own_fault("a sheet with listed codes is not written in the length that it needs");
+    add_bytes(&clean, out_copy.at, (size_t)w.length);
+    return clean;
+}
+
+static bool same_bytes(const bytes *a, const bytes *b) { return a->len == b->len && memcmp(a->at, b->at, a->len) == 0; }
+
+/* A sheet with one thing altered, or a row taken out. Its tables are its own. */
+static tables altered_sheet(rng *g, const tables *t) {
+    tables a = *t;
+    a.rows = twin(t->rows, t->rows_len * sizeof t->rows[0]);
+    a.letters = twin(t->letters, t->letters_len);
+    a.islands = twin(t->islands, t->islands_len * sizeof t->islands[0]);
+    a.points = twin(t->points, t->points_len * sizeof t->points[0]);
+    if (t->count == 0 || !one_in(g, 6)) {
+        alter_sheet(g, &a);
+        return a;
+    }
+    const uint64_t out = below(g, t->count);
+    const int64_t *row = t->rows + ROW_WIDTH * out;
+    a.count = ref_remove(OWN(&a), out).count;
+    a.rows_len -= ROW_WIDTH;
+    a.letters_len -= (size_t)row[9];
+    a.islands_len -= (size_t)row[10];
+    a.points_len -= 2 * (size_t)row[11];
+    return a;
+}
+
+/* "two files, both accepted by loose mode and with only listed codes, come out of reading and writing as equal bytes exactly when their
+   header values and elements are equal"; "Cleaning an already clean file gives it back, and a clean file is one the exact mode accepts": a
+   sheet in two dresses, and with one thing altered. */
+static void repeats_case(rng *g, size_class size) {
+    make_sheet(g, size, &sheet);
+    if (ref_write(OWN(&sheet), NULL, 0).number != 14) return; /* a code that is not listed */
+    make_taken(g, &sheet, &file);
+    bytes first = clean_of(g, &file);
+    make_taken(g, &sheet, &file);
+    bytes second_file = clean_of(g, &file), again = clean_of(g, &first);
+    if (!same_bytes(&first, &second_file)) own_fault("one sheet has two clean files");
+    if (!same_bytes(&first, &again)) own_fault("a clean file is cleaned again");
+    if (needs_of(&first, 1).number % 14 != 0) own_fault("a clean file is not one that exact mode takes");
+    cleaned_alike++;
+    tables other_sheet = altered_sheet(g, &sheet);
+    if (ref_write(OWN(&other_sheet), NULL, 0).number == 14) {
+        make_taken(g, &other_sheet, &file);
+        bytes unlike = clean_of(g, &file);
+        const bool same = same_tables(&sheet, &other_sheet);
+        if (same_bytes(&first, &unlike) != same) own_fault("clean files are equal and their sheets are not, or the other way");
+        if (!same) cleaned_unlike++;
+        free(unlike.at);
+    }
+    free(first.at), free(second_file.at), free(again.at);
+    free(other_sheet.rows), free(other_sheet.letters), free(other_sheet.islands), free(other_sheet.points);
+}
+
 /* "put a second accepted map's elements just before the EOF record of a first, .. with equal header values": of the second text what
    stands behind its third record, of the first all but its last five bytes. False where a code is unlisted, so one is not written. */
 static bool join_texts(const tables *a, const tables *b, bytes *out) {
@@ -1576,6 +1645,8 @@ static void one_case(rng *g) {
     else if (draw < 24000) edit_case(g, one_in(g, 2) ? SHORT : MIDDLE);
     else if (draw < 24300) lines_case(g, LONG);
     else if (draw < 27000) lines_case(g, one_in(g, 2) ? SHORT : MIDDLE);
+    else if (draw < 27100) repeats_case(g, LONG);
+    else if (draw < 30000) repeats_case(g, one_in(g, 2) ? SHORT : MIDDLE);
     else if (draw < 42000) sheet_file_case(g, SHORT);
     else if (draw < 55000) sheet_file_case(g, MIDDLE);
     else if (draw < 74000) sheet_case(g, SHORT);
@@ -1691,6 +1762,8 @@ static void print_counts(void) {
            (unsigned long long)sup_wrong[7]);
     printf("  CML elements %llu, of more than 1000 vertices %llu; sheets with one line altered %llu\n", (unsigned long long)cml_elements,
            (unsigned long long)cml_several, (unsigned long long)cml_unlike);
+    printf("  sheets cleaned in two dresses %llu, and with one thing altered %llu\n", (unsigned long long)cleaned_alike,
+           (unsigned long long)cleaned_unlike);
     printf("  conversions: clean files %llu, REFUSED", (unsigned long long)converted);
     for (int n = 0; n < NUMBERS; n++)
         if (convert_says[n] > 0) printf("  %d:%llu", n, (unsigned long long)convert_says[n]);

@@ -1215,6 +1215,27 @@ bool alter_line(rng *g, tables *t) {
     return false;
 }
 
+void alter_sheet(rng *g, tables *t) {
+    const size_t rows = t->rows_len / WIDTH;
+    int64_t *row = rows == 0 ? NULL : t->rows + WIDTH * below(g, rows);
+    const int64_t step = one_in(g, 2) ? 1 : -1;
+    switch (rows == 0 ? 0 : below(g, 8)) {
+    case 0: t->scale += step; break;
+    case 1: t->name[below(g, 11)] = (uint8_t)('0' + below(g, 10)); break;
+    case 2: row[OUTSIDE] = 1 - row[OUTSIDE]; break;
+    case 3:
+        if (has_code(row[KIND])) row[CODE] = listed_code(g, row[KIND]);
+        break;
+    case 4: row[CODE + 1 + below(g, 6)] += step; break; /* size, angle, places */
+    case 5:
+        if (t->letters_len > 0) t->letters[below(g, t->letters_len)] = (uint8_t)('A' + below(g, 26));
+        break;
+    default:
+        if (t->points_len > 0) t->points[below(g, t->points_len)] += step;
+        break;
+    }
+}
+
 /* ---- Sheets damaged ---- */
 
 static void stretch(rng *g, size_t *len, size_t room) {

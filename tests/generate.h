@@ -81,6 +81,9 @@ void make_lines(rng *g, size_class size, tables *t);
 void make_full_lines(rng *g, size_t length, tables *t);
 /* Alters one line of a well made sheet: its outside mark, its code, or a coordinate. False where there is none. */
 bool alter_line(rng *g, tables *t);
+/* Alters one thing of a well made sheet: a letter, a code, an outside mark, a number or a coordinate by a millimetre, a header value. It may
+   no longer be well made then, or no longer have listed codes alone. */
+void alter_sheet(rng *g, tables *t);
 /* A sheet that is whole but for one count or length just past its rule: an island of 3, a line of 1 or of 10,000, 256
    letters and the like, with all that belongs to it. As a file too it is refused for that alone. */
 void make_odd(rng *g, tables *t);

@@ -37,7 +37,7 @@ use Rattle.layout.proofs.UsedLaws.{text-used, read-used}
 
 -- ---- every reading's result is well made
 
-judged-fine : (mode : Mode) (h : Header) (count : ℕ) (t : Tables) → isHeader h ≡ true → judgeRows mode count noneBefore t ≡ Fine → judgeOf mode h count t ≡ Fine
+pub judged-fine : (mode : Mode) (h : Header) (count : ℕ) (t : Tables) → isHeader h ≡ true → judgeRows mode count noneBefore t ≡ Fine → judgeOf mode h count t ≡ Fine
 unfolding judgeOf
 judged-fine mode h count t e q = rw e q
 
@@ -58,7 +58,7 @@ pub record CouldCome (mode : Mode) (h : Header) (count : ℕ) (t : Tables) : Typ
   pub counted : rowCount elements ≡ count
 
 module _ (mode : Mode) (h : Header) (count : ℕ) (t : Tables) where
-  rows-fine : judgeOf mode h count t ≡ Fine → judgeRows mode count noneBefore t ≡ Fine
+  pub rows-fine : judgeOf mode h count t ≡ Fine → judgeRows mode count noneBefore t ≡ Fine
   unfolding judgeOf
   rows-fine e = cond-first (isHeader h) (judgeRows mode count noneBefore t) BadHeader Fine (λ z. let y : _≡_ {A = ℕ} 0 1 = cc in omega arith) e .1
 

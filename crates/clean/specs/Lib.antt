@@ -1,0 +1,3 @@
+-- To read beside document 02, T-13:
+pub mod Clean
+pub mod Examples
