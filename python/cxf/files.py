@@ -1,0 +1,59 @@
+"""Files of the command: read no further than a sheet can be long, written aside and then renamed, so that none is ever half written."""
+
+import os
+import shutil
+import sys
+import tempfile
+from contextlib import ExitStack, contextmanager, suppress
+
+from ._library import FILE_MOST
+
+STANDARD = "-"
+
+
+def load(path):
+    """A file's bytes, at most one more than a sheet may have; - is standard input."""
+    if path == STANDARD:
+        return sys.stdin.buffer.read(FILE_MOST + 1)
+    with open(path, "rb") as file:
+        return file.read(FILE_MOST + 1)
+
+
+def store(contents):
+    """Writes files, each path with its bytes; they take their names when all are written."""
+    with ExitStack() as stack:
+        for path, content in contents.items():
+            with open(stack.enter_context(aside(path)), "wb") as file:
+                file.write(content)
+
+
+@contextmanager
+def aside(path):
+    """A path to write to in place of another, whose name it takes at the end; after an exception nothing of it is left."""
+    special = os.path.exists(path) and not os.path.isfile(path)
+    try:
+        with _before(path) if special else _beside(os.path.realpath(path)) as place:
+            yield place
+    except OSError as error:
+        raise OSError(error.errno, error.strerror, path) from None
+
+
+@contextmanager
+def _beside(path):
+    place = f"{path}.{os.getpid()}~"
+    try:
+        yield place
+        os.replace(place, path)
+    finally:
+        with suppress(FileNotFoundError):
+            os.remove(place)
+
+
+@contextmanager
+def _before(path):
+    """Of a device or a pipe, whose name cannot be taken: the whole is written elsewhere and then copied."""
+    with tempfile.TemporaryDirectory() as folder:
+        place = os.path.join(folder, "whole")
+        yield place
+        with open(place, "rb") as source, open(path, "wb") as target:
+            shutil.copyfileobj(source, target)
