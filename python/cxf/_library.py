@@ -4,7 +4,7 @@ import ctypes
 import os
 from array import array
 from ctypes import c_int64, c_size_t, c_uint64, c_void_p
-from pathlib import Path
+from operator import index
 
 INTERFACE = 4
 FILE_MOST = 16_777_216
@@ -67,11 +67,12 @@ class LibraryError(RuntimeError):
 def find():
     """The library's path: CXF_LIBRARY, else the one beside this package, else the one that ./lib makes in this project."""
     if os.environ.get("CXF_LIBRARY"):
-        return Path(os.environ["CXF_LIBRARY"])
-    package = Path(__file__).resolve().parent
-    places = package / "libcxf.so", package.parents[1] / "target" / "libcxf.so"
+        return os.environ["CXF_LIBRARY"]
+    package = os.path.dirname(os.path.realpath(__file__))
+    project = os.path.dirname(os.path.dirname(package))
+    places = os.path.join(package, "libcxf.so"), os.path.join(project, "target", "libcxf.so")
     for place in places:
-        if place.exists():
+        if os.path.exists(place):
             return place
     raise LibraryError(f"there is no {places[1]}; ./lib makes it (CXF_LIBRARY names another place)")
 
@@ -79,7 +80,7 @@ def find():
 def load(path):
     """The library's functions by their names less cxf_, from a library whose interface has the number that is known here."""
     try:
-        found = ctypes.CDLL(str(path))
+        found = ctypes.CDLL(path)
         interface = found.cxf_interface
     except OSError as error:
         raise LibraryError(f"{path} cannot be loaded: {error}") from None
@@ -90,6 +91,8 @@ def load(path):
         raise LibraryError(f"{path} has interface {interface()}, but this package is written for {INTERFACE}; ./lib makes the library anew")
     functions = {}
     for name, (answer, *parameters) in FUNCTIONS.items():
+        if not hasattr(found, name):
+            raise LibraryError(f"{path} has no {name}: it is older than this package; ./lib makes the library anew")
         function = functions[name[len("cxf_"):]] = getattr(found, name)
         function.restype, function.argtypes = answer, parameters
     return functions
@@ -106,6 +109,13 @@ class _Library:
 
 
 library = _Library()
+
+
+def whole(number):
+    """A number for a parameter of 64 bits. ctypes would cut a larger one short and ask another question, so that one becomes the largest
+    there is, which every question refuses: no row, no ring, no length of a sheet is so large."""
+    number = index(number)
+    return number if -1 << 63 <= number < 1 << 63 else (1 << 63) - 1
 
 
 class Tables:

@@ -1,17 +1,16 @@
-"""The command: its sheets one after the other or several at a time, its exit status."""
+"""The command: its sheets one after the other or several at a time, its exit status.
 
-import multiprocessing
+A year of sheets may be as many starts of this program, so what only some commands need is imported by those."""
+
+import errno
 import os
-import sqlite3
 import sys
-import tempfile
-from concurrent.futures import ProcessPoolExecutor
+from contextlib import suppress
 from functools import partial
 
 from . import commands, explain, files
 from ._library import LibraryError, library
 from .commands import REFUSED, TROUBLE, WELL, Outcome, shown
-from .geopackage import GeoPackage
 from .options import parse
 from .refusal import Refused
 from .sheet import Sheet
@@ -49,7 +48,7 @@ def main(arguments=None):
 
 def _run(options):
     """Works on all sheets, prints what comes of each in their order, and answers the highest status."""
-    status, many = WELL, len(options.sheets) > 1 and sys.stderr.isatty()
+    status, many = WELL, len(options.sheets) > 1 and sys.stderr is not None and sys.stderr.isatty()
     for done, outcome in enumerate(_outcomes(options), 1):
         if many:
             sys.stderr.write("\r\x1b[K")
@@ -68,8 +67,20 @@ def _outcomes(options):
     if options.jobs == 1 or files.STANDARD in options.sheets:
         yield from map(one, options.sheets)
     else:
-        with ProcessPoolExecutor(options.jobs, multiprocessing.get_context("fork")) as pool:
+        yield from _side_by_side(one, options)
+
+
+def _side_by_side(one, options):
+    import multiprocessing
+    import signal
+    from concurrent.futures import ProcessPoolExecutor
+    from concurrent.futures.process import BrokenProcessPool
+    try:
+        # An interrupt is for the program that was started: its helpers end what they are at.
+        with ProcessPoolExecutor(options.jobs, multiprocessing.get_context("fork"), signal.signal, (signal.SIGINT, signal.SIG_IGN)) as pool:
             yield from pool.map(one, options.sheets)
+    except BrokenProcessPool:
+        raise OSError(None, "it was ended from outside", "one of the processes of -j") from None
 
 
 def _one(options, file):
@@ -84,13 +95,14 @@ def _one(options, file):
     try:
         return options.work(sheet, file, options)
     except OSError as error:
-        return Outcome(TROUBLE, said=f"cxf: {error.filename}: {error.strerror}")
+        return Outcome(TROUBLE, said=f"cxf: {error.filename or 'standard input'}: {error.strerror}")
     except Refused as refused:
         return Outcome(TROUBLE if refused.number == BAD_DATE else REFUSED, said=explain.question(refused, shown(file), sheet))
 
 
 def _gpkg(options):
     """All sheets in one GeoPackage; where one is refused, none."""
+    import tempfile
     if options.output == files.STANDARD:
         with tempfile.TemporaryDirectory() as folder:
             place = os.path.join(folder, "sheets.gpkg")
@@ -104,6 +116,9 @@ def _gpkg(options):
 
 
 def _pack(options, place):
+    import sqlite3
+
+    from .geopackage import GeoPackage
     try:
         with GeoPackage(place) as package:
             options.work = lambda sheet, file, options: package.add(sheet) or Outcome()
@@ -115,6 +130,10 @@ def _pack(options, place):
 
 
 def _print(content):
+    if not content:
+        return
+    if sys.stdout is None:
+        raise OSError(errno.EBADF, "it is closed")
     try:
         sys.stdout.buffer.write(content)
         sys.stdout.buffer.flush()
@@ -124,7 +143,9 @@ def _print(content):
 
 
 def _say(text):
-    print(text, file=sys.stderr)
+    if sys.stderr is not None:
+        with suppress(OSError):  # there is nowhere left to say that; the exit status still tells
+            print(text, file=sys.stderr)
 
 
 def _trouble(text):

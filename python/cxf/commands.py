@@ -1,12 +1,10 @@
 """What each command does with a sheet. Each takes the sheet, its file's name and the options, and answers with an Outcome."""
 
-import csv
 import errno
-import io
 import os
 from typing import NamedTuple
 
-from . import drawing, explain, files
+from . import explain, files
 from .layout import FIELDS
 from .raster import CELLS_MOST, Grid, NotDrawn, Raster
 from .refusal import Refused
@@ -98,6 +96,8 @@ def list_classes(sheet, file, options):
 
 
 def rows(sheet, file, options):
+    import csv
+    import io
     text, faults = io.StringIO(), []
     table = csv.writer(text, "excel-tab", lineterminator="\n")
     for row in sheet.borders(*options.classes) if options.classes else sheet.rows:
@@ -126,6 +126,7 @@ def cml(sheet, file, options):
 
 
 def svg(sheet, file, options):
+    from . import drawing
     return delivered(file, options, ".svg", drawing.svg(sheet).encode())
 
 
@@ -136,26 +137,34 @@ def move(sheet, file, options):
 def remove(sheet, file, options):
     missing = [str(row) for row in options.rows if row >= len(sheet.rows)]
     if missing:
-        return Outcome(REFUSED, said=f"{shown(file)}: no row {', '.join(missing)}: the sheet has rows 0 to {len(sheet.rows) - 1}")
+        return Outcome(REFUSED, said=f"{shown(file)}: no row {', '.join(missing)}: the sheet has {len(sheet.rows)}, counted from 0")
     return delivered(file, options, ".cxf", sheet.removed(*options.rows).write())
 
 
 def mask(sheet, file, options):
     try:
         borders = list(chosen(sheet, options))
-        grid = Grid(*options.corner, options.cell, *options.size) if options.corner else Grid.over_sheet(sheet, options.cell)
-        if grid.columns * grid.rows > CELLS_MOST:
-            raise NotDrawn(f"{grid.columns} x {grid.rows} cells are too many; take a larger --cell")
-        raster = Raster.of_borders(borders, grid)
+        raster = Raster.of_borders(borders, grid_of(sheet, options))
+        covered = raster.covered
+        if not covered and not any(raster.grid.meets(border.bounds) for border in sheet.borders("CONFINE")):
+            raise NotDrawn("the grid lies off the sheet's CONFINE; an empty mask would flag every roof")
     except NotDrawn as error:
         return Outcome(REFUSED, said=f"{shown(file)}: {error}")
     note = f"{shown(file)}: a scanned sheet: what its image alone shows is not in the mask" if sheet.scanned else ""
     path = target(file, options, ".png")
     if path == files.STANDARD:
         return Outcome(out=raster.png(), said=note)
-    files.store({path: raster.png(), os.path.splitext(path)[0] + ".pgw": grid.world().encode()})
-    text = f"{path}: borders {len(borders)}, cells {grid.columns} x {grid.rows} of {metres(grid.cell)} m, covered {raster.covered}\n"
+    files.store({path: raster.png(), os.path.splitext(path)[0] + ".pgw": raster.grid.world().encode()})
+    text = f"{path}: borders {len(borders)}, cells {raster.grid.columns} x {raster.grid.rows} of {metres(raster.grid.cell)} m, covered {covered}\n"
     return Outcome(out=text.encode(errors="surrogateescape"), said=note)
+
+
+def grid_of(sheet, options):
+    """The grid of --corner and --size, or that over the sheet's CONFINE."""
+    grid = Grid(*options.corner, options.cell, *options.size) if options.corner else Grid.over_sheet(sheet, options.cell)
+    if grid.columns * grid.rows > CELLS_MOST:
+        raise NotDrawn(f"{grid.columns} x {grid.rows} cells are too many; take a larger --cell")
+    return grid
 
 
 def chosen(sheet, options):

@@ -39,10 +39,11 @@ def reading(refused, file, source, mode):
 
 def question(refused, file, sheet):
     """Why a question on a sheet was refused."""
-    if refused.row is None:
-        return f"{file}: refused {refused.number}: {refused.meaning}"
-    row = sheet.rows[refused.row]
-    return f"{file}:{row.line}: refused {refused.number}: {refused.meaning}\n{_note(described(row))}"
+    text = f"refused {refused.number}: {refused.meaning}"
+    if refused.row is not None:
+        row = sheet.rows[refused.row]
+        return f"{file}:{row.line}: {text}\n{_note(described(row))}"
+    return f"{file}: {text}" + (f"\n{_note(f'line {refused.line} of the SUP file')}" if refused.line else "")
 
 
 def crossing(file, border, ring, edges):

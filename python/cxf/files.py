@@ -1,9 +1,8 @@
 """Files of the command: read no further than a sheet can be long, written aside and then renamed, so that none is ever half written."""
 
+import errno
 import os
-import shutil
 import sys
-import tempfile
 from contextlib import ExitStack, contextmanager, suppress
 
 from ._library import FILE_MOST
@@ -14,6 +13,8 @@ STANDARD = "-"
 def load(path):
     """A file's bytes, at most one more than a sheet may have; - is standard input."""
     if path == STANDARD:
+        if sys.stdin is None:
+            raise OSError(errno.EBADF, "it is closed")
         return sys.stdin.buffer.read(FILE_MOST + 1)
     with open(path, "rb") as file:
         return file.read(FILE_MOST + 1)
@@ -52,6 +53,8 @@ def _beside(path):
 @contextmanager
 def _before(path):
     """Of a device or a pipe, whose name cannot be taken: the whole is written elsewhere and then copied."""
+    import shutil
+    import tempfile
     with tempfile.TemporaryDirectory() as folder:
         place = os.path.join(folder, "whole")
         yield place

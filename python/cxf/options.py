@@ -56,6 +56,8 @@ def _fault(options):
             return f"{times} sheets would be written as {name} in {options.folder}"
     if options.command == "mask" and bool(options.corner) != bool(options.size):
         return "--corner and --size go together"
+    if options.command == "mask" and options.output != files.STANDARD and not (options.output or ".png").lower().endswith(".png"):
+        return f"{options.output}: a mask is a PNG, and its world file is found by that ending: -o F.png"
     if options.command == "check" and options.sup and len(sheets) > 1:
         return "--sup=FILE is for one sheet"
     if options.command == "check" and options.sup == "" and files.STANDARD in sheets:

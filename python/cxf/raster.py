@@ -38,6 +38,20 @@ class Grid(NamedTuple):
         west, south, east, north = sides
         return cls.over((min(west), min(south), max(east), max(north)), cell)
 
+    def meets(self, bounds):
+        """Whether west, south, east, north and the grid share a point."""
+        west, south, east, north = bounds
+        return (west <= self.west + self.columns * self.cell and self.west <= east
+                and south <= self.north and self.north - self.rows * self.cell <= north)
+
+    def tiles(self, bounds):
+        """The tiles of 64 x 64 cells, each by its row and column, that west, south, east, north meet."""
+        west, south, east, north = bounds
+        side = MASK_SIDE * self.cell
+        for row in _within((self.north - north) // side, (self.north - south) // side, self.rows):
+            for column in _within((west - self.west) // side, (east - self.west) // side, self.columns):
+                yield row, column
+
     def world(self):
         """The world file: the cells' size and the centre of the north-western one, in metres."""
         def halves(count):
@@ -68,15 +82,14 @@ class Raster:
         return raster
 
     def add(self, border):
-        """Covers the cells whose centre lies in the border. Only the tiles that its box meets are asked for."""
-        west, south, east, north = border.bounds
+        """Covers the cells whose centre lies in the border. Only the tiles that its box meets are asked for; of a border that meets none
+        the first tile, since one that is refused refuses the raster wherever it lies."""
         grid, side = self.grid, MASK_SIDE * self.grid.cell
-        for row in _tiles((grid.north - north) // side, (grid.north - south) // side, grid.rows):
-            for column in _tiles((west - grid.west) // side, (east - grid.west) // side, grid.columns):
-                mask = border.mask((grid.west + column * side, grid.north - row * side), grid.cell)
-                if mask.covered:
-                    old = self._tiles.get((row, column), (0,) * MASK_SIDE)
-                    self._tiles[row, column] = tuple(map(int.__or__, old, mask.rows))
+        for row, column in list(grid.tiles(border.bounds)) or [(0, 0)]:
+            mask = border.mask((grid.west + column * side, grid.north - row * side), grid.cell)
+            if mask.covered:
+                old = self._tiles.get((row, column), (0,) * MASK_SIDE)
+                self._tiles[row, column] = tuple(map(int.__or__, old, mask.rows))
 
     def rows(self):
         """The rows of cells, the northern first, each as bytes: west in the highest bit of the first."""
@@ -112,7 +125,7 @@ class Raster:
         return numpy.unpackbits(rows, axis=1, count=self.grid.columns).astype(bool)
 
 
-def _tiles(first, last, cells):
+def _within(first, last, cells):
     """The tiles from first to last that a side of so many cells has."""
     return range(max(0, first), min(last, (cells - 1) // MASK_SIDE) + 1)
 

@@ -2,7 +2,7 @@
 
 from typing import NamedTuple, Tuple
 
-from ._library import CLASSES, ROW, library
+from ._library import CLASSES, ROW, library, whole
 from .layout import KINDS, records
 from .refusal import Refused
 
@@ -159,14 +159,14 @@ class Border(Row):
 
     def area(self, ring=0):
         """The doubled area of a ring: 0 is the outer one, i is island i."""
-        return self._ask(library.ring_area, ring).doubled
+        return self._ask(library.ring_area, whole(ring)).doubled
 
     def crossing(self, ring=0):
         """None where the ring is simple, else its first faulty pair of edges, from 0; an edge of no length is paired with itself."""
-        answer = self._ask(library.ring_check, ring)
+        answer = self._ask(library.ring_check, whole(ring))
         return None if answer.simple else (answer.first, answer.second)
 
     def mask(self, corner, cell):
         """Which of 64 x 64 cells have their centre in the border, courtyards apart. `corner` is the north-west one; `cell` the side."""
-        answer = self._ask(library.mask_of, *corner, cell)
+        answer = self._ask(library.mask_of, *map(whole, (*corner, cell)))
         return Mask(tuple(answer.rows), answer.covered)

@@ -7,10 +7,10 @@ from functools import cached_property
 from itertools import accumulate
 from typing import NamedTuple
 
-from ._library import CLASSES, CLASS_FIGURES, ROW, Tables, library
+from ._library import CLASSES, CLASS_FIGURES, ROW, Tables, library, whole
 from .layout import FIRST_LINE
 from .refusal import Refused
-from .row import BORDO, ISLANDS, LETTERS, RIFERIMENTO_RASTER, VERTICES, Border, Row
+from .row import BORDO, FIRST_ISLAND, FIRST_LETTER, FIRST_POINT, ISLANDS, LETTERS, RIFERIMENTO_RASTER, VERTICES, Border, Row
 
 NO_ROOM = 14
 
@@ -62,7 +62,7 @@ class Sheet:
     @classmethod
     def read(cls, source, mode=Exact):
         """The sheet that a file's bytes hold; raises Refused where the mode does not take it."""
-        source = bytes(source)
+        source, mode = bytes(source), Mode(mode)
         answer = _judge(source, mode)
         tables = Tables.with_room(answer.rows, answer.letters, answer.islands, answer.points)
         if answer.number == NO_ROOM:
@@ -76,7 +76,7 @@ class Sheet:
     @staticmethod
     def accepts(source, mode):
         """Whether the mode takes these bytes."""
-        return _judge(source, mode).number in (0, NO_ROOM)
+        return _judge(bytes(source), Mode(mode)).number in (0, NO_ROOM)
 
     @classmethod
     def _of(cls, header, tables):
@@ -129,13 +129,14 @@ class Sheet:
 
     def sup(self, date):
         """The SUP file's bytes; `date` is eight digits, YYYYMMDD."""
-        self.tally()
-        date = date.encode()
+        self.tally()  # refused 18 it names its row; past it an 18 is that of TOTALE, which has none
+        date = date.encode(errors="replace")
         return self._text(library.sup_write, date, len(date))
 
     def check_sup(self, sup):
         """Raises Refused with the first wrong line where these bytes are no SUP file for this sheet, whoever rounded its figures."""
         self.tally()
+        sup = bytes(sup)
         self._ask(library.sup_check, sup, len(sup))
 
     def cml(self):
@@ -144,26 +145,16 @@ class Sheet:
 
     def removed(self, *rows):
         """The sheet without these rows, which are numbered as in this sheet."""
-        sheet = self
+        sheet = Sheet._of(self._header, self._tables.copy())
         for row in sorted(set(rows), reverse=True):
-            sheet = sheet._removed(row)
+            _cut(sheet._tables, sheet._ask(library.remove, whole(row)).count)
         return sheet
-
-    def _removed(self, row):
-        tables = self._tables.copy()
-        self._ask(library.remove, row, tables=tables)
-        numbers = self.rows[row]._numbers
-        freed = ROW, numbers[LETTERS], numbers[ISLANDS], 2 * numbers[VERTICES]
-        for name, count in zip(Tables.__slots__, freed):
-            table = getattr(tables, name)
-            del table[len(table) - count:]
-        return Sheet._of(self._header, tables)
 
     def moved(self, east, north):
         """The sheet with every coordinate moved by so many millimetres."""
-        tables = self._tables.copy()
-        self._ask(library.move, east, north, tables=tables)
-        return Sheet._of(self._header, tables)
+        sheet = Sheet._of(self._header, self._tables.copy())
+        sheet._ask(library.move, whole(east), whole(north))
+        return sheet
 
     def arrays(self):
         """The four tables as arrays of numpy, not to be written: rows (15 numbers each, include/cxf.h), letters, island counts, points."""
@@ -173,9 +164,9 @@ class Sheet:
             table.flags.writeable = False
         return tables[0].reshape(-1, ROW), tables[1], tables[2], tables[3].reshape(-1, 2)
 
-    def _ask(self, function, *more, tables=None, row_with=(10, 22)):
+    def _ask(self, function, *more, row_with=(10, 22)):
         """An answer about the whole sheet; of a refusal the row with the numbers that name one."""
-        answer = function(*self._header, len(self.rows), *(tables or self._tables).lent(), *more)
+        answer = function(*self._header, len(self.rows), *self._tables.lent(), *more)
         if answer.number not in (0, NO_ROOM):
             raise Refused(answer.number, row=answer.row if answer.number in row_with else None,
                           line=answer.line if answer.number in (23, 25) else None)
@@ -189,6 +180,15 @@ class Sheet:
 
     def __repr__(self):
         return f"<Sheet {self.name}, {len(self.rows)} rows>"
+
+
+def _cut(tables, count):
+    """Leaves the first rows, and their parts of the other tables: behind them stands what a removal freed."""
+    del tables.rows[ROW * count:]
+    last = tables.rows[-ROW:] or [0] * ROW
+    del tables.letters[last[FIRST_LETTER] + last[LETTERS]:]
+    del tables.islands[last[FIRST_ISLAND] + last[ISLANDS]:]
+    del tables.points[2 * (last[FIRST_POINT] + last[VERTICES]):]
 
 
 def _judge(source, mode):

@@ -140,7 +140,7 @@ def _roof(kind, west, south, east, north, block, ring):
     return [block(west, south, east, north), block(west + 3, south + 5, middle - 1, north - 5), block(middle + 1, south + 5, east - 3, north - 5)]
 
 
-def large(length=12_000_000):
+def large(length):
     """A sheet of some length in bytes: one roof of 32 vertices with a courtyard, again and again."""
     around = [(round(20_000 * math.cos(k * math.pi / 16)), round(20_000 * math.sin(k * math.pi / 16))) for k in range(32)]
     roof = "".join(record + "\r\n" for record in Paper().border("@+", [*around, around[0]], rectangle(-5_000, -5_000, 5_000, 5_000)).records[3:])

@@ -2,41 +2,40 @@
 
 import io
 import os
-import pty
 import resource
 import subprocess
 import sys
+import time
 import unittest
 from unittest import mock
 
-from cxf.command import main
+from cxf import _library, command
 
 from . import made
 
-PYTHON = os.environ.get("CXF_PYTHON", sys.executable)
 BOW = [(0, 0), (10_000, 10_000), (10_000, 0), (0, 10_000), (0, 0)]
 
 
-def said(*words, given=b""):
+class Terminal(io.StringIO):
+    def isatty(self):
+        return True
+
+
+def said(*words, given=b"", error=None):
     """Status, standard output and standard error of the command, run here."""
-    out, error = io.TextIOWrapper(io.BytesIO()), io.StringIO()
+    out, error = io.TextIOWrapper(io.BytesIO()), error or io.StringIO()
     with mock.patch.multiple(sys, stdin=io.TextIOWrapper(io.BytesIO(given)), stdout=out, stderr=error):
         try:
-            status = main([str(word) for word in words])
+            status = command.main([str(word) for word in words])
         except SystemExit as ended:
             status = ended.code
+    out.flush()
     return status, out.buffer.getvalue(), error.getvalue()
 
 
 def program(*words, **more):
-    """The command as a program of its own."""
-    environment = {**os.environ, "PYTHONPATH": str(made.ROOT / "python"), **more.pop("environment", {})}
-    return subprocess.Popen([PYTHON, "-m", "cxf", *map(str, words)], env=environment, **{"stderr": subprocess.PIPE, **more})
-
-
-def ended(process, given=None):
-    out, error = process.communicate(given)
-    return process.returncode, out, error.decode()
+    """The command as a program of its own, for what only one can show: its start takes seconds where the processor is emulated."""
+    return subprocess.Popen([made.ROOT / "cxf", *map(str, words)], stderr=subprocess.PIPE, **more)
 
 
 class Case(unittest.TestCase):
@@ -76,21 +75,25 @@ class Statuses(Case):
                       ("mask", "--size", "4x4", "-o", "m.png", sheet), ("mask", "--corner", "0", "--size", "4x4", "-o", "m.png", sheet),
                       ("mask", "--corner", "0,0", "--size", "4x0", "-o", "m.png", sheet), ("mask", "--cell", "0", "-o", "m.png", sheet),
                       ("mask", "--cell", "10.001", "-o", "m.png", sheet), ("mask", "--cell", "0.0005", "-o", "m.png", sheet),
-                      ("mask", "-c", "SHED", "-o", "m.png", sheet), ("mask", "-r", "x", "-o", "m.png", sheet), ("move", "--by", "1e3,0", sheet),
+                      ("mask", "-o", "m.tif", sheet), ("mask", "-o", "m.pgw", sheet), ("mask", "-c", "SHED", "-o", "m.png", sheet), ("mask", "-r", "x", "-o", "m.png", sheet), ("move", "--by", "1e3,0", sheet),
                       ("check", "-j", "0", sheet), ("check", "-", "-"), ("check", "--sup=a.sup", sheet, other), ("check", "--sup", "-")):
             with self.subTest(words):
                 status, out, error = said(*words)
                 self.assertEqual((status, out), (2, b""))
                 self.assertIn("error:", error)
 
-    def test_help(self):
-        status, out, _ = ended(program("--help", stdout=subprocess.PIPE, environment={"CXF_LIBRARY": "/nowhere"}))
-        self.assertEqual(status, 0)
-        self.assertIn(b"Exit status: 0 all well; 1 a sheet was refused or a check failed; 2 usage", out)
+    def test_without_a_library_there_is_help_alone(self):
+        with mock.patch.object(command, "library", _library._Library()), mock.patch.dict(os.environ, CXF_LIBRARY="/nowhere.so"):
+            status, out, _ = said("--help")
+            self.assertEqual(status, 0)
+            self.assertIn(b"Exit status: 0 all well; 1 a sheet was refused or a check failed; 2 usage", out)
+            self.assertEqual(said("check", self.good),
+                             (2, b"", "cxf: /nowhere.so cannot be loaded: /nowhere.so: cannot open shared object file: No such file or directory\n"))
 
-    def test_no_library(self):
-        self.assertEqual(ended(program("check", self.good, stdout=subprocess.PIPE, environment={"CXF_LIBRARY": "/nowhere.so"})),
-                         (2, b"", "cxf: /nowhere.so cannot be loaded: /nowhere.so: cannot open shared object file: No such file or directory\n"))
+    def test_a_stale_library_is_refused(self):
+        with mock.patch.object(command, "library", _library._Library()), mock.patch.object(_library, "INTERFACE", 5):
+            self.assertEqual(said("check", self.good), (2, b"", f"cxf: {_library.find()} has interface 4, but this package is written for 5; "
+                                                                "./lib makes the library anew\n"))
 
 
 class Checks(Case):
@@ -154,8 +157,9 @@ class Written(Case):
         self.assertEqual(said("clean", "--loose", "-d", self.folder / "new" / "clean", self.bare, self.good)[0], 0)
         for name in ("bare.cxf", "good.cxf"):
             self.assertEqual((self.folder / "new" / "clean" / name).read_bytes(), made.every_kind())
-        self.assertEqual(said("clean", "--loose", "-o", self.bare, self.bare)[0], 0)
-        self.assertEqual(self.bare.read_bytes(), made.every_kind())
+        for _ in range(2):
+            self.assertEqual(said("clean", "--loose", "-o", self.bare, self.bare)[0], 0)
+            self.assertEqual(self.bare.read_bytes(), made.every_kind())
 
     def test_a_folder_does_not_overwrite(self):
         (self.folder / "other").mkdir()
@@ -169,6 +173,7 @@ class Written(Case):
         status, out, error = said("sup", "--date", "20261315", "-o", self.folder / "x.sup", made.SAMPLE)
         self.assertEqual((status, out, error), (2, b"", f"{made.SAMPLE}: refused 21: not a date of eight digits, YYYYMMDD\n"))
         self.assertNotIn("x.sup", self.names())
+        self.assertEqual(said("sup", "--date", "2026111\udcff", made.SAMPLE)[0], 2)
 
     def test_move_there_and_back(self):
         moved = self.folder / "moved.cxf"
@@ -182,7 +187,7 @@ class Written(Case):
         self.assertEqual(status, 0)
         self.assertEqual(said("rows", "-", given=out)[1].decode().count("\n"), 13)
         status, out, error = said("remove", "-r", "14", self.good)
-        self.assertEqual((status, out, error), (1, b"", f"{self.good}: no row 14: the sheet has rows 0 to 13\n"))
+        self.assertEqual((status, out, error), (1, b"", f"{self.good}: no row 14: the sheet has 14, counted from 0\n"))
 
     def test_cml_and_svg(self):
         self.assertEqual(said("cml", self.good)[1].count(b"<LINEA "), 2)
@@ -214,7 +219,7 @@ class Masks(Case):
         lost = self.put("lost.cxf", made.Paper().border("7+", made.rectangle(0, 0, 1_000, 1_000)).file())
         png = self.folder / "x.png"
         for words in ((scanned,), ("--corner", "0,4", "--size", "4x4", scanned), (lost,), ("-r", "5", self.good), ("-r", "99", self.good),
-                      ("-c", "OTHER", self.good), ("--cell", "0.001", self.good)):
+                      ("-c", "OTHER", self.good), ("--cell", "0.001", self.good), ("--corner", "200,70", "--size", "4x4", self.good)):
             with self.subTest(words):
                 status, out, error = said("mask", "-o", png, *words)
                 self.assertEqual((status, out), (1, b""))
@@ -240,24 +245,56 @@ class Packages(Case):
 class Streams(Case):
     def test_standard_input_and_output(self):
         bare = self.bare.read_bytes()
-        self.assertEqual(ended(program("clean", "--loose", "-o", "-", "-", stdin=subprocess.PIPE, stdout=subprocess.PIPE), bare), (0, made.every_kind(), ""))
+        self.assertEqual(said("clean", "--loose", "-o", "-", "-", given=bare), (0, made.every_kind(), ""))
         self.assertEqual(said("check", "-", given=bare)[2].splitlines()[0][:29], "standard input:1:6: refused 3")
         self.assertEqual(said("clean", "--loose", "-d", self.folder, "-", given=bare)[0], 0)
         self.assertIn("stdin.cxf", self.names())
 
     def test_a_full_disk(self):
         full = "No space left on device"
-        for words in (("clean", self.good), ("mask", self.good), ("gpkg", self.good)):
-            self.assertEqual(said(words[0], "-o", "/dev/full", *words[1:]), (2, b"", f"cxf: /dev/full: {full}\n"))
+        for name in ("clean", "gpkg"):
+            self.assertEqual(said(name, "-o", "/dev/full", self.good), (2, b"", f"cxf: /dev/full: {full}\n"))
         with open("/dev/full", "wb") as out:
-            self.assertEqual(ended(program("rows", self.good, stdout=out)), (2, None, f"cxf: standard output: {full}\n"))
+            process = program("rows", self.good, stdout=out)
+            self.assertEqual((process.communicate()[1].decode(), process.returncode), (f"cxf: standard output: {full}\n", 2))
+
+    def test_streams_that_are_closed(self):
+        with mock.patch.object(sys, "stdout", None):
+            self.assertEqual(command.main(["check", "-q", str(self.good)]), 0)
+            with mock.patch.object(sys, "stderr", None):
+                self.assertEqual(command.main(["list", str(self.good)]), 2)
+        with mock.patch.object(sys, "stdin", None), mock.patch.object(sys, "stderr", io.StringIO()) as error:
+            self.assertEqual((command.main(["check", "-"]), error.getvalue()), (2, "cxf: standard input: it is closed\n"))
+        with mock.patch.object(sys, "stderr", mock.Mock(write=mock.Mock(side_effect=OSError), isatty=lambda: False)):
+            self.assertEqual(command.main(["check", str(self.bare)]), 1)
 
     def test_nothing_half_written_is_left(self):
-        old = self.put("out.cxf", b"old")
+        old = self.put("out.png", b"old")
         before = self.names()
-        process = program("clean", "-o", old, self.good, stdout=subprocess.PIPE, preexec_fn=lambda: resource.setrlimit(resource.RLIMIT_FSIZE, (1000, 1000)))
-        self.assertEqual(ended(process), (2, b"", f"cxf: {old}: File too large\n"))
+        limits = resource.getrlimit(resource.RLIMIT_FSIZE)
+        resource.setrlimit(resource.RLIMIT_FSIZE, (40, limits[1]))
+        try:
+            self.assertEqual(said("mask", "-o", old, self.good), (2, b"", f"cxf: {old}: File too large\n"))
+        finally:
+            resource.setrlimit(resource.RLIMIT_FSIZE, limits)
         self.assertEqual((self.names(), old.read_bytes()), (before, b"old"))
+        world = self.folder / "out.pgw"
+        world.mkdir()
+        self.assertEqual(said("mask", "-o", old, self.good), (2, b"", f"cxf: {world}: Is a directory\n"))
+        self.assertEqual((self.names(), old.read_bytes()), (sorted([*before, "out.pgw"]), b"old"))
+
+    def test_nothing_half_written_is_left_by_a_program_that_is_ended(self):
+        before = self.names()
+        fifo = self.folder / "fifo"
+        os.mkfifo(fifo)
+        process = program("gpkg", "-o", self.folder / "both.gpkg", self.good, fifo)
+        while not any(self.folder.glob("both.gpkg.*")) and process.poll() is None:
+            time.sleep(0.05)
+        with open(fifo, "wb"):
+            process.terminate()
+            self.assertEqual((process.communicate()[1], process.returncode), (b"", 143))
+        fifo.unlink()
+        self.assertEqual(self.names(), before)
 
     def test_a_closed_pipe(self):
         town = self.put("town.cxf", made.town(4, 4))
@@ -275,12 +312,8 @@ class Streams(Case):
         self.assertEqual([name for name in self.names() if name.endswith(".png")], ["1.png", "2.png", "3.png", "4.png"])
 
     def test_progress_on_a_terminal(self):
-        terminal, inside = pty.openpty()
-        process = program("check", "-q", self.good, self.good, stdout=subprocess.PIPE, stderr=inside)
-        self.assertEqual(process.communicate()[0], b"")
-        os.close(inside)
-        self.assertIn(b"1 of 2 sheets", os.read(terminal, 1000))
-        os.close(terminal)
+        self.assertEqual(said("check", "-q", self.good, self.good, error=Terminal()), (0, b"", "\r\x1b[K1 of 2 sheets\r\x1b[K"))
+        self.assertEqual(said("check", "-q", self.good, error=Terminal()), (0, b"", ""))
 
 
 if __name__ == "__main__":

@@ -1,5 +1,6 @@
-"""A sheet of 12 MB: no command asks the whole sheet for each of its rows."""
+"""A sheet of 12 MB (CXF_LARGE: other bytes): no command asks the whole sheet for each of its rows."""
 
+import os
 import time
 import unittest
 from unittest import mock
@@ -11,13 +12,14 @@ from . import made
 from .test_command import said
 
 COUNT = 4  # the place of the number of rows among the parameters of a sheet
-SECONDS = 60  # of the processor: some where it is the library's own, ten times as many in the emulator; asked of the whole sheet for each row, many minutes
+LENGTH = int(os.environ.get("CXF_LARGE", 12_000_000))
+SECONDS = 20  # of the processor, on a slow one; asked of the whole sheet for each row it would be many minutes
 
 
 class Large(unittest.TestCase):
     @classmethod
     def setUpClass(cls):
-        cls.source = made.large()
+        cls.source = made.large(LENGTH)
         cls.rows = len(Sheet.read(cls.source).rows)
 
     def setUp(self):
