@@ -1658,10 +1658,13 @@ static void one_case(rng *g) {
 }
 
 /* Every byte value at every place of an exact number, and behind it, in all modes. */
+/* STEP=n: only every nth byte value, others at each place, where all of them take too long. */
+static size_t step = 1;
+
 static void every_byte(rng *g, const char *number, bool real) {
     const size_t n = strlen(number);
     for (size_t place = 0; place <= n; place++)
-        for (int byte = 0; byte < 256; byte++)
+        for (size_t byte = place % step; byte < 256; byte += step)
             for (uint64_t mode = 0; mode < MODES; mode++) {
                 file.len = 0;
                 add_bytes(&file, number, n);
@@ -1693,7 +1696,7 @@ static void every_byte_of_sups(void) {
         lend_sheet(&g, &sheet);
         for (size_t i = 0; i < file.len; i++) {
             const uint8_t held = file.at[i];
-            for (int byte = 0; byte < 256; byte++) {
+            for (size_t byte = i % step; byte < 256; byte += step) {
                 file.at[i] = (uint8_t)byte;
                 try_sup_check(&g, &sheet, &file);
             }
@@ -1780,6 +1783,7 @@ int main(int argc, char **argv) {
     const uint64_t count = strtoull(argv[1], NULL, 10), seed = strtoull(argv[2], NULL, 10);
     const uint64_t first = argc > 3 ? strtoull(argv[3], NULL, 10) : 0;
     if (getenv("SHOW") != NULL) shown_most = strtoull(getenv("SHOW"), NULL, 10);
+    if (getenv("STEP") != NULL && atoi(getenv("STEP")) > 0) step = (size_t)atoi(getenv("STEP"));
     /* a table for each file up to the limit, loosely dressed: 28 bytes or more a row, 2 a letter, 12 a point */
     build(&SRC, FILE_LIMIT + 4096);
     build(&OUT, FILE_LIMIT + 4096);

@@ -28,6 +28,10 @@ def store(contents):
                 file.write(content)
 
 
+class NotStored(OSError):
+    """A file that could not be written, under the name that it was to have."""
+
+
 @contextmanager
 def aside(path):
     """A path to write to in place of another, whose name it takes at the end; after an exception nothing of it is left."""
@@ -35,8 +39,10 @@ def aside(path):
     try:
         with _before(path) if special else _beside(os.path.realpath(path)) as place:
             yield place
+    except NotStored:
+        raise
     except OSError as error:
-        raise OSError(error.errno, error.strerror, path) from None
+        raise NotStored(error.errno, error.strerror, path) from None
 
 
 @contextmanager

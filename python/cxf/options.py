@@ -3,6 +3,7 @@
 import argparse
 import os
 from collections import Counter
+from functools import lru_cache
 
 from . import commands, files, units
 from ._library import CELL_MOST, CLASSES
@@ -65,6 +66,7 @@ def _fault(options):
     return None
 
 
+@lru_cache(maxsize=None)
 def _parser():
     parser = argparse.ArgumentParser("cxf", description="Reads CXF sheets of the Italian cadastre.", epilog=NOTES, allow_abbrev=False,
                                      formatter_class=argparse.RawDescriptionHelpFormatter)

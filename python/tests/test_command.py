@@ -305,11 +305,10 @@ class Streams(Case):
         process.stderr.close()
 
     def test_several_at_a_time(self):
-        sheets = [self.put(f"{number}.cxf", made.town(1, number)) for number in range(1, 5)] + [self.bare, self.folder / "none.cxf"]
-        for command in ("check", "list", "rows"):
-            self.assertEqual(said(command, "-j", 3, *sheets), said(command, *sheets))
-        self.assertEqual(said("mask", "-j", 2, "-d", self.folder, *sheets[:4])[1].count(b" of 0.5 m"), 4)
-        self.assertEqual([name for name in self.names() if name.endswith(".png")], ["1.png", "2.png", "3.png", "4.png"])
+        sheets = [self.put(f"{number}.cxf", made.town(1, number)) for number in (2, 1)] + [self.bare, self.folder / "none.cxf"]
+        self.assertEqual(said("list", "-j", 3, *sheets), said("list", *sheets))
+        self.assertEqual(said("mask", "-j", 2, "-d", self.folder, *sheets[:2])[1].count(b" of 0.5 m"), 2)
+        self.assertEqual([name for name in self.names() if name.endswith(".png")], ["1.png", "2.png"])
 
     def test_progress_on_a_terminal(self):
         self.assertEqual(said("check", "-q", self.good, self.good, error=Terminal()), (0, b"", "\r\x1b[K1 of 2 sheets\r\x1b[K"))

@@ -5,6 +5,7 @@ import unittest
 from pathlib import Path
 
 from cxf import Exact, Former, Loose, Refused, Sheet, explain
+from cxf.refusal import MEANINGS
 
 from . import made
 
@@ -81,12 +82,43 @@ def texts():
     return "\n".join(parts + [f"## {what}\n{text}\n" for what, text in questions()])
 
 
-def questions():
-    """Refusals of questions on a sheet, faulty rings, wrong SUP files."""
+def wide(parcels, roads):
+    """A sheet with so many parcels and so many roads as wide as may be: 3,200,000,000,000,000 doubled square millimetres each."""
+    reach = 20_000_000
+    ring = [(0, 0), *made.rectangle(-reach, -reach, reach, reach), (0, 0)]
+    parcel, road = (made.Paper().border(letters, ring).records[3:] for letters in ("7", "STRADA"))
+    paper = made.Paper()
+    paper.records += parcels * parcel + roads * road
+    return Sheet.read(paper.file())
+
+
+def refused_questions():
+    """What is asked, of which sheet, and the question."""
     paper = made.Paper().border(made.NAME, SQUARE).border("7", [(0, 0), (30_000_000, 0), (0, 1), (0, 0)]).symbol(12, (0, 0))
     sheet = Sheet.read(paper.file(), Loose)
-    for what, ask in (("a ring that is too wide", sheet.tally), ("an unlisted code is written", sheet.write),
-                      ("a move that is too far", lambda: sheet.moved(10 ** 12, 0)), ("a row that is not there", lambda: sheet.removed(9))):
+    yield "a ring that is too wide", sheet, sheet.tally
+    yield "an unlisted code is written", sheet, sheet.write
+    yield "a move that is too far", sheet, lambda: sheet.moved(10 ** 12, 0)
+    yield "a row that is not there", sheet, lambda: sheet.removed(9)
+    yield "a ring that is not there", sheet, lambda: sheet.rows[0].area(1)
+    yield "a mask off the range of coordinates", sheet, lambda: sheet.rows[0].mask((10 ** 11, 0), 500)
+    yield "a mask with cells that are too large", sheet, lambda: sheet.rows[0].mask((0, 0), 10_001)
+    figure = wide(2813, 0)
+    yield "a figure of a tally that is too large", figure, figure.tally
+    yield "a SUP file of that tally", figure, lambda: figure.sup("20261115")
+    total = wide(1500, 1500)
+    yield "a SUP file whose TOTALE is too large", total, lambda: total.sup("20261115")
+    yield "a SUP file's check with such a TOTALE", total, lambda: total.check_sup(b"")
+    figure_of_eleven = wide(7, 0)
+    yield "a SUP file with a figure that is too wide", figure_of_eleven, lambda: figure_of_eleven.sup("20261115")
+    yield "a SUP file with no date", figure_of_eleven, lambda: figure_of_eleven.sup("today")
+    long = Sheet.read(made.Paper().text("A", (0, 0)).border("A" * 12, SQUARE).file())
+    yield "a SUP file with a code that is too long", long, lambda: long.sup("20261115")
+
+
+def questions():
+    """Refusals of questions on a sheet, faulty rings, wrong SUP files."""
+    for what, sheet, ask in refused_questions():
         try:
             ask()
         except Refused as refused:
@@ -116,8 +148,9 @@ class Explained(unittest.TestCase):
     def test_every_refusal_in_every_mode(self):
         self.assertEqual(texts(), GOLDEN.read_text())
 
-    def test_all_numbers_of_a_reading_are_there(self):
-        for number in range(1, 14):
+    def test_all_numbers_are_there(self):
+        """But 6 and 15 of a sheet that is handed in, which a Sheet cannot be, and 14: the package lends what is needed."""
+        for number in MEANINGS:
             self.assertIn(f"refused {number}:", GOLDEN.read_text())
 
 

@@ -68,6 +68,11 @@ class AnotherLibrary(unittest.TestCase):
             with self.assertRaisesRegex(_library.LibraryError, "has interface 4, but this package is written for 99; ./lib makes"):
                 _library.load(_library.find())
 
+    def test_one_that_lacks_a_function_is_refused(self):
+        with mock.patch.dict(_library.FUNCTIONS, cxf_new=(_library.Area,)):
+            with self.assertRaisesRegex(_library.LibraryError, "has no cxf_new: it is older than this package; ./lib makes"):
+                _library.load(_library.find())
+
     def test_one_that_is_another(self):
         with self.assertRaisesRegex(_library.LibraryError, "is no libcxf.so"):
             _library.load("libc.so.6")

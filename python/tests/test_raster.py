@@ -121,6 +121,18 @@ class NothingDrawn(unittest.TestCase):
             Raster.of_sheet(sheet([made.rectangle(0, 0, 1_000, 1_000)], [wide]))
         self.assertEqual((caught.exception.number, caught.exception.row), (17, 2))
 
+    def test_a_refused_border_off_the_grid_refuses_all(self):
+        north = [(0, 9_000_000), (30_000_000, 9_000_000), (0, 9_001_000), (0, 9_000_000)]
+        far = made.rectangle(50_000_000, 0, 50_001_000, 1_000)
+        for ring, number in ((north, 17), (far, 20)):
+            with self.assertRaises(Refused) as caught:
+                Raster.of_sheet(sheet([made.rectangle(0, 0, 1_000, 1_000)], [ring]), grid=Grid(0, 4_000, 500, 4, 4))
+            self.assertEqual((caught.exception.number, caught.exception.row), (number, 2))
+
+    def test_a_border_off_the_grid_covers_nothing(self):
+        raster = Raster.of_sheet(sheet([made.rectangle(0, 0, 1_000, 1_000)], [made.rectangle(90_000, 90_000, 91_000, 91_000)]), 1000)
+        self.assertEqual(raster.covered, 1)
+
 
 @unittest.skipUnless(shutil.which("gdal_rasterize"), "GDAL is not installed")
 class BesideGdal(unittest.TestCase):

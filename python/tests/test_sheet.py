@@ -49,6 +49,23 @@ class ARowAlone(unittest.TestCase):
             self.assertEqual((caught.exception.number, caught.exception.row), (17, 1))
             self.assertEqual(whole(wide, function, 1, *more).number, 17)
 
+    def test_what_is_not_there_is_refused_as_the_whole_sheet(self):
+        sheet = self.sheets[1]
+        roof, last = sheet.rows[4], 2 ** 64  # ctypes would take 2 ** 64 for 0
+        far = 40_000_001
+        for ask, function, more, number in ((roof.area, library.ring_area, (3,), 19), (roof.crossing, library.ring_check, (3,), 19),
+                                            (roof.area, library.ring_area, (-1,), 19), (roof.mask, library.mask_of, (0, 0, 0), 26),
+                                            (roof.mask, library.mask_of, (far + 50_000, 0, 500), 20)):
+            with self.assertRaises(Refused) as caught:
+                ask((more[0], more[1]), more[2]) if ask == roof.mask else ask(*more)
+            self.assertEqual((caught.exception.number, whole(sheet, function, 4, *more).number), (number, number))
+        for ask, number in ((lambda: roof.area(last), 19), (lambda: roof.crossing(last), 19), (lambda: roof.mask((last, 0), 500), 20),
+                            (lambda: roof.mask((0, 0), last + 500), 26), (lambda: sheet.moved(last, 0), 24), (lambda: sheet.moved(0, -last), 24),
+                            (lambda: sheet.removed(last), 19), (lambda: sheet.removed(-1), 19)):
+            with self.assertRaises(Refused) as caught:
+                ask()
+            self.assertEqual(caught.exception.number, number)
+
     def test_tally_is_the_sum_of_the_borders(self):
         for sheet in self.sheets:
             for cls, figures in sheet.tally().items():
@@ -89,6 +106,7 @@ class Reading(unittest.TestCase):
         refused = caught.exception
         self.assertEqual((refused.number, refused.record, refused.offset, refused.column, refused.row), (8, 3, 20, 13, None))
         self.assertEqual(str(refused), "refused 8: a malformed number, line 3, column 13")
+        self.assertRaises(ValueError, Sheet.read, bare, 2 ** 64)
 
     def test_a_sheet_comes_from_a_reading_alone(self):
         self.assertRaises(TypeError, Sheet)
@@ -123,6 +141,7 @@ class Writing(unittest.TestCase):
     def test_refusals_of_sup_files(self):
         square = made.rectangle(0, 0, 10_000, 10_000)
         far = [(0, 0), (30_000_000, 0), (0, 1), (0, 0)]
+        self.assertRaises(Refused, Sheet.read(made.Paper().file()).check_sup, bytearray(b"no SUP file"))
         for paper, date, number, row in ((made.Paper(), "20261301", 21, None), (made.Paper().border("A", square).border("A" * 12, square), "20261115", 22, 1),
                                          (made.Paper().border("A", far), "20261115", 17, 0)):
             with self.assertRaises(Refused) as caught:
