@@ -130,18 +130,16 @@ def _said(convert):
     return converted
 
 
-@_said
-def _natural(text):
-    if not text.isdecimal():
-        raise ValueError(f"{text!r} is no number from 0 on")
-    return int(text)
+def _from(least):
+    @_said
+    def converted(text):
+        if not text.isdecimal() or int(text) < least:
+            raise ValueError(f"{text!r} is no number from {least} on")
+        return int(text)
+    return converted
 
 
-@_said
-def _positive(text):
-    if not text.isdecimal() or int(text) == 0:
-        raise ValueError(f"{text!r} is no number from 1 on")
-    return int(text)
+_natural, _positive = _from(0), _from(1)
 
 
 @_said

@@ -4,6 +4,8 @@ import math
 import os
 import random
 import tempfile
+import unittest
+from importlib.util import find_spec
 from pathlib import Path
 
 from cxf.units import metres
@@ -11,6 +13,8 @@ from cxf.units import metres
 ROOT = Path(__file__).resolve().parents[2]
 SAMPLE = ROOT / "samples" / "Z999_000100.cxf"
 NAME = "Z999_000100"
+
+with_numpy = unittest.skipUnless(find_spec("numpy"), "numpy is not installed")
 
 
 def real(millimetres):

@@ -297,8 +297,8 @@ class Streams(Case):
         self.assertEqual(self.names(), before)
 
     def test_a_closed_pipe(self):
-        town = self.put("town.cxf", made.town(4, 4))
-        process = program("rows", "--wkt", *[town] * 8, stdout=subprocess.PIPE)
+        town = self.put("town.cxf", made.town(2, 1))
+        process = program("rows", "--wkt", *[town] * 32, stdout=subprocess.PIPE)
         process.stdout.readline()
         process.stdout.close()
         self.assertEqual((process.stderr.read(), process.wait()), (b"", 2))

@@ -93,11 +93,9 @@ class Cells(unittest.TestCase):
             raster = Raster.of_sheet(everything, 1000, classes)
             self.assertEqual(raster.covered * 2_000_000, sum(border.net for border in everything.borders(*classes)))
 
+    @made.with_numpy
     def test_numpy(self):
-        try:
-            import numpy
-        except ImportError:
-            self.skipTest("numpy is not installed")
+        import numpy
         raster = Raster.of_sheet(Sheet.read(made.town(1, 1)))
         self.assertEqual(raster.array().shape, (raster.grid.rows, raster.grid.columns))
         self.assertEqual(int(numpy.count_nonzero(raster.array())), raster.covered)
@@ -138,7 +136,7 @@ class NothingDrawn(unittest.TestCase):
 class BesideGdal(unittest.TestCase):
     def setUp(self):
         self.folder = made.scratch(self)
-        self.sheet = Sheet.read(made.town(3, 2))
+        self.sheet = Sheet.read(made.town(2, 1))
         self.raster = Raster.of_sheet(self.sheet)
         self.png = self.folder / "roofs.png"
         self.png.write_bytes(self.raster.png())

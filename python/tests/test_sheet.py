@@ -181,11 +181,9 @@ class Altering(unittest.TestCase):
 
 
 class WithNumpy(unittest.TestCase):
+    @made.with_numpy
     def test_tables(self):
-        try:
-            import numpy
-        except ImportError:
-            self.skipTest("numpy is not installed")
+        import numpy
         sheet = Sheet.read(made.every_kind())
         rows, letters, islands, points = sheet.arrays()
         self.assertEqual(rows.shape, (14, 15))
