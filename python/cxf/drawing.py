@@ -1,16 +1,18 @@
 """A sheet as SVG, north up and in metres: borders by class with their courtyards open, lines, symbols, labels and texts."""
 
 from html import escape
-from math import degrees
+from math import cos, degrees, sin
+from typing import NamedTuple, Tuple
 
 from .refusal import Refused
+from .row import around
 from .units import metres, square_metres
 
 _PIXELS = 1200  # of the longer side
 _ORDER = ("PARCEL", "OTHER", "ROAD", "WATER", "BUILDING", "CONFINE")
 _LABELLED = ("PARCEL", "OTHER", "ROAD", "WATER")
 _UNSAID = ("STRADA", "ACQUA")  # codes that are no labels
-_CAPITAL = 0.72  # the height of a capital letter by the size of its font
+_CAPITAL, _WIDTH = 0.72, 0.7  # the height of a capital letter and the width of a wide one, by the size of their font
 
 # Widths are pixels, dashes millimetres on paper.
 _STYLE = """
@@ -48,29 +50,48 @@ def svg(sheet):
     return _Drawing(sheet).text()
 
 
+class _Words(NamedTuple):
+    """Letters that are drawn: the class of their style, and place, angle and size as a row has them."""
+    kind: str
+    letters: str
+    at: Tuple[int, int]
+    angle: int
+    size: int
+
+
 class _Drawing:
     def __init__(self, sheet):
         self.sheet = sheet
-        sides = list(zip(*(row.bounds for row in sheet.rows))) or [(0,)] * 4
-        west, south, east, north = min(sides[0]), min(sides[1]), max(sides[2]), max(sides[3])
+        self.borders = [(border, border.cls) for border in sheet.borders()]
+        self.labelled = [border for border, cls in self.borders if cls in _LABELLED and border.letters not in _UNSAID]
+        self.written = [*self.texts(), *(_Words("label", border.letters, border.at, border.angle, border.size) for border in self.labelled)]
+        boxes = [row.bounds for row in sheet.rows] or [(0, 0, 0, 0)]
+        west, south, east, north = around(boxes)
+        # A millimetre on paper, in metres. The scale of a QUADRO D'UNIONE is no scale, so its drawing is taken for 25 cm.
+        self.paper = max(east - west, north - south) / 250_000 if sheet.kind == "QUADRO D'UNIONE" else sheet.scale / 1_000_000
+        west, south, east, north = around([*boxes, *(end * 2 for words in self.written for end in (words.at, self.end(words)))])
         margin = max(east - west, north - south) // 40 + 1000
         self.west, self.north = west - margin, north + margin
         self.width, self.height = east - west + 2 * margin, north - south + 2 * margin
-        longer = max(self.width, self.height) / 1000
-        self.pixel = longer / _PIXELS
-        # A millimetre on paper, in metres. The scale of a QUADRO D'UNIONE is no scale, so its drawing is taken for 25 cm.
-        self.paper = longer / 250 if sheet.kind == "QUADRO D'UNIONE" else sheet.scale / 1_000_000
+        self.pixel = max(self.width, self.height) / 1000 / _PIXELS
+
+    def texts(self):
+        for row in self.sheet.rows:
+            if row.kind == "TESTO":
+                yield _Words("right" if row.surface_right else "text", row.letters, row.at, row.angle, row.size)
+            elif row.kind == "FIDUCIALE":
+                yield _Words("mark", row.letters, row.second, 0, 0)
 
     def text(self):
-        borders = [(border, border.cls) for border in self.sheet.borders()]
         size = f'width="{self.width / 1000 / self.pixel:.0f}" height="{self.height / 1000 / self.pixel:.0f}"'
         parts = [f'<svg xmlns="http://www.w3.org/2000/svg" {size} viewBox="0 0 {metres(self.width)} {metres(self.height)}">',
                  f"<title>{self.sheet.kind} {self.sheet.name}</title>",
                  f"<style>{_STYLE.format(pixel=_short(self.pixel), thick=_short(3 * self.pixel))}</style>",
                  '<rect width="100%" height="100%" fill="#fff"/>']
-        parts += [self.border(border, cls) for drawn in _ORDER for border, cls in borders if cls == drawn]
+        parts += [self.border(border, cls) for drawn in _ORDER for border, cls in self.borders if cls == drawn]
         parts += [_DRAWN[row.kind](self, row) for row in self.sheet.rows if row.kind in _DRAWN]
-        parts += [self.label(border) for border, cls in borders if cls in _LABELLED and border.letters not in _UNSAID]
+        parts += [self.path("leader", [[border.at, border.second]]) for border in self.labelled if border.at != border.second]
+        parts += map(self.words, self.written)
         return "\n".join([*parts, "</svg>\n"])
 
     def at(self, point):
@@ -106,23 +127,23 @@ class _Drawing:
         return self.sign(_SYMBOLS.get(row.code, _UNLISTED), row.at, row.angle, f"SIMBOLO {row.code}, row {row.index}")
 
     def fiducial(self, row):
-        return "\n".join([self.sign(_SYMBOLS.get(row.code, _UNLISTED), row.at, 0, f"FIDUCIALE {row.letters}, row {row.index}"),
-                          self.words("mark", row.letters, row.second, 0, 0)])
-
-    def writing(self, row):
-        return self.words("right" if row.surface_right else "text", row.letters, row.at, row.angle, row.size)
-
-    def label(self, border):
-        """A border's code, with a line to its inner point where it stands elsewhere."""
-        leader = [] if border.at == border.second else [self.path("leader", [[border.at, border.second]])]
-        return "\n".join([*leader, self.words("label", border.letters, border.at, border.angle, border.size)])
+        return self.sign(_SYMBOLS.get(row.code, _UNLISTED), row.at, 0, f"FIDUCIALE {row.letters}, row {row.index}")
 
     def sign(self, symbol, at, angle, title):
         return f'<path class="sign" transform="{self.placed(at, angle)} scale({_short(self.paper)})" d="{symbol}"><title>{escape(title)}</title></path>'
 
-    def words(self, kind, text, at, angle, size):
-        height = (size or 18) / 10 * self.paper / _CAPITAL
-        return f'<text class="{kind}" font-size="{_short(height)}" transform="{self.placed(at, angle)}">{escape(text)}</text>'
+    def words(self, words):
+        return (f'<text class="{words.kind}" font-size="{_short(self.font(words))}" transform="{self.placed(words.at, words.angle)}">'
+                f"{escape(words.letters)}</text>")
+
+    def font(self, words):
+        """The size of the font, in metres."""
+        return (words.size or 18) / 10 * self.paper / _CAPITAL
+
+    def end(self, words):
+        """Where the letters end at the furthest."""
+        length = 1000 * _WIDTH * self.font(words) * len(words.letters)
+        return round(words.at[0] + length * cos(words.angle / 1000)), round(words.at[1] + length * sin(words.angle / 1000))
 
     def placed(self, at, angle):
         turn = f" rotate({_short(-degrees(angle / 1000))})" if angle else ""
@@ -130,7 +151,7 @@ class _Drawing:
 
 
 _DRAWN = {"LINEA": _Drawing.line, "LIBRETTO": _Drawing.survey, "SIMBOLO": _Drawing.symbol, "FIDUCIALE": _Drawing.fiducial,
-          "TESTO": _Drawing.writing, "RIFERIMENTO_RASTER": _Drawing.corners}
+          "RIFERIMENTO_RASTER": _Drawing.corners}
 
 
 def _short(number):

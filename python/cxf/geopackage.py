@@ -7,6 +7,7 @@ from contextlib import closing
 
 from . import shapes
 from .refusal import Refused
+from .row import around
 
 _TABLES = """
 PRAGMA application_id = 0x47504B47;
@@ -53,7 +54,7 @@ class GeoPackage:
         features = {layer: [] for layer in _LAYERS}
         for row in sheet.rows:
             layer = _LAYER_OF.get(row.kind, "points")
-            self._widen(layer, row.bounds)
+            self._bounds[layer] = around([self._bounds.get(layer, row.bounds), row.bounds])
             for shape in _shapes(row):
                 features[layer].append((_header(row.bounds) + shape, sheet.name, row.index, row.line, *_VALUES[layer](row)))
         for layer, rows in features.items():
@@ -77,10 +78,6 @@ class GeoPackage:
                                    "VALUES (?, 'features', ?, ?, ?, ?, ?, -1)", (layer, layer, *bounds))
             self._database.execute("INSERT INTO gpkg_geometry_columns VALUES (?, 'geom', ?, -1, 0, 0)", (layer, shape))
         self._database.execute("COMMIT")
-
-    def _widen(self, layer, bounds):
-        west, south, east, north = self._bounds.get(layer, bounds)
-        self._bounds[layer] = min(west, bounds[0]), min(south, bounds[1]), max(east, bounds[2]), max(north, bounds[3])
 
 
 def _shapes(row):

@@ -3,7 +3,7 @@
 import argparse
 import os
 from collections import Counter
-from functools import lru_cache
+from functools import lru_cache, partial
 
 from . import commands, files, units
 from ._library import CELL_MOST, CLASSES
@@ -13,6 +13,7 @@ MODES = {Mode.Exact: "the printed layout alone (the default)", Mode.Loose: "bare
          Mode.Former: "notes behind numbers too"}
 NOTES = """SHEET - is standard input, FILE - standard output. Lengths are metres with at most three decimals.
 Exit status: 0 all well; 1 a sheet was refused or a check failed; 2 usage, or a file that cannot be read or written."""
+_COMMON = {"epilog": NOTES, "allow_abbrev": False, "formatter_class": argparse.RawDescriptionHelpFormatter}
 
 
 def parse(arguments):
@@ -68,56 +69,68 @@ def _fault(options):
 
 @lru_cache(maxsize=None)
 def _parser():
-    parser = argparse.ArgumentParser("cxf", description="Reads CXF sheets of the Italian cadastre.", epilog=NOTES, allow_abbrev=False,
-                                     formatter_class=argparse.RawDescriptionHelpFormatter)
-    adding = parser.add_subparsers(dest="command", metavar="COMMAND", required=True)
+    parser = argparse.ArgumentParser("cxf", description="Reads CXF sheets of the Italian cadastre.", **_COMMON)
+    command = partial(_command, parser.add_subparsers(dest="command", metavar="COMMAND", required=True))
+    _asking(command)
+    _writing(command)
+    return parser
 
-    def command(name, work, text, writes=False, jobs=True):
-        added = adding.add_parser(name, help=text, description=text, epilog=NOTES, allow_abbrev=False, formatter_class=parser.formatter_class)
-        added.set_defaults(work=work, mode=Exact, writes=writes, folder=None, output=None, jobs=1)
-        modes = added.add_mutually_exclusive_group()
-        for mode, takes in MODES.items():
-            modes.add_argument(f"--{mode.name.lower()}", dest="mode", action="store_const", const=mode, help=takes)
-        if writes:
-            place = added.add_mutually_exclusive_group(required=name in ("mask", "gpkg"))
-            place.add_argument("-o", dest="output", metavar="FILE", help="the file that is written")
-            if jobs:
-                place.add_argument("-d", dest="folder", metavar="DIR", help="the folder that a file for each sheet is written to")
-        if jobs:
-            added.add_argument("-j", dest="jobs", metavar="N", type=_positive, help="work on so many sheets at a time")
-        added.add_argument("sheets", metavar="SHEET", nargs="+" if name != "remove" else 1)
-        return added
 
-    def classes(added):
-        added.add_argument("-c", dest="classes", metavar="CLASS", type=str.upper, choices=CLASSES, action="append", default=[], help=", ".join(CLASSES))
+def _command(adding, name, work, text, writes=False, many=True):
+    """A command with what all have: its sheets, the modes, and where it puts what it writes. One that is not for many has neither -d nor -j."""
+    added = adding.add_parser(name, help=text, description=text, **_COMMON)
+    added.set_defaults(work=work, mode=Exact, writes=writes, folder=None, output=None, jobs=1)
+    modes = added.add_mutually_exclusive_group()
+    for mode, takes in MODES.items():
+        modes.add_argument(f"--{mode.name.lower()}", dest="mode", action="store_const", const=mode, help=takes)
+    if writes:
+        place = added.add_mutually_exclusive_group(required=name in ("mask", "gpkg"))
+        place.add_argument("-o", dest="output", metavar="FILE", help="the file that is written")
+        if many:
+            place.add_argument("-d", dest="folder", metavar="DIR", help="the folder that a file for each sheet is written to")
+    if many:
+        added.add_argument("-j", dest="jobs", metavar="N", type=_positive, help="work on so many sheets at a time")
+    added.add_argument("sheets", metavar="SHEET", nargs="+" if name != "remove" else 1)
+    return added
 
-    def rows(added, **more):
-        added.add_argument("-r", dest="rows", metavar="ROW", type=_natural, action="append", help="a row's number, as the command rows shows it", **more)
 
+def _asking(command):
+    """The commands that say something of a sheet."""
     check = command("check", commands.check, "whether each sheet is sound, its rings simple, its SUP file right")
     check.add_argument("-q", dest="quiet", action="store_true", help="say nothing of sheets that are")
     check.add_argument("--rings", action="store_true", help="check that no ring crosses or touches itself")
-    check.add_argument("--sup", metavar="FILE", help="check the SUP file, the one beside the sheet where none is named (--sup=FILE)")
+    check.add_argument("--sup", metavar="FILE", help="check the SUP file beside the sheet; another by --sup=FILE, in one word")
     command("list", commands.list_classes, "the figures of the six classes of borders, in square metres")
-    listed = command("rows", commands.rows, "a line for each element, tab separated")
-    classes(listed)
-    listed.add_argument("--wkt", action="store_true", help="with each shape as well-known text")
+    rows = command("rows", commands.rows, "a line for each element, tab separated")
+    _classes(rows)
+    rows.add_argument("--wkt", action="store_true", help="with each shape as well-known text")
+
+
+def _writing(command):
+    """The commands that make a file of a sheet."""
     command("clean", commands.clean, "the sheet in the printed layout", writes=True)
-    dated = command("sup", commands.sup, "the SUP file that goes out with the sheet", writes=True)
-    dated.add_argument("--date", metavar="YYYYMMDD", required=True)
-    masked = command("mask", commands.mask, "the roofs, or other borders, as a PNG of one bit with a world file", writes=True)
-    masked.add_argument("--cell", metavar="M", type=_cell, default=500, help="the side of a cell (0.5)")
-    masked.add_argument("--corner", metavar="E,N", type=_said(units.pair), help="the north-west corner, in place of the sheet's own grid")
-    masked.add_argument("--size", metavar="CxR", type=_size, help="columns and rows of the grid at that corner")
-    classes(masked)
-    rows(masked, default=[])
+    sup = command("sup", commands.sup, "the SUP file that goes out with the sheet", writes=True)
+    sup.add_argument("--date", metavar="YYYYMMDD", required=True)
+    mask = command("mask", commands.mask, "the roofs, or other borders, as a PNG of one bit with a world file", writes=True)
+    mask.add_argument("--cell", metavar="M", type=_cell, default=500, help="the side of a cell (0.5)")
+    mask.add_argument("--corner", metavar="E,N", type=_said(units.pair), help="the north-west corner, in place of the sheet's own grid")
+    mask.add_argument("--size", metavar="CxR", type=_size, help="columns and rows of the grid at that corner")
+    _classes(mask)
+    _rows(mask, default=[])
     command("svg", commands.svg, "the sheet as a drawing", writes=True)
     command("cml", commands.cml, "the lines of the sheet as CML", writes=True)
-    command("gpkg", None, "all sheets in one GeoPackage", writes=True, jobs=False)
-    moved = command("move", commands.move, "the sheet, moved", writes=True)
-    moved.add_argument("--by", metavar="E,N", type=_said(units.pair), required=True)
-    rows(command("remove", commands.remove, "the sheet without some rows", writes=True, jobs=False), required=True)
-    return parser
+    command("gpkg", None, "all sheets in one GeoPackage", writes=True, many=False)
+    move = command("move", commands.move, "the sheet, moved", writes=True)
+    move.add_argument("--by", metavar="E,N", type=_said(units.pair), required=True)
+    _rows(command("remove", commands.remove, "the sheet without some rows", writes=True, many=False), required=True)
+
+
+def _classes(parser):
+    parser.add_argument("-c", dest="classes", metavar="CLASS", type=str.upper, choices=CLASSES, action="append", default=[], help=", ".join(CLASSES))
+
+
+def _rows(parser, **more):
+    parser.add_argument("-r", dest="rows", metavar="ROW", type=_natural, action="append", help="a row's number, as the command rows shows it", **more)
 
 
 def _said(convert):

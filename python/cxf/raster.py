@@ -6,6 +6,7 @@ from array import array
 from typing import NamedTuple
 
 from ._library import MASK_SIDE
+from .row import around
 
 CELLS_MOST = 1 << 32
 
@@ -32,11 +33,10 @@ class Grid(NamedTuple):
     @classmethod
     def over_sheet(cls, sheet, cell):
         """The grid over a sheet's CONFINE."""
-        sides = list(zip(*(border.bounds for border in sheet.borders("CONFINE"))))
-        if not sides:
+        boxes = [border.bounds for border in sheet.borders("CONFINE")]
+        if not boxes:
             raise NotDrawn("no CONFINE border to lay the grid over; name --corner and --size")
-        west, south, east, north = sides
-        return cls.over((min(west), min(south), max(east), max(north)), cell)
+        return cls.over(around(boxes), cell)
 
     def meets(self, bounds):
         """Whether west, south, east, north and the grid share a point."""

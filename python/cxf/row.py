@@ -11,6 +11,12 @@ KIND, OUTSIDE, CODE, SIZE, ANGLE, X, Y, X2, Y2, LETTERS, ISLANDS, VERTICES, FIRS
 BORDO, RIFERIMENTO_RASTER = 1, 6
 
 
+def around(boxes):
+    """The box round others, each west, south, east, north."""
+    west, south, east, north = zip(*boxes)
+    return min(west), min(south), max(east), max(north)
+
+
 class Row:
     """An element of a sheet. Lengths are whole millimetres, angles thousandths of a radian, anticlockwise from east."""
 

@@ -35,7 +35,8 @@ def large_sheet():
     source = made.large(12_000_000)
     Path("large.cxf").write_bytes(source)
     print(f"a sheet of {len(source):,} bytes, seconds:")
-    for words in ("check", "check --rings", "list", "rows", "rows --wkt", "clean -o F.cxf", "sup --date 20261115 -o F.sup", "mask -o F.png", "svg -o F.svg", "gpkg -o F.gpkg"):
+    for words in ("check", "check --rings", "list", "rows", "rows --wkt", "clean -o F.cxf", "sup --date 20261115 -o F.sup", "mask -o F.png",
+                  "svg -o F.svg", "gpkg -o F.gpkg"):
         print(f"  {words:32}{seconds(*words.split(), 'large.cxf'):8.2f}")
 
 

@@ -75,7 +75,8 @@ class Statuses(Case):
                       ("mask", "--size", "4x4", "-o", "m.png", sheet), ("mask", "--corner", "0", "--size", "4x4", "-o", "m.png", sheet),
                       ("mask", "--corner", "0,0", "--size", "4x0", "-o", "m.png", sheet), ("mask", "--cell", "0", "-o", "m.png", sheet),
                       ("mask", "--cell", "10.001", "-o", "m.png", sheet), ("mask", "--cell", "0.0005", "-o", "m.png", sheet),
-                      ("mask", "-o", "m.tif", sheet), ("mask", "-o", "m.pgw", sheet), ("mask", "-c", "SHED", "-o", "m.png", sheet), ("mask", "-r", "x", "-o", "m.png", sheet), ("move", "--by", "1e3,0", sheet),
+                      ("mask", "-o", "m.tif", sheet), ("mask", "-o", "m.pgw", sheet), ("mask", "-c", "SHED", "-o", "m.png", sheet),
+                      ("mask", "-r", "x", "-o", "m.png", sheet), ("move", "--by", "1e3,0", sheet),
                       ("check", "-j", "0", sheet), ("check", "-", "-"), ("check", "--sup=a.sup", sheet, other), ("check", "--sup", "-")):
             with self.subTest(words):
                 status, out, error = said(*words)

@@ -33,6 +33,14 @@ class Drawn(unittest.TestCase):
         heights = [float(text.get("transform")[len("translate("):-1].split()[1]) for text in drawing.iter(f"{SVG}text")]
         self.assertLess(heights[0], heights[1])
 
+    def test_letters_at_an_edge_are_not_cut(self):
+        square = made.rectangle(0, 0, 10_000, 10_000)
+        plain = drawn(made.Paper().border("1", square).file())
+        for at, angle in (((10_000, 5_000), 0), ((5_000, 10_000), 1571), ((0, 5_000), 3142)):
+            wider = drawn(made.Paper().border("1", square).text("FOGLIO CONFINANTE", at, size=40, angle=angle).file())
+            sides = [float(drawing.get("viewBox").split()[3 if angle == 1571 else 2]) for drawing in (plain, wider)]
+            self.assertGreater(sides[1], sides[0] + 17 * 2)
+
     def test_letters_are_escaped(self):
         drawing = drawn(made.Paper().text('<A & "B">', (0, 0)).border("<1>", made.rectangle(0, 0, 10_000, 10_000)).file())
         self.assertEqual([text.text for text in drawing.iter(f"{SVG}text")], ['<A & "B">', "<1>"])
