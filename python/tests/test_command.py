@@ -288,12 +288,13 @@ class Streams(Case):
         before = self.names()
         fifo = self.folder / "fifo"
         os.mkfifo(fifo)
+        held = os.open(fifo, os.O_RDWR)  # whoever reads it waits, and nobody else does
+        self.addCleanup(os.close, held)
         process = program("gpkg", "-o", self.folder / "both.gpkg", self.good, fifo)
         while not any(self.folder.glob("both.gpkg.*")) and process.poll() is None:
             time.sleep(0.05)
-        with open(fifo, "wb"):
-            process.terminate()
-            self.assertEqual((process.communicate()[1], process.returncode), (b"", 143))
+        process.terminate()
+        self.assertEqual((process.communicate()[1], process.returncode), (b"", 143))
         fifo.unlink()
         self.assertEqual(self.names(), before)
 
