@@ -13,7 +13,7 @@ use borrow.Author.Tests.{eqb-true, eqb-false}
 use Rattle.laws.specs.Text.{text}
 use Rattle.laws.proofs.Choice.{and-left, and-right}
 use Rattle.laws.proofs.ListLaws.{left, left-none}
-use Rattle.laws.proofs.TableLaws.{pasted-none, pasted-one, length-pasted}
+use Rattle.laws.proofs.TableLaws.{pasted-none, pasted-one}
 use Rattle.number.specs.Number.{isReal}
 use Rattle.spelling.specs.Stored.{Stored}
 use Rattle.spelling.specs.Spelling.{digits, countText, bareReal}
@@ -21,7 +21,7 @@ use Rattle.spelling.proofs.DigitLaws.{digits-wider}
 use Rattle.spelling.proofs.BareWays.{bare-most}
 use Rattle.made.specs.Made.{areReals}
 use Rattle.writer.specs.Put.{Put}
-use Rattle.writer.proofs.Putting.{Putting, putting-start, putting-room, putting-on, stored-put, stored-on, stored-last, real-back}
+use Rattle.writer.proofs.Putting.{Putting, putting-start, putting-room, putting-on, stored-put, stored-last, real-back}
 use Rattle.cml.specs.Element.{pairText}
 use Rattle.cml.specs.Spaced.{gap, gapsTo, mark, spacedText}
 use Rattle.cml.proofs.CoordLaws.{gap-first, gap-full, gap-blank, mark-comma, mark-gap, spaced-none, spaced-two}
@@ -36,9 +36,6 @@ put-same {s} {t} e {l} {d} {at} {r} room w = rw e (stored-put (rw e at room) w)
 
 pub put-one : (l : List ℕ) (at v : ℕ) → at + 1 ≤ length l → Put l at (v ∷ []) (set l at v) (at + 1)
 put-one l at v h = record { is = pasted-one l at v (omega arith); next = refl }
-
-pub put-length : {l d : List ℕ} {at r : ℕ} {s : List ℕ} → at + length s ≤ length l → Put l at s d r → length d ≡ length l
-put-length {l} {d} {at} {r} {s} room p = ap length (p .is) ∙ length-pasted l at s room
 
 -- ---- what stands before a vertex
 
