@@ -1,6 +1,7 @@
 -- The laws of the definitions of crate `crossing`; the functions' proofs stand in folders of their names.
 mod EdgeLaws
-mod RunLaws
+mod SkipLaws
+mod BoxLaws
 pub mod SearchLaws
 pub mod VerdictLaws
 pub mod AlikeLaws

@@ -5,5 +5,5 @@ pub mod Search
 pub mod Shared
 pub mod SimpleRing
 pub mod Examples
--- For private contracts alone: runs of edges that are passed over.
-pub mod Runs
+-- For private contracts alone: boxes round blocks of edges that are passed over.
+pub mod Boxes

@@ -1,6 +1,8 @@
 // The ring check (document 01, "Ring check"): the first faulty pair of a ring's edges, edges from 0.
 // The table of points and its rings are those of crate `plane`. All is proved, and the public function has no `requires`.
 // An edge of no length is the pair of itself; but between other edges it makes those two share its point, and their pair comes first.
+mod blocks;
+
 ghost use mathlib.Core.Path.{_≡_};
 ghost use mathlib.Core.Bool.{Bool, true};
 ghost use Prim.Native.Nat.{ℕ, _+_, _*_, _-_, _≤_, _<_};
@@ -11,7 +13,10 @@ ghost use Rattle.laws.specs.Whole.{Within};
 ghost use Rattle.plane.specs.Rings.{all-near};
 ghost use Rattle.crossing.specs.Edges.{span, Close, point-at, side, dot, equal-ends, neighbours-overlap, spans-overlap, beside-line, boxes-overlap, edges-meet};
 ghost use Rattle.crossing.specs.Search.{faulty-pair, FirstFault, verdictOf};
-ghost use Rattle.crossing.specs.Runs.{along, SideRun, Skip, span-meets};
+use crate::blocks::BOX_NUMBERS;
+use crate::blocks::block_length;
+use crate::blocks::onward;
+use crate::blocks::put_boxes;
 use plane::higher;
 use plane::is_narrow;
 use plane::lower;
@@ -176,100 +181,14 @@ fn faulty_pair(
     edges_meet(a, b, c, d)
 }
 
-// Whether vertex v lies below a bound, along an axis: 0 is x, 1 is y.
-fn is_below(points: &[i64], axis: usize, v: usize, bound: i64) -> bool
-    requires { ⌜ (axis ≤ 1) × (2 * v + 1 < length (now points)) ⌝ }
-    ensures { λ r. ⌜ r ≡ ltZ (along (now (points .entry)) axis v) bound ⌝ }
-{
-    points[2 * v + axis] < bound
-}
-
-fn is_above(points: &[i64], axis: usize, v: usize, bound: i64) -> bool
-    requires { ⌜ (axis ≤ 1) × (2 * v + 1 < length (now points)) ⌝ }
-    ensures { λ r. ⌜ r ≡ ltZ bound (along (now (points .entry)) axis v) ⌝ }
-{
-    bound < points[2 * v + axis]
-}
-
-// Vertex j lies below a bound, along an axis: the last vertex, up to `stop`, that is reached through such vertices alone.
-fn run_below(points: &[i64], from: usize, axis: usize, j: usize, stop: usize, bound: i64) -> usize
-    requires { ⌜ (axis ≤ 1) × (j ≤ stop) × (2 * (from + (stop + 1)) ≤ length (now points)) × (ltZ (along (now points) axis (from + j)) bound ≡ true) ⌝ }
-    ensures { λ r. ⌜ SideRun (λ k. ltZ (along (now (points .entry)) axis (from + k)) bound) j stop r ⌝ }
-{
-    let mut e = j;
-    while e < stop {
-        if is_below(points, axis, from + (e + 1), bound) {
-            e += 1;
-            continue;
-        }
-        return e;
-    }
-    e
-}
-
-// The same above a bound.
-fn run_above(points: &[i64], from: usize, axis: usize, j: usize, stop: usize, bound: i64) -> usize
-    requires { ⌜ (axis ≤ 1) × (j ≤ stop) × (2 * (from + (stop + 1)) ≤ length (now points)) × (ltZ bound (along (now points) axis (from + j)) ≡ true) ⌝ }
-    ensures { λ r. ⌜ SideRun (λ k. ltZ bound (along (now (points .entry)) axis (from + k))) j stop r ⌝ }
-{
-    let mut e = j;
-    while e < stop {
-        if is_above(points, axis, from + (e + 1), bound) {
-            e += 1;
-            continue;
-        }
-        return e;
-    }
-    e
-}
-
-// An edge from j on, up to `stop`, before which none shares a number with the span from a to b, along an axis.
-fn skip(points: &[i64], from: usize, axis: usize, j: usize, stop: usize, a: i64, b: i64) -> usize
-    requires { ⌜ (axis ≤ 1) × (j ≤ stop) × (2 * (from + (stop + 1)) ≤ length (now points)) ⌝ }
-    ensures { λ r. ⌜ Skip (span-meets (now (points .entry)) from axis a b) j stop r ⌝ }
-{
-    let low = lower(a, b);
-    if is_below(points, axis, from + j, low) {
-        return run_below(points, from, axis, j, stop, low);
-    }
-    let high = higher(a, b);
-    if is_above(points, axis, from + j, high) {
-        return run_above(points, from, axis, j, stop, high);
-    }
-    j
-}
-
-// The next edge from j on that is to be paired with edge i, from a to b; those before it lie beyond one side of its box. Neighbours are not passed over.
-fn onward(
-    points: &[i64],
-    from: usize,
-    edges: usize,
-    i: usize,
-    j: usize,
-    a: Point,
-    b: Point,
-) -> usize
-    requires { ⌜ (i < j) × (j ≤ edges) × (2 * (from + (edges + 1)) ≤ length (now points)) × (a ≡ point-at (now points) (from + i)) × (b ≡ point-at (now points) (from + (i + 1))) ⌝ }
-    ensures { λ r. ⌜ Skip (faulty-pair (now (points .entry)) from edges i) j edges r ⌝ }
-{
-    if j < i + 2 {
-        return j;
-    }
-    if j + 1 >= edges {
-        return j;
-    }
-    let r = skip(points, from, 0, j, edges - 1, a.x, b.x);
-    if j < r {
-        return r;
-    }
-    skip(points, from, 1, j, edges - 1, a.y, b.y)
-}
-
 // The first faulty pair: each edge in turn with itself and those after it, the search left at once. With none the first is `edges`.
 fn search(points: &[i64], from: usize, edges: usize) -> Pair
     requires { ⌜ (2 * (from + (edges + 1)) ≤ length (now points)) × (all-near (now points) from (edges + 1) ≡ true) ⌝ }
     ensures { λ r. ⌜ FirstFault (now (points .entry)) from edges (r .first) (r .second) ⌝ }
 {
+    let size = block_length(edges);
+    let mut boxes = [0i64; BOX_NUMBERS];
+    put_boxes(points, from, edges, size, &mut boxes);
     let mut i = 0;
     let mut j = 0;
     'rows: while i < edges {
@@ -280,7 +199,7 @@ fn search(points: &[i64], from: usize, edges: usize) -> Pair
             if faulty_pair(points, from, edges, i, j, a, b) {
                 break 'rows;
             }
-            j = onward(points, from, edges, i, j + 1, a, b);
+            j = onward(points, from, edges, i, j + 1, a, b, size, &boxes);
         }
         i += 1;
     }

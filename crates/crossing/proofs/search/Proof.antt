@@ -6,7 +6,7 @@ use native.Mathlib.Omega.{arith}
 use lib.Dec.{ltb}
 use borrow.Author.Count.{below-none, below-more}
 use Rattle.crossing.specs.Search.{faulty-pair, second-edge}
-use Rattle.crossing.proofs.RunLaws.{row-on}
+use Rattle.crossing.proofs.SkipLaws.{row-on}
 use Rattle.crossing.proofs.SearchLaws.{row-none, pair-found, none-found}
 use Rattle.crossing.proofs.search.Statement.{statement}
 use Rattle.crossing.proofs.search.Tie as tie
