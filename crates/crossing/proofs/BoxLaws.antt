@@ -4,14 +4,16 @@ use mathlib.Core.List.{List}
 use mathlib.Core.Logic.{⊎-elim}
 use mathlib.Core.Bool.{Bool, true, false, _&&_, _||_}
 use Prim.Native.Nat.{ℕ, _+_, _*_, _^_, _≤_, _<_}
-use native.Mathlib.Nat.{le-refl, eq-or-lt-of-le, lt-of-mul-lt-mul-right}
+use native.Mathlib.Nat.{le-refl, eq-or-lt-of-le, add-mul, lt-of-mul-lt-mul-right}
 use native.Mathlib.Omega.{arith}
+use lib.Dec.{leb}
 use lib.ListN.{length, getD, set, length-set}
 use lib.Seq.{getD-set-same, getD-set-other}
 use lib.IntN.{ℤ, pos}
 use lib.Signed.{ltZ, leZ, mag}
 use mir.Syntax.{w64}
 use mir.Val.{toZ, ofZ}
+use borrow.Author.Tests.{leb-true, leb-false}
 use Rattle.laws.specs.Whole.{lowZ, highZ}
 use Rattle.laws.proofs.Choice.{cond-elim}
 use Rattle.laws.proofs.Chains.{and-off, and-off-second}
@@ -145,9 +147,21 @@ module _ (ps : List ℤ) (from edges n : ℕ) where
   pub boxes-all : (qs : List ℤ) (k : ℕ) → ((m : ℕ) → m < k → Boxed ps from edges n qs m) → edges ≤ k * n → Boxes ps from edges n qs
   boxes-all qs k w h = record { each = λ m l. w m (lt-of-mul-lt-mul-right n (let z : m * n < k * n = omega arith in z)) }
 
-  -- a block of the ring has room
-  pub block-few : (k : ℕ) → BlockLength edges n → k * n < edges → k < box-most
-  block-few k w h = lt-of-mul-lt-mul-right n (let z : k * n < box-most * n = omega (arith, w .enough) in z)
+-- ---- blocks
+
+pub block-few : (edges n k : ℕ) → BlockLength edges n → k * n < edges → k < box-most
+block-few edges n k w h = lt-of-mul-lt-mul-right n (let z : k * n < box-most * n = omega (arith, w .enough) in z)
+
+pub block-next : (k n : ℕ) → (k + 1) * n ≡ k * n + n
+block-next k n = rw (add-mul k 1 n) (omega arith)
+
+-- a block that ends before `stop` ends where it would
+pub block-full : (first n stop r : ℕ) → BlockEnd first n stop r → r < stop → first + n ≤ r
+block-full first n stop r w h = go (leb (first + n) stop) refl
+  where
+    go : (t : Bool) → leb (first + n) stop ≡ t → first + n ≤ r
+    go true q = w .reaches (first + n) (le-refl (first + n)) (leb-true (first + n) stop q)
+    go false q = let l = leb-false (first + n) stop q in let m : stop ≤ r = w .reaches stop (omega arith) (le-refl stop) in omega arith
 
 -- ---- a box that lies apart
 
