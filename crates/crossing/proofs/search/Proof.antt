@@ -1,108 +1,120 @@
+-- `crossing::search` meets its contract. The rows passed have no faulty pair; in the row at work the pairs passed are good, and a, b are its edge's ends.
+use mathlib.Core.Path.{_≡_, sym, _∙_}
+use mathlib.Core.Bool.{false}
+use Prim.Native.Nat.{ℕ, _≤_, _<_, _-_}
+use native.Mathlib.Nat.{le-refl}
+use native.Mathlib.Omega.{arith}
+use lib.Dec.{ltb}
+use borrow.Author.Needs.{needs}
+use borrow.Author.Count.{below-none, below-more}
+use Rattle.crossing.specs.Search.{faulty-pair, second-edge}
+use Rattle.crossing.proofs.SkipLaws.{row-on}
+use Rattle.crossing.proofs.SearchLaws.{row-none, pair-found, none-found}
 use Rattle.crossing.proofs.search.Statement.{statement}
 use Rattle.crossing.proofs.search.Tie as tie
-use Rattle.crossing.proofs.search.Reads as reads
-use Rattle.crossing.proofs.search.Lts as lts
-use Rattle.crossing.proofs.blocks.block_length.Reads as block-length-reads
-use Rattle.crossing.proofs.blocks.onward.Reads as onward-reads
-use Rattle.crossing.proofs.blocks.put_boxes.Reads as put-boxes-reads
-use Rattle.crossing.proofs.faulty_pair.Reads as faulty-pair-reads
-use Rattle.crossing.proofs.vertex.Reads as vertex-reads
 
 abbrev Inv-loop : tie.InvT-loop
-Inv-loop points from edges size boxes i j₀ a b j = ?
+Inv-loop points from edges size boxes i j₀ a b j = (i ≤ j) × (j ≤ edges) × ((k : ℕ) → k < j → i ≤ k → faulty-pair points from edges i k ≡ false)
 
 abbrev μ-loop : tie.MeasureT-loop
-μ-loop points from edges size boxes i j₀ a b j = ?
+μ-loop points from edges size boxes i j₀ a b j = edges - j
 
 abbrev Inv-rows : tie.InvT-rows
-Inv-rows points from edges size boxes i₀ j₀ i j = ?
+Inv-rows points from edges size boxes i₀ j₀ i j = (i ≤ edges) × ((k : ℕ) → k < i → ltb (second-edge points from edges k) edges ≡ false)
 
 abbrev μ-rows : tie.MeasureT-rows
-μ-rows points from edges size boxes i₀ j₀ i j = ?
+μ-rows points from edges size boxes i₀ j₀ i j = edges - i
 
--- src/lib.rt:189:9
 block-length-requires : tie.Need-block-length-requires Inv-loop μ-loop Inv-rows μ-rows
-block-length-requires c κs = ?
+block-length-requires c κs = omega arith
 
--- src/lib.rt:191:42
 slice-aggregate-put-boxes : tie.Need-slice-aggregate-put-boxes Inv-loop μ-loop Inv-rows μ-rows
-slice-aggregate-put-boxes c = ?
+slice-aggregate-put-boxes c = search needs
 
--- src/lib.rt:191:5
 put-boxes-requires : tie.Need-put-boxes-requires Inv-loop μ-loop Inv-rows μ-rows
-put-boxes-requires c κs = ?
+put-boxes-requires c κs = (c .before .before .pre .0, c .before .block-length .ensures, le-refl 96)
 
--- src/lib.rt:194:5
 rows-holds : tie.Need-rows-holds Inv-loop μ-loop Inv-rows μ-rows
-rows-holds c = ?
+rows-holds c = (omega arith, below-none _)
 
--- src/lib.rt:195:32
 add-vertex : tie.Need-add-vertex Inv-loop μ-loop Inv-rows μ-rows
-add-vertex c = ?
+add-vertex c = omega arith
 
--- src/lib.rt:195:13
 vertex-requires : tie.Need-vertex-requires Inv-loop μ-loop Inv-rows μ-rows
-vertex-requires c κs = ?
+vertex-requires c κs = omega arith
 
--- src/lib.rt:196:40
 add-vertex-2 : tie.Need-add-vertex-2 Inv-loop μ-loop Inv-rows μ-rows
-add-vertex-2 c = ?
+add-vertex-2 c = omega arith
 
--- src/lib.rt:196:32
 add-vertex-3 : tie.Need-add-vertex-3 Inv-loop μ-loop Inv-rows μ-rows
-add-vertex-3 c = ?
+add-vertex-3 c = omega arith
 
--- src/lib.rt:196:13
 vertex-requires-2 : tie.Need-vertex-requires-2 Inv-loop μ-loop Inv-rows μ-rows
-vertex-requires-2 c κs = ?
+vertex-requires-2 c κs = omega arith
 
--- src/lib.rt:198:9
 loop-holds : tie.Need-loop-holds Inv-loop μ-loop Inv-rows μ-rows
-loop-holds c = ?
+loop-holds c = (omega arith, omega arith, λ k l m. let z : ⊥ = omega arith in absurd z)
 
--- src/lib.rt:199:16
 faulty-pair-requires : tie.Need-faulty-pair-requires Inv-loop μ-loop Inv-rows μ-rows
-faulty-pair-requires c κs = ?
+faulty-pair-requires c κs =
+    let s = c .before .before .before .before .before .before .before .before .before .before in
+    (omega arith, omega arith, omega arith, s .pre .1, c .before .before .before .vertex .ensures, c .before .before .vertex2 .ensures)
 
--- src/lib.rt:202:48
 add-onward : tie.Need-add-onward Inv-loop μ-loop Inv-rows μ-rows
-add-onward c = ?
+add-onward c = omega arith
 
--- src/lib.rt:202:67
 slice-aggregate-onward : tie.Need-slice-aggregate-onward Inv-loop μ-loop Inv-rows μ-rows
-slice-aggregate-onward c = ?
+slice-aggregate-onward c = search needs
 
--- src/lib.rt:202:13
 onward-requires : tie.Need-onward-requires Inv-loop μ-loop Inv-rows μ-rows
-onward-requires c κs = ?
+onward-requires c κs =
+    let s = c .before .before .before .before .before .before .before .before .before .before .before .before .before in
+    (omega arith, omega arith, s .pre .0, s .pre .1, c .before .before .before .before .before .before .vertex .ensures, c .before .before .before .before .before .vertex2 .ensures, c .before .before .before .before .before .before .before .before .before .before .before .before .block-length .ensures, c .before .before .before .before .before .before .before .before .before .before .put-boxes .ensures)
 
--- src/lib.rt:198:9
 loop-less : tie.Need-loop-less Inv-loop μ-loop Inv-rows μ-rows
-loop-less c = ?
+loop-less c = omega (arith, c .onward .ensures .on)
 
--- src/lib.rt:198:9
 loop-again : tie.Need-loop-again Inv-loop μ-loop Inv-rows μ-rows
-loop-again c = ?
+loop-again c =
+    let s = c .before .before .before .before .before .before .before .before .before .before .before .before .before .before in
+    let i = c .before .before .before .before .before .before .before .before .before .rows .i in
+    let l = c .before .before .before .before .before .loop in
+    let w = c .onward .ensures in (
+      omega (arith, w .on),
+      w .inside,
+      row-on (faulty-pair (s .args .points .now) (s .args .from) (s .args .edges) i) i (l .j) (s .args .edges) (c .onward .result) (l .inv .2)
+          (sym (c .before .before .before .faulty-pair .ensures) ∙ c .before .before .if1 .left) w,
+    )
 
--- src/lib.rt:204:9
 add-i : tie.Need-add-i Inv-loop μ-loop Inv-rows μ-rows
-add-i c = ?
+add-i c = omega arith
 
--- src/lib.rt:194:5
 rows-less : tie.Need-rows-less Inv-loop μ-loop Inv-rows μ-rows
-rows-less c = ?
+rows-less c = omega arith
 
--- src/lib.rt:194:5
 rows-again : tie.Need-rows-again Inv-loop μ-loop Inv-rows μ-rows
-rows-again c = ?
+rows-again c =
+    let s = c .before .before .before .before .before .before .before .before .before .before in
+    let r = c .before .before .before .before .before .rows in
+    let l = c .before .loop in (
+      omega arith,
+      below-more (λ k. ltb (second-edge (s .args .points .now) (s .args .from) (s .args .edges) k) (s .args .edges) ≡ false) (r .i) (r .inv .1)
+          (row-none (s .args .points .now) (s .args .from) (s .args .edges) (r .i) (omega arith) (λ k x y. l .inv .2 k (omega arith) x)),
+    )
 
--- src/lib.rt:185:1
 returns : tie.Need-returns Inv-loop μ-loop Inv-rows μ-rows
-returns c = ?
+returns c =
+    let s = c .before .before .before .before .before .before in
+    let r = c .before .rows in
+    none-found (s .args .points .now) (s .args .from) (s .args .edges) (r .i) (r .j) (omega arith) (r .inv .1)
 
--- src/lib.rt:185:1
 returns-2 : tie.Need-returns-2 Inv-loop μ-loop Inv-rows μ-rows
-returns-2 c = ?
+returns-2 c =
+    let s = c .before .before .before .before .before .before .before .before .before .before .before .before in
+    let r = c .before .before .before .before .before .before .before .rows in
+    let l = c .before .before .before .loop in
+    pair-found (s .args .points .now) (s .args .from) (s .args .edges) (r .i) (l .j) (omega arith) (omega arith) (r .inv .1)
+    (λ k x y. l .inv .2 k y x) (sym (c .before .faulty-pair .ensures) ∙ c .if1 .taken)
 
 pub search-spec : {M : Type 1} → statement M
 search-spec =

@@ -1,34 +1,42 @@
-use borrow.Author.Needs.{needs}
+-- `crossing::blocks::onward` meets its contract: edges that are not met, and are no neighbours, make no faulty pair. Assumes nothing.
+use native.Mathlib.Omega.{arith}
+use Rattle.crossing.specs.Search.{faulty-pair}
+use Rattle.crossing.proofs.SkipLaws.{skip-none, onward-meets}
 use Rattle.crossing.proofs.blocks.onward.Statement.{statement}
 use Rattle.crossing.proofs.blocks.onward.Tie as tie
-use Rattle.crossing.proofs.blocks.onward.Reads as reads
-use Rattle.crossing.proofs.blocks.onward.Lts as lts
-use Rattle.crossing.proofs.blocks.next_meeting.Reads as next-meeting-reads
 
--- src/blocks.rt:247:12
 add-if1 : tie.Need-add-if1
-add-if1 c = search needs
+add-if1 c = omega arith
 
--- src/blocks.rt:248:9
 returns : tie.Need-returns
-returns c = ?
+returns c =
+    let s = c .before in
+    skip-none (faulty-pair (s .args .points .now) (s .args .from) (s .args .edges) (s .args .i)) (s .args .j) (s .args .edges) (s .pre .1)
 
--- src/blocks.rt:250:8
 add-if2 : tie.Need-add-if2
-add-if2 c = search needs
+add-if2 c = omega arith
 
--- src/blocks.rt:251:9
 returns-2 : tie.Need-returns-2
-returns-2 c = ?
+returns-2 c =
+    let s = c .before .before in
+    skip-none (faulty-pair (s .args .points .now) (s .args .from) (s .args .edges) (s .args .i)) (s .args .j) (s .args .edges) (s .pre .1)
 
--- src/blocks.rt:253:5
 next-meeting-requires : tie.Need-next-meeting-requires
-next-meeting-requires c κs = search needs
+next-meeting-requires c κs = let s = c .before .before in (omega arith, omega arith, s .pre .2, s .pre .3, s .pre .4, s .pre .5, s .pre .6, s .pre .7)
 
--- src/blocks.rt:233:1
 returns-3 : tie.Need-returns-3
-returns-3 c = ?
+returns-3 c =
+    let s = c .before .before .before in
+    onward-meets (s .args .points .now) (s .args .from) (s .args .edges) (s .args .i) (s .args .j) (c .next-meeting .result) (s .args .a) (s .args .b) (s .pre .4) (s .pre .5) (omega arith) (omega arith)
+    (c .next-meeting .ensures)
 
 pub onward-spec : {M : Type 1} → statement M
 onward-spec =
-    tie.close (tie.spec add-if1 returns add-if2 returns-2 next-meeting-requires returns-3)
+    tie.close
+    (tie.spec
+    add-if1
+    returns
+    add-if2
+    returns-2
+    next-meeting-requires
+    returns-3)
