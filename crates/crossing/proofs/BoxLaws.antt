@@ -109,15 +109,17 @@ module _ (ps : List ℤ) (from axis first last : ℕ) where
 
   -- the two numbers stored
   pub range-put : (qs rs ts : List ℤ) (at : ℕ) (low high : ℤ) → at + 1 < length qs → Floor number first last low → Ceiling number first last high → rs ≡ set qs at low → ts ≡ set rs (at + 1) high → Kept qs ts at × Ranged ps from axis first last ts at
-  range-put qs rs ts at low high h fl ce e f = rw (f, e) (record {
-        same-length = length-set (set qs at low) (at + 1) high ∙ length-set qs at low;
-        before = λ i l. getD-set-other (set qs at low) (at + 1) i high (pos 0) (λ q. omega arith) ∙ getD-set-other qs at i low (pos 0) (λ q. omega arith);
-      },
-      record {
-        room = rw (length-set (set qs at low) (at + 1) high, length-set qs at low) h;
-        low = rw (getD-set-other (set qs at low) (at + 1) at high (pos 0) (λ q. omega arith), getD-set-same qs at low (pos 0) (omega arith)) fl;
-        high = rw (getD-set-same (set qs at low) (at + 1) high (pos 0) (rw (length-set qs at low) h)) ce;
-      })
+  range-put qs rs ts at low high h fl ce e f = rw (f, e) (
+    record {
+      same-length = length-set (set qs at low) (at + 1) high ∙ length-set qs at low;
+      before = λ i l. getD-set-other (set qs at low) (at + 1) i high (pos 0) (λ q. omega arith) ∙ getD-set-other qs at i low (pos 0) (λ q. omega arith);
+    },
+    record {
+      room = rw (length-set (set qs at low) (at + 1) high, length-set qs at low) h;
+      low = rw (getD-set-other (set qs at low) (at + 1) at high (pos 0) (λ q. omega arith), getD-set-same qs at low (pos 0) (omega arith)) fl;
+      high = rw (getD-set-same (set qs at low) (at + 1) high (pos 0) (rw (length-set qs at low) h)) ce;
+    },
+  )
 
 module _ (ps : List ℤ) (from edges n : ℕ) where
   pub boxes-none : (qs : List ℤ) (m : ℕ) → m < 0 → Boxed ps from edges n qs m

@@ -22,10 +22,10 @@ div-k c = c .pre .6 .some
 
 loop-holds : tie.Need-loop-holds Inv-loop μ-loop
 loop-holds s = (
-      skip-none (meets-at (s .args .points .now) (s .args .from) (s .args .a) (s .args .b)) (s .args .j) (s .args .edges - 1) (omega arith),
-      λ h. div-mul-le-self (s .args .j) (s .args .size),
-      lt-div-mul-add (s .pre .6 .some),
-    )
+  skip-none (meets-at (s .args .points .now) (s .args .from) (s .args .a) (s .args .b)) (s .args .j) (s .args .edges - 1) (omega arith),
+  λ h. div-mul-le-self (s .args .j) (s .args .size),
+  lt-div-mul-add (s .pre .6 .some),
+)
 
 mul-block-end : tie.Need-mul-block-end Inv-loop μ-loop
 mul-block-end c = let h = c .before .loop .inv .1 (c .loop-test .taken) in omega arith
