@@ -7,10 +7,20 @@ use lib.ListN.{length, getD}
 use lib.IntN.{ℤ, pos}
 use lib.Signed.{ltZ, leZ}
 use Rattle.laws.specs.Whole.{lowZ, highZ}
+use Rattle.plane.specs.Rings.{all-near}
 use Rattle.crossing.specs.declared.Point.{Point}
 use Rattle.crossing.specs.Edges.{point-at, spans-overlap, edges-meet}
 
 -- ---- edges that are passed over
+
+-- a and b are the ends of an edge of a ring, which the table holds and which is not too wide
+pub record EdgeOf (ps : List ℤ) (from edges : ℕ) (a b : Point) : Type 0 where
+  pub place : ℕ
+  pub among : place < edges
+  pub held : 2 * (from + (edges + 1)) ≤ length ps
+  pub narrow : all-near ps from (edges + 1) ≡ true
+  pub start : a ≡ point-at ps (from + place)
+  pub end : b ≡ point-at ps (from + (place + 1))
 
 -- the edges from j on, before r, fail a test, and r is not past `stop`
 pub record Skip (p : ℕ → Bool) (j stop r : ℕ) : Type 0 where

@@ -8,7 +8,7 @@ ghost use lib.IntN.{ℤ, pos};
 ghost use Rattle.plane.specs.Rings.{all-near};
 ghost use Rattle.crossing.specs.Edges.{point-at};
 ghost use Rattle.crossing.specs.Search.{faulty-pair};
-ghost use Rattle.crossing.specs.Boxes.{along, Skip, meets-at, Floor, Ceiling, Ranged, beyond, box-most, BlockLength, BlockEnd, Boxed, Boxes, box-apart, Kept};
+ghost use Rattle.crossing.specs.Boxes.{EdgeOf, along, Skip, meets-at, Floor, Ceiling, Ranged, beyond, box-most, BlockLength, BlockEnd, Boxed, Boxes, box-apart, Kept};
 use crate::Point;
 use crate::edges_meet;
 use crate::vertex;
@@ -143,9 +143,9 @@ fn is_apart(boxes: &[i64], k: usize, a: Point, b: Point) -> bool
     is_beyond(boxes, 4 * k + 2, a.y, b.y)
 }
 
-// Whether edge i, from a to b, and edge k share a point.
-fn meets(points: &[i64], from: usize, edges: usize, i: usize, k: usize, a: Point, b: Point) -> bool
-    requires { ⌜ (i < edges) × (k < edges) × (2 * (from + (edges + 1)) ≤ length (now points)) × (all-near (now points) from (edges + 1) ≡ true) × (a ≡ point-at (now points) (from + i)) × (b ≡ point-at (now points) (from + (i + 1))) ⌝ }
+// Whether the edge from a to b and edge k, no neighbours, share a point.
+fn meets(points: &[i64], from: usize, edges: usize, k: usize, a: Point, b: Point) -> bool
+    requires { ⌜ EdgeOf (now points) from edges a b × (k < edges) ⌝ }
     ensures { λ r. ⌜ r ≡ meets-at (now (points .entry)) from a b k ⌝ }
 {
     let c = vertex(points, from + k);
@@ -153,23 +153,22 @@ fn meets(points: &[i64], from: usize, edges: usize, i: usize, k: usize, a: Point
     edges_meet(a, b, c, d)
 }
 
-// The next edge from j on, up to `stop`, that shares a point with edge i.
+// The next edge from j on, up to `stop`, that shares a point with the edge from a to b.
 fn scan(
     points: &[i64],
     from: usize,
     edges: usize,
-    i: usize,
     j: usize,
     stop: usize,
     a: Point,
     b: Point,
 ) -> usize
-    requires { ⌜ (i < edges) × (j ≤ stop) × (stop ≤ edges) × (2 * (from + (edges + 1)) ≤ length (now points)) × (all-near (now points) from (edges + 1) ≡ true) × (a ≡ point-at (now points) (from + i)) × (b ≡ point-at (now points) (from + (i + 1))) ⌝ }
+    requires { ⌜ EdgeOf (now points) from edges a b × (j ≤ stop) × (stop ≤ edges) ⌝ }
     ensures { λ r. ⌜ Skip (meets-at (now (points .entry)) from a b) j stop r ⌝ }
 {
     let mut e = j;
     while e < stop {
-        if meets(points, from, edges, i, e, a, b) {
+        if meets(points, from, edges, e, a, b) {
             return e;
         }
         e += 1;
@@ -182,7 +181,6 @@ fn scan_block(
     points: &[i64],
     from: usize,
     edges: usize,
-    i: usize,
     j: usize,
     stop: usize,
     a: Point,
@@ -191,13 +189,13 @@ fn scan_block(
     boxes: &[i64],
     k: usize,
 ) -> usize
-    requires { ⌜ (i < edges) × (j ≤ stop) × (stop ≤ edges) × (2 * (from + (edges + 1)) ≤ length (now points)) × (all-near (now points) from (edges + 1) ≡ true) × (a ≡ point-at (now points) (from + i)) × (b ≡ point-at (now points) (from + (i + 1))) × Boxed (now points) from edges size (now boxes) k × (k * size ≤ j) × (stop ≤ k * size + size) ⌝ }
+    requires { ⌜ EdgeOf (now points) from edges a b × (j ≤ stop) × (stop ≤ edges) × Boxed (now points) from edges size (now boxes) k × (k * size ≤ j) × (stop ≤ k * size + size) ⌝ }
     ensures { λ r. ⌜ Skip (meets-at (now (points .entry)) from a b) j stop r ⌝ }
 {
     if is_apart(boxes, k, a, b) {
         return stop;
     }
-    scan(points, from, edges, i, j, stop, a, b)
+    scan(points, from, edges, j, stop, a, b)
 }
 
 // The same up to the last edge, block by block.
@@ -205,14 +203,13 @@ fn next_meeting(
     points: &[i64],
     from: usize,
     edges: usize,
-    i: usize,
     j: usize,
     a: Point,
     b: Point,
     size: usize,
     boxes: &[i64],
 ) -> usize
-    requires { ⌜ (i < edges) × (j < edges) × (2 * (from + (edges + 1)) ≤ length (now points)) × (all-near (now points) from (edges + 1) ≡ true) × (a ≡ point-at (now points) (from + i)) × (b ≡ point-at (now points) (from + (i + 1))) × BlockLength edges size × Boxes (now points) from edges size (now boxes) ⌝ }
+    requires { ⌜ EdgeOf (now points) from edges a b × (j < edges) × BlockLength edges size × Boxes (now points) from edges size (now boxes) ⌝ }
     ensures { λ r. ⌜ Skip (meets-at (now (points .entry)) from a b) j (edges - 1) r ⌝ }
 {
     let stop = edges - 1;
@@ -220,7 +217,7 @@ fn next_meeting(
     let mut e = j;
     while e < stop {
         let end = block_end(k * size, size, stop);
-        e = scan_block(points, from, edges, i, e, end, a, b, size, boxes, k);
+        e = scan_block(points, from, edges, e, end, a, b, size, boxes, k);
         if e < end {
             return e;
         }
@@ -250,5 +247,5 @@ pub(crate) fn onward(
     if j + 1 >= edges {
         return j;
     }
-    next_meeting(points, from, edges, i, j, a, b, size, boxes)
+    next_meeting(points, from, edges, j, a, b, size, boxes)
 }

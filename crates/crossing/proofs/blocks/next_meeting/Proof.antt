@@ -9,22 +9,22 @@ use Rattle.crossing.proofs.blocks.next_meeting.Statement.{statement}
 use Rattle.crossing.proofs.blocks.next_meeting.Tie as tie
 
 abbrev Inv-loop : tie.InvT-loop
-Inv-loop points from edges i j a b size boxes stop k₀ e₀ k e = Skip (meets-at points from a b) j stop e × (e < stop → k * size ≤ e) × (e < k * size + size)
+Inv-loop points from edges j a b size boxes stop k₀ e₀ k e = Skip (meets-at points from a b) j stop e × (e < stop → k * size ≤ e) × (e < k * size + size)
 
 abbrev μ-loop : tie.MeasureT-loop
-μ-loop points from edges i j a b size boxes stop k₀ e₀ k e = stop - e
+μ-loop points from edges j a b size boxes stop k₀ e₀ k e = stop - e
 
 sub-stop : tie.Need-sub-stop Inv-loop μ-loop
 sub-stop c = omega arith
 
 div-k : tie.Need-div-k Inv-loop μ-loop
-div-k c = c .pre .6 .some
+div-k c = c .pre .2 .some
 
 loop-holds : tie.Need-loop-holds Inv-loop μ-loop
 loop-holds s = (
   skip-none (meets-at (s .args .points .now) (s .args .from) (s .args .a) (s .args .b)) (s .args .j) (s .args .edges - 1) (omega arith),
   λ h. div-mul-le-self (s .args .j) (s .args .size),
-  lt-div-mul-add (s .pre .6 .some),
+  lt-div-mul-add (s .pre .2 .some),
 )
 
 mul-block-end : tie.Need-mul-block-end Inv-loop μ-loop
@@ -33,7 +33,7 @@ mul-block-end c = let h = c .before .loop .inv .1 (c .loop-test .taken) in omega
 block-end-requires : tie.Need-block-end-requires Inv-loop μ-loop
 block-end-requires c κs =
     let h = c .before .loop .inv .1 (c .loop-test .taken) in
-    let l = c .before .before .pre .6 .small in
+    let l = c .before .before .pre .2 .small in
     omega arith
 
 scan-block-requires : tie.Need-scan-block-requires Inv-loop μ-loop
@@ -47,11 +47,7 @@ scan-block-requires c κs =
       s .pre .0,
       w .reaches (l .e) (omega (arith, l .inv .2)) (omega arith),
       omega arith,
-      s .pre .2,
-      s .pre .3,
-      s .pre .4,
-      s .pre .5,
-      s .pre .7 .each (l .k) (omega arith),
+      s .pre .3 .each (l .k) (omega arith),
       h,
       w .in-block,
     )
@@ -68,7 +64,7 @@ add-k c =
     let s = c .before .before .before .before .before in
     let l = c .before .before .before .before .loop in
     let h = l .inv .1 (c .before .before .before .loop-test .taken) in
-    omega (arith, le-mul-of-pos-right (l .k) (s .pre .6 .some))
+    omega (arith, le-mul-of-pos-right (l .k) (s .pre .2 .some))
 
 loop-less : tie.Need-loop-less Inv-loop μ-loop
 loop-less c =
@@ -88,7 +84,7 @@ loop-again c =
     let b = w .ensures .in-block in (
       skip-then (meets-at (s .args .points .now) (s .args .from) (s .args .a) (s .args .b)) (s .args .j) (s .args .edges - 1) (l .e) (w .result) (c .before .scan-block .result) (l .inv .0) v (w .ensures .inside),
       λ h. let f = block-full (l .k * s .args .size) (s .args .size) (s .args .edges - 1) (w .result) (w .ensures) (omega arith) in omega arith,
-      omega (arith, s .pre .6 .some),
+      omega (arith, s .pre .2 .some),
     )
 
 returns-2 : tie.Need-returns-2 Inv-loop μ-loop

@@ -22,7 +22,12 @@ returns-2 c =
     skip-none (faulty-pair (s .args .points .now) (s .args .from) (s .args .edges) (s .args .i)) (s .args .j) (s .args .edges) (s .pre .1)
 
 next-meeting-requires : tie.Need-next-meeting-requires
-next-meeting-requires c κs = let s = c .before .before in (omega arith, omega arith, s .pre .2, s .pre .3, s .pre .4, s .pre .5, s .pre .6, s .pre .7)
+next-meeting-requires c κs = let s = c .before .before in (
+  record { place = s .args .i; among = omega arith; held = s .pre .2; narrow = s .pre .3; start = s .pre .4; end = s .pre .5 },
+  omega arith,
+  s .pre .6,
+  s .pre .7,
+)
 
 returns-3 : tie.Need-returns-3
 returns-3 c =

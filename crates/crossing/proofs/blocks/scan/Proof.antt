@@ -8,22 +8,22 @@ use Rattle.crossing.proofs.blocks.scan.Statement.{statement}
 use Rattle.crossing.proofs.blocks.scan.Tie as tie
 
 abbrev Inv-loop : tie.InvT-loop
-Inv-loop points from edges i j stop a b e₀ e = Skip (meets-at points from a b) j stop e
+Inv-loop points from edges j stop a b e₀ e = Skip (meets-at points from a b) j stop e
 
 abbrev μ-loop : tie.MeasureT-loop
-μ-loop points from edges i j stop a b e₀ e = stop - e
+μ-loop points from edges j stop a b e₀ e = stop - e
 
 loop-holds : tie.Need-loop-holds Inv-loop μ-loop
 loop-holds s = skip-none (meets-at (s .args .points .now) (s .args .from) (s .args .a) (s .args .b)) (s .args .j) (s .args .stop) (s .pre .1)
 
 meets-requires : tie.Need-meets-requires Inv-loop μ-loop
-meets-requires c κs = let s = c .before .before in (s .pre .0, omega arith, s .pre .3, s .pre .4, s .pre .5, s .pre .6)
+meets-requires c κs = let s = c .before .before in (s .pre .0, omega arith)
 
 returns : tie.Need-returns Inv-loop μ-loop
 returns c = c .before .before .before .loop .inv
 
 add-e : tie.Need-add-e Inv-loop μ-loop
-add-e c = omega arith
+add-e c = omega (arith, c .before .before .before .before .pre .0 .held)
 
 loop-less : tie.Need-loop-less Inv-loop μ-loop
 loop-less c = omega arith

@@ -7,13 +7,13 @@ use Rattle.crossing.proofs.blocks.scan_block.Statement.{statement}
 use Rattle.crossing.proofs.blocks.scan_block.Tie as tie
 
 is-apart-requires : tie.Need-is-apart-requires
-is-apart-requires c κs = let h = c .pre .7 .high (c .args .stop) (c .pre .9) (c .pre .2) .room in omega arith
+is-apart-requires c κs = let h = c .pre .3 .high (c .args .stop) (c .pre .5) (c .pre .2) .room in omega arith
 
 returns : tie.Need-returns
 returns c =
     let s = c .before .before in
-    skip-block (s .args .boxes .now) (s .args .k) (s .args .a) (s .args .b) (s .args .points .now) (s .args .from) (s .args .edges) (s .args .size) (s .pre .7) (sym (c .before .is-apart .ensures) ∙ c .if1 .taken)
-    (s .args .j) (s .args .stop) (s .pre .1) (s .pre .2) (s .pre .8) (s .pre .9)
+    skip-block (s .args .boxes .now) (s .args .k) (s .args .a) (s .args .b) (s .args .points .now) (s .args .from) (s .args .edges) (s .args .size) (s .pre .3) (sym (c .before .is-apart .ensures) ∙ c .if1 .taken)
+    (s .args .j) (s .args .stop) (s .pre .1) (s .pre .2) (s .pre .4) (s .pre .5)
 
 scan-requires : tie.Need-scan-requires
 scan-requires c κs = search needs
