@@ -1,10 +1,10 @@
 // How the ring check passes over most pairs of edges: the ring's edges in blocks, at most 24 of them, each with the box round its vertices.
 // Nothing here says what a faulty pair is. That edges were passed over rightly is the contract of `onward`.
 ghost use mathlib.Core.Path.{_≡_};
-ghost use mathlib.Core.Bool.{Bool, true};
-ghost use Prim.Native.Nat.{ℕ, _+_, _*_, _-_, _≤_, _<_};
+ghost use mathlib.Core.Bool.{true};
+ghost use Prim.Native.Nat.{_+_, _*_, _-_, _≤_, _<_};
 ghost use lib.ListN.{length, getD, set};
-ghost use lib.IntN.{ℤ, pos};
+ghost use lib.IntN.{pos};
 ghost use Rattle.plane.specs.Rings.{all-near};
 ghost use Rattle.crossing.specs.Edges.{point-at};
 ghost use Rattle.crossing.specs.Search.{faulty-pair};

@@ -8,7 +8,6 @@ ghost use mathlib.Core.Bool.{Bool, true};
 ghost use Prim.Native.Nat.{ℕ, _+_, _*_, _-_, _≤_, _<_};
 ghost use lib.ListN.{length};
 ghost use lib.IntN.{ℤ, _+ℤ_, _-ℤ_, _*ℤ_};
-ghost use lib.Signed.{ltZ};
 ghost use Rattle.laws.specs.Whole.{Within};
 ghost use Rattle.plane.specs.Rings.{all-near};
 ghost use Rattle.crossing.specs.Edges.{span, Close, point-at, side, dot, equal-ends, neighbours-overlap, spans-overlap, beside-line, boxes-overlap, edges-meet};
@@ -181,7 +180,7 @@ fn faulty_pair(
     edges_meet(a, b, c, d)
 }
 
-// The first faulty pair: each edge in turn with itself and those after it, the search left at once. With none the first is `edges`.
+// The first faulty pair: each edge in turn with itself and those after it, the search left at once. With none the first is `edges`. The boxes serve `onward` alone.
 fn search(points: &[i64], from: usize, edges: usize) -> Pair
     requires { ⌜ (2 * (from + (edges + 1)) ≤ length (now points)) × (all-near (now points) from (edges + 1) ≡ true) ⌝ }
     ensures { λ r. ⌜ FirstFault (now (points .entry)) from edges (r .first) (r .second) ⌝ }

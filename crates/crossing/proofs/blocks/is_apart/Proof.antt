@@ -1,16 +1,16 @@
 -- `crossing::blocks::is_apart` meets its contract: one lemma of BoxLaws for each answer. Assumes nothing.
 use mathlib.Core.Path.{sym, _∙_}
+use native.Mathlib.Omega.{arith}
 use Rattle.laws.proofs.Bits.{back}
 use Rattle.crossing.proofs.BoxLaws.{apart-x, apart-y}
-use borrow.Author.Needs.{needs}
 use Rattle.crossing.proofs.blocks.is_apart.Statement.{statement}
 use Rattle.crossing.proofs.blocks.is_apart.Tie as tie
 
 mul-is-beyond : tie.Need-mul-is-beyond
-mul-is-beyond c = search needs
+mul-is-beyond c = omega arith
 
 is-beyond-requires : tie.Need-is-beyond-requires
-is-beyond-requires c κs = search needs
+is-beyond-requires c κs = omega arith
 
 returns : tie.Need-returns
 returns c =
@@ -21,13 +21,13 @@ returns c =
     apart-x (s .args .boxes .now) (s .args .k) a b (sym e ∙ c .if1 .taken)
 
 mul-is-beyond-2 : tie.Need-mul-is-beyond-2
-mul-is-beyond-2 c = search needs
+mul-is-beyond-2 c = omega arith
 
 add-is-beyond : tie.Need-add-is-beyond
-add-is-beyond c = search needs
+add-is-beyond c = omega arith
 
 is-beyond-requires-2 : tie.Need-is-beyond-requires-2
-is-beyond-requires-2 c κs = search needs
+is-beyond-requires-2 c κs = omega arith
 
 returns-2 : tie.Need-returns-2
 returns-2 c =

@@ -2,7 +2,6 @@
 use mathlib.Core.Path.{_≡_}
 use Prim.Native.Nat.{ℕ, _+_, _<_}
 use native.Mathlib.Omega.{arith}
-use borrow.Author.Needs.{needs}
 use Rattle.crossing.specs.declared.Point.{Point}
 use Rattle.crossing.specs.Edges.{Close, point-at}
 use Rattle.crossing.proofs.EdgeLaws.{close-as}

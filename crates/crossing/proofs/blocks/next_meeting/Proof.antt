@@ -1,5 +1,5 @@
 -- `crossing::blocks::next_meeting` meets its contract: the edges so far are not met, and the next stands in block k. Assumes nothing.
-use Prim.Native.Nat.{ℕ, _+_, _*_, _-_, _≤_, _<_}
+use Prim.Native.Nat.{_+_, _*_, _-_, _≤_, _<_}
 use native.Mathlib.Nat.{div-mul-le-self, lt-div-mul-add, le-mul-of-pos-right}
 use native.Mathlib.Omega.{arith}
 use Rattle.crossing.specs.Boxes.{Skip, meets-at}

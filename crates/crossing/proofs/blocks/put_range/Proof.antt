@@ -1,21 +1,22 @@
 -- `crossing::blocks::put_range` meets its contract: the two bounds are stored. Assumes nothing.
+use native.Mathlib.Omega.{arith}
+use borrow.Author.Needs.{needs}
 use Rattle.laws.proofs.Bits.{back}
 use Rattle.crossing.proofs.BoxLaws.{range-put}
-use borrow.Author.Needs.{needs}
 use Rattle.crossing.proofs.blocks.put_range.Statement.{statement}
 use Rattle.crossing.proofs.blocks.put_range.Tie as tie
 
 lowest-requires : tie.Need-lowest-requires
-lowest-requires c κs = search needs
+lowest-requires c κs = (c .pre .0, c .pre .1, c .pre .2)
 
 highest-requires : tie.Need-highest-requires
-highest-requires c κs = search needs
+highest-requires c κs = let s = c .before in (s .pre .0, s .pre .1, s .pre .2)
 
 put-number-requires : tie.Need-put-number-requires
-put-number-requires c κs = search needs
+put-number-requires c κs = omega arith
 
 add-put-number : tie.Need-add-put-number
-add-put-number c = search needs
+add-put-number c = omega arith
 
 put-number-requires-2 : tie.Need-put-number-requires-2
 put-number-requires-2 c κs = search needs

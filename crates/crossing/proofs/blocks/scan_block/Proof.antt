@@ -2,7 +2,6 @@
 use mathlib.Core.Path.{sym, _∙_}
 use native.Mathlib.Omega.{arith}
 use Rattle.crossing.proofs.BoxLaws.{skip-block}
-use borrow.Author.Needs.{needs}
 use Rattle.crossing.proofs.blocks.scan_block.Statement.{statement}
 use Rattle.crossing.proofs.blocks.scan_block.Tie as tie
 
@@ -16,10 +15,10 @@ returns c =
     (s .args .j) (s .args .stop) (s .pre .1) (s .pre .2) (s .pre .4) (s .pre .5)
 
 scan-requires : tie.Need-scan-requires
-scan-requires c κs = search needs
+scan-requires c κs = let s = c .before .before in (s .pre .0, s .pre .1, s .pre .2)
 
 returns-2 : tie.Need-returns-2
-returns-2 c = search needs
+returns-2 c = c .scan .ensures
 
 pub scan-block-spec : {M : Type 1} → statement M
 scan-block-spec = tie.close (tie.spec is-apart-requires returns scan-requires returns-2)
