@@ -21,15 +21,19 @@ const BOXES: usize = 24;
 // West, east, south and north of each.
 pub(crate) const BOX_NUMBERS: usize = 4 * BOXES;
 
-// Shorter blocks than this are not worth their boxes.
+// Blocks of fewer edges are not worth their boxes.
 const SHORTEST: usize = 8;
 
-// How many edges a block has.
+// How many edges a block has, the last one apart.
 pub(crate) fn block_length(edges: usize) -> usize
     requires { ⌜ edges < 9223372036854775808 ⌝ }
     ensures { λ r. ⌜ BlockLength edges r ⌝ }
 {
-    edges / BOXES + SHORTEST
+    let share = edges / BOXES + 1;
+    if share < SHORTEST {
+        return SHORTEST;
+    }
+    share
 }
 
 fn block_end(first: usize, size: usize, stop: usize) -> usize
