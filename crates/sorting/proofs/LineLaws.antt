@@ -1,16 +1,17 @@
 -- Lines in a table: what stands at each place, before and after two are exchanged. Assumes nothing.
-use Prim.Native.Nat.{ℕ, zero, suc, _+_, _-_, _*_, _≤_, _<_}
+use Prim.Native.Nat.{ℕ, zero, suc, _+_, _-_, _*_, _/_, _≤_, _<_}
 use mathlib.Core.Path.{_≡_, refl, sym, ap, subst, _∙_}
-use mathlib.Core.List.{List, [], _∷_, _++_, append-assoc}
+use mathlib.Core.List.{List, [], _∷_, _++_, append-assoc, append-nil}
 use mathlib.Core.Bool.{Bool, true, false, cond}
 use native.Mathlib.Omega.{arith}
+use native.Mathlib.Nat.{mul-div-cancel-left}
 use lib.ListN.{length, getD, take, drop, set, length-append, length-take, length-drop, length-set, take-append-drop}
 use lib.Dec.{ltb, eqb}
 use borrow.Author.Tests.{ltb-true, ltb-false, eqb-true, eqb-false}
 use lib.Seq.{take-add, take-at, drop-at, take-append-le, drop-append-le, drop-append-add, drop-drop, length-take-le, ext-getD, getD-set-same, getD-set-other}
 use Rattle.laws.specs.Lists.{over, pasted}
 use Rattle.laws.proofs.TableLaws.{length-pasted}
-use Rattle.laws.proofs.ListLaws.{front-part}
+use Rattle.laws.proofs.ListLaws.{front-part, left-none}
 use Rattle.order.specs.Sorting.{EachOf, EachOf.each-nil, EachOf.each-on, Sorted, Sorted.sorted-nil, Sorted.sorted-on}
 use Rattle.sorting.specs.Lines.{lineWidth, lineAt, linesIn, joined, bytesBefore}
 use Rattle.sorting.specs.Exchanges.{Inside, exchanged, InOrder}
@@ -100,7 +101,7 @@ module _ (s : List ℕ) (i j : ℕ) (h : i < j) (k : Inside s j) where
 
 -- ---- the first n lines
 
-line-on : (s : List ℕ) (i : ℕ) → lineAt (drop 23 s) i ≡ lineAt s (suc i)
+pub line-on : (s : List ℕ) (i : ℕ) → lineAt (drop 23 s) i ≡ lineAt s (suc i)
 line-on s i = let n : 23 + 23 * i ≡ 23 * suc i = omega arith in ap (take 23) (drop-drop (23 * i) 23 s ∙ ap (λ (k : ℕ). drop k s) n)
 
 pub lines-length : (n : ℕ) (s : List ℕ) → length (linesIn n s) ≡ n
@@ -167,3 +168,26 @@ module _ (n : ℕ) (s : List ℕ) (i j : ℕ) (h : i < j) (k : Inside s j) (l : 
   lines-exchanged =
       ext-getD [] (linesIn n u) (set (set a i y) j x) (lines-length n u ∙ sym (length-set (set a i y) j x ∙ length-set a i y ∙ lines-length n s))
       (λ m p. let q : m < n = omega (arith, lines-length n u) in lines-at n u m q ∙ other-place m q)
+
+-- ---- whole lines one behind the other are the lines
+
+pub record Whole (x : List ℕ) : Type 0 where
+  pub wide : length x ≡ lineWidth
+
+pub joined-length : {l : List (List ℕ)} → EachOf Whole l → length (joined l) ≡ lineWidth * length l
+unfolding joined
+joined-length each-nil = refl
+joined-length (each-on {x} {s} w e) = omega (arith, length-append x (joined s), w .wide, joined-length e)
+
+pub joined-lines : {l : List (List ℕ)} → EachOf Whole l → linesIn (length l) (joined l) ≡ l
+unfolding joined linesIn
+joined-lines each-nil = refl
+joined-lines (each-on {x} {s} w e) = rw (take-at x (joined s) 23 (w .wide), drop-at x (joined s) 23 (w .wide), joined-lines e)
+
+-- so many of them
+pub joined-count : {l : List (List ℕ)} → EachOf Whole l → length (joined l) / lineWidth ≡ length l
+joined-count {l} e = rw (joined-length e) (mul-div-cancel-left (length l) {n = 23} (omega arith))
+
+-- what is stored over a table of the same length
+pub over-all : (s l : List ℕ) → length s ≡ length l → over s l ≡ s
+over-all s l e = rw (left-none l (length s) (omega arith)) (append-nil s)

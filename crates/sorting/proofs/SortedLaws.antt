@@ -4,20 +4,21 @@ use mathlib.Core.Path.{_≡_, refl, sym, ap, _∙_}
 use mathlib.Core.List.{List, []}
 use mathlib.Core.Bool.{Bool, true, false}
 use native.Mathlib.Omega.{arith}
-use native.Mathlib.Nat.{mul-div-le, lt-mul-div-succ}
+use native.Mathlib.Nat.{mul-div-le, lt-mul-div-succ, zero-add}
 use lib.ListN.{length, take, drop, take-append-drop}
 use lib.Seq.{length-take-le}
 use Rattle.order.specs.declared.Comes.{Comes}
 use Rattle.order.specs.declared.Comes.the-variants.{Before, Same, After}
 use Rattle.order.specs.Compare.{isBefore, byBytes}
-use Rattle.order.specs.Sorting.{sortBy}
+use Rattle.order.specs.Sorting.{sortBy, EachOf}
+use Rattle.order.proofs.SortLaws.{each-sort, length-sort}
 use Rattle.order.proofs.CompareLaws.{turned, bytes-total, bytes-eq, not-through, not-both}
 use Rattle.laws.specs.Lists.{over}
 use Rattle.laws.proofs.Choice.{false≢true}
 use Rattle.sorting.specs.Lines.{lineWidth, linesIn, joined, bytesBefore, sortedLines}
 use Rattle.sorting.specs.Exchanges.{Exchanges, Exchanges.none-yet, Exchanges.one-more, InOrder}
 use Rattle.sorting.proofs.SwapLaws.{Strict, sort-set, sorted-stays}
-use Rattle.sorting.proofs.LineLaws.{lines-length, lines-exchanged, lines-sorted, lines-joined, exchanged-length, exchanged-rest}
+use Rattle.sorting.proofs.LineLaws.{lines-length, lines-exchanged, lines-sorted, lines-joined, exchanged-length, exchanged-rest, Whole, joined-length, joined-lines, joined-count, over-all}
 
 bytes-alike : (a b : List ℕ) → bytesBefore a b ≡ false → bytesBefore b a ≡ false → a ≡ b
 bytes-alike a b e d = go (byBytes a b) refl
@@ -65,3 +66,12 @@ sorted-is {s} {t} e o =
     = ap joined (sym (exchanges-sorted n e l) ∙ sorted-stays bytes-strict (lines-sorted n t o)) ∙ lines-joined n t in
     let m : length (take (lineWidth * n) t) ≡ lineWidth * n = length-take-le (lineWidth * n) t (omega (arith, exchanges-length e, lines-few s)) in
     sym (take-append-drop (lineWidth * n) t) ∙ rw (g, m, exchanges-rest n e l)
+
+-- ---- of lines that stand one behind the other
+
+pub sorted-joined : {l : List (List ℕ)} → EachOf Whole l → sortedLines (joined l) ≡ joined (sortBy bytesBefore l)
+unfolding sortedLines
+sorted-joined {l} e =
+    let n = joined-count e in
+    let w : EachOf Whole (sortBy bytesBefore l) = each-sort bytesBefore Whole [] l EachOf.each-nil e in
+    rw (n, joined-lines e) (over-all (joined (sortBy bytesBefore l)) (joined l) (joined-length w ∙ ap (λ (k : ℕ). lineWidth * k) (length-sort bytesBefore [] l ∙ zero-add (length l)) ∙ sym (joined-length e)))
