@@ -35,8 +35,8 @@ pub(crate) fn raw_field(figure: i64) -> [u8; 10]
     ensures { λ r. ⌜ r ≡ rawField figure ⌝ }
 {
     let n = raised(figure);
-    let hundreds = n / 256;
-    let third = hundreds / 256;
+    let fourth = n / 256;
+    let third = fourth / 256;
     let second = third / 256;
     let first = second / 256;
     [
@@ -48,7 +48,7 @@ pub(crate) fn raw_field(figure: i64) -> [u8; 10]
         first as u8,
         (second % 256) as u8,
         (third % 256) as u8,
-        (hundreds % 256) as u8,
+        (fourth % 256) as u8,
         (n % 256) as u8,
     ]
 }
