@@ -35,7 +35,7 @@ fn compare_wholes(a: i64, b: i64) -> Comes
 }
 
 // By unsigned bytes, a beginning before its continuation.
-fn compare_bytes(a: &[u8], b: &[u8]) -> Comes
+pub fn compare_bytes(a: &[u8], b: &[u8]) -> Comes
     ensures { λ r. ⌜ r ≡ byBytes (now (a .entry)) (now (b .entry)) ⌝ }
 {
     let mut i = 0;

@@ -2,7 +2,7 @@
 // All of it is proved, and no public function has a `requires`: each answers for any rows. A row is handed on as the place where it
 // stands; the order is that of letters and nets there, so a sheet has to be judged before it means anything.
 pub mod choosing;
-mod comparing;
+pub mod comparing;
 
 ghost use mathlib.Core.Path.{_≡_};
 ghost use mathlib.Core.List.{[]};

@@ -1,50 +1,44 @@
--- The ways through the functions that go over the listed borders: what is to come are the lines, or the figures, of those not yet behind.
+-- The ways through the functions that go over the listed borders: what is to come are the figures of those not yet behind.
 -- Assumes nothing.
 use Prim.Native.Nat.{ℕ, zero, suc, _+_, _-_, _*_, _^_, _≤_, _<_}
-use mathlib.Core.Path.{_≡_, refl, sym, ap, subst, _∙_}
-use mathlib.Core.List.{List, [], _∷_, _++_}
+use mathlib.Core.Path.{_≡_, refl, sym, ap, _∙_}
+use mathlib.Core.List.{List, [], _∷_}
 use mathlib.Core.Bool.{Bool, true, false, not, _&&_, _||_, cond}
 use native.Mathlib.Nat.{sub-zero}
 use native.Mathlib.Omega.{arith}
-use lib.ListN.{length, getD, drop, length-append}
+use lib.ListN.{length, getD, drop}
 use lib.IntN.{ℤ}
 use lib.Signed.{mag}
 use mir.Syntax.{w64}
 use mir.Val.{toZ, ofZ}
 use borrow.Author.Tests.{not-true, not-false}
 use Rattle.laws.proofs.Bits.{back}
-use Rattle.laws.proofs.Choice.{and-left, and-right, false≢true}
+use Rattle.laws.proofs.Choice.{false≢true}
 use Rattle.laws.proofs.ListLaws.{left as from-at, left-none}
 use Rattle.kinds.specs.Kinds.{rowWidth}
 use Rattle.heading.specs.declared.Header.{Header}
 use Rattle.record.specs.declared.Mode.the-variants.{Loose}
 use Rattle.sheet.specs.Tables.{Tables}
 use Rattle.made.specs.declared.Verdict.the-variants.{Fine}
-use Rattle.made.specs.Made.{tablesOf, lettersOf, noneBefore, judgeRows}
+use Rattle.made.specs.Made.{tablesOf, noneBefore, judgeRows}
 use Rattle.made.proofs.UsedLaws.{fine-long}
 use Rattle.row.specs.declared.Stand.{Stand}
 use Rattle.row.specs.Walk.{firstStand, standAfter, leftAt}
 use Rattle.area.specs.Questions.{netAreaOf}
 use Rattle.border.specs.Borders.{borderOf}
-use Rattle.spelling.specs.Figures.{isNarrow, figureText}
-use Rattle.writer.specs.Put.{Put}
-use Rattle.writer.proofs.Putting.{Putting, putting-start, putting-room, putting-on, putting-end}
-use Rattle.order.specs.declared.LongCode.the-variants.{Nowhere}
+use Rattle.spelling.specs.Figures.{isNarrow}
 use Rattle.order.specs.declared.Since.the-variants.{First, Past}
 use Rattle.order.specs.declared.Window.{Window}
 use Rattle.order.specs.Sorting.{EachOf, EachOf.each-nil, EachOf.each-on}
-use Rattle.order.specs.SupBorders.{isInSup, withIf, supBorders, supBordersFrom, firstLong}
+use Rattle.order.specs.SupBorders.{isInSup, withIf, supBorders, supBordersFrom}
 use Rattle.order.specs.SupOrder.{netLeft, supInOrder}
 use Rattle.order.specs.Windows.{windowWidth, Shows, windowOf}
-use Rattle.order.proofs.EachLaws.{each-at}
 use Rattle.order.proofs.OrderLaws.{Small, in-order-each, in-order-length}
-use Rattle.order.proofs.LongLaws.{Fits, codes-fit}
 use Rattle.order.proofs.TurnLaws.{Turning, turning-start, turning-end, turning-more, turning-item, turning-on, turning-next}
 use Rattle.sup.specs.Metres.{metresOf}
-use Rattle.sup.specs.Lines.{leftField, fieldsLine, linesText}
 use Rattle.sup.specs.Sup.{listedLines, figuresIn, wideFrom}
 use Rattle.sup.specs.Answer.{codeNets, codesInOrder}
-use Rattle.sup.specs.Printing.{areNarrow, metresLeft, borderLine, isWideListed, isAnyWideFrom}
+use Rattle.sup.specs.Printing.{metresLeft, isWideListed, isAnyWideFrom}
 
 -- ---- one border
 
@@ -59,7 +53,7 @@ module _ (h : Header) (rows : List ℤ) (letters islands : List ℕ) (points : L
   unfolding metresLeft netLeft netAreaOf
   figure-own = refl
 
-  listed-own : isInSup h (leftAt (tablesOf rows letters [] []) d) ≡ isInSup h (leftAt (tablesOf rows letters islands points) d)
+  pub listed-own : isInSup h (leftAt (tablesOf rows letters [] []) d) ≡ isInSup h (leftAt (tablesOf rows letters islands points) d)
   unfolding isInSup borderOf
   listed-own = refl
 
@@ -79,25 +73,6 @@ pub narrow-known : (rows : List ℤ) (letters islands : List ℕ) (points : List
     → b ≡ isNarrow (metresLeft (leftAt (tablesOf rows letters islands points) d))
 unfolding metresLeft netLeft netAreaOf
 narrow-known rows letters islands points d z q m b g = g ∙ ap isNarrow (back z m ∙ q)
-
--- its line, with what the code has in hand: the letters, the figure
-module _ (rows : List ℤ) (letters islands : List ℕ) (points : List ℤ) (d : Stand)
-    (z : ℤ) (q : z ≡ metresLeft (leftAt (tablesOf rows [] islands points) d)) (m : mag z < 2 ^ 63)
-    (s : List ℕ) (e : s ≡ lettersOf (leftAt (tablesOf rows letters [] []) d)) where
-  abbrev left : Tables
-  left = leftAt (tablesOf rows letters islands points) d
-
-  line-is : fieldsLine s (figureText (toZ w64 (ofZ w64 z))) ≡ borderLine left
-  unfolding borderLine metresLeft netLeft netAreaOf
-  line-is = rw (back z m, q, e)
-
-  pub border-asks : (at size : ℕ) → length (lettersOf left) ≤ 11 → isNarrow (metresLeft left) ≡ true → at + length (borderLine left) ≤ size
-      → (length s ≤ 11) × (0 < 1) × (isNarrow (toZ w64 (ofZ w64 z)) ≡ true) × (at + length (fieldsLine s (figureText (toZ w64 (ofZ w64 z)))) ≤ size)
-  unfolding metresLeft netLeft netAreaOf
-  border-asks at size h n r = (rw e h, omega arith, rw (back z m, q) n, rw line-is r)
-
-  pub border-put : {l o : List ℕ} {at r : ℕ} → Put l at (fieldsLine s (figureText (toZ w64 (ofZ w64 z)))) o r → Put l at (borderLine left) o r
-  border-put {l} {o} {at} {r} p = subst (λ (x : List ℕ). Put l at x o r) line-is p
 
 -- ---- the walk that looks for a wide figure: none of the k rows behind it has one
 
@@ -145,24 +120,12 @@ from-narrow h t (suc n) d e =
 pub none-wide : (h : Header) (count : ℕ) (t : Tables) → isAnyWideFrom h t count firstStand ≡ false → EachOf (Narrow t) (supInOrder h count t)
 none-wide h count t e = in-order-each (Narrow t) h count t (from-narrow h t count firstStand e)
 
--- ---- the lines, and the figures, of the borders from i on
-
-abbrev pub textFrom : Header → ℕ → Tables → ℕ → List ℕ
-textFrom h count t i = linesText (listedLines (codeNets t (drop i (supInOrder h count t))))
+-- ---- the figures of the borders from i on
 
 abbrev pub figuresFrom : Header → ℕ → Tables → ℕ → List ℤ
 figuresFrom h count t i = figuresIn (listedLines (codeNets t (drop i (supInOrder h count t))))
 
 module _ (h : Header) (count : ℕ) (t : Tables) (i : ℕ) where
-  text-on : (z : Stand) → i < length (supInOrder h count t)
-      → textFrom h count t i ≡ borderLine (leftAt t (getD (supInOrder h count t) i z)) ++ textFrom h count t (i + 1)
-  unfolding linesText listedLines codeNets borderLine metresLeft
-  text-on z l = rw (from-at (supInOrder h count t) i z l)
-
-  text-end : length (supInOrder h count t) ≤ i → textFrom h count t i ≡ []
-  unfolding linesText listedLines codeNets
-  text-end l = rw (left-none (supInOrder h count t) i l)
-
   figures-on : (z : Stand) → i < length (supInOrder h count t)
       → figuresFrom h count t i ≡ metresLeft (leftAt t (getD (supInOrder h count t) i z)) ∷ figuresFrom h count t (i + 1)
   unfolding figuresIn listedLines codeNets metresLeft
@@ -185,79 +148,6 @@ listed-few h t (suc n) d = go (isInSup h (leftAt t d)) (listed-few h t n (standA
 
 pub listed-held : (h : Header) (count : ℕ) (t : Tables) → judgeRows Loose count noneBefore t ≡ Fine → rowWidth * length (supBorders h count t) ≤ length (t .rows)
 listed-held h count t f = omega (arith, listed-few h t count firstStand, fine-long Loose count noneBefore t f .rows-in)
-
--- ---- the loop over windows that stores lines
-
-pub record Storing (h : Header) (count : ℕ) (t : Tables) (l : List ℕ) (at : ℕ) (out : List ℕ) (w : Window) (next j : ℕ) : Type 0 where
-  pub behind : ℕ
-  pub turns : Turning h count t w behind j
-  pub codes : EachOf (Fits t) (supInOrder h count t)
-  pub narrow : EachOf (Narrow t) (supInOrder h count t)
-  pub puts : Putting l at (textFrom h count t 0) out next (textFrom h count t behind)
-
-each-narrow : (t : Tables) (s : List Stand) → areNarrow (figuresIn (listedLines (codeNets t s))) ≡ true → EachOf (Narrow t) s
-unfolding areNarrow figuresIn listedLines codeNets metresLeft
-each-narrow t [] e = each-nil
-each-narrow t (d ∷ s) e =
-    let rest = areNarrow (figuresIn (listedLines (codeNets t s))) in
-    each-on (and-left (isNarrow (metresOf (netLeft (leftAt t d)))) rest e) (each-narrow t s (and-right (isNarrow (metresOf (netLeft (leftAt t d)))) rest e))
-
-module _ (h : Header) (count : ℕ) (t : Tables) (l : List ℕ) (at : ℕ) where
-  pub storing-start : Small t → judgeRows Loose count noneBefore t ≡ Fine → firstLong h count t ≡ Nowhere
-      → areNarrow (figuresIn (listedLines (codesInOrder h count t))) ≡ true → at + length (linesText (listedLines (codesInOrder h count t))) ≤ length l
-      → (w : Window) → Shows w (windowOf h count t First) → Storing h count t l at l w at 0
-  unfolding codesInOrder
-  storing-start m f c n r w s =
-      record {
-        behind = 0;
-        turns = turning-start h count t m f w s;
-        codes = codes-fit h count t c;
-        narrow = each-narrow t (supInOrder h count t) n;
-        puts = putting-start l at (textFrom h count t 0) r;
-      }
-
-module _ {h : Header} {count : ℕ} {t : Tables} {l : List ℕ} {at : ℕ} {out : List ℕ} {w : Window} {next j : ℕ} (g : Storing h count t l at out w next j) where
-  abbrev i : ℕ
-  i = g .behind
-
-  pub storing-end : w .count ≤ j → Put l at (linesText (listedLines (codesInOrder h count t))) out next
-  unfolding codesInOrder
-  storing-end e = putting-end (g .puts) (text-end h count t i (omega (arith, turning-end (g .turns) e)))
-
-  module _ (e : j < w .count) (z : Stand) where
-    abbrev here : Stand
-    here = getD (w .items) j z
-
-    text-here : textFrom h count t i ≡ borderLine (leftAt t here) ++ textFrom h count t (i + 1)
-    text-here = text-on h count t i z (turning-more (g .turns) e) ∙ rw (turning-item (g .turns) e z)
-
-    pub code-here : Fits t here
-    code-here = subst (Fits t) (sym (turning-item (g .turns) e z)) (each-at (supInOrder h count t) i z (g .codes) (turning-more (g .turns) e))
-
-    pub narrow-here : Narrow t here
-    narrow-here = subst (Narrow t) (sym (turning-item (g .turns) e z)) (each-at (supInOrder h count t) i z (g .narrow) (turning-more (g .turns) e))
-
-    pub room-here : next + length (borderLine (leftAt t here)) ≤ length out
-    room-here = putting-room (g .puts) (borderLine (leftAt t here)) (textFrom h count t (i + 1)) text-here
-
-    line-some : 2 ≤ length (borderLine (leftAt t here))
-    unfolding borderLine fieldsLine
-    line-some = omega (arith, length-append (leftField (lettersOf (leftAt t here)) ++ figureText (metresLeft (leftAt t here))) (13 ∷ 10 ∷ []))
-
-    module _ {o : List ℕ} {n : ℕ} (p : Put out next (borderLine (leftAt t here)) o n) where
-      puts-on : Putting l at (textFrom h count t 0) o n (textFrom h count t (i + 1))
-      puts-on = putting-on (g .puts) (borderLine (leftAt t here)) (textFrom h count t (i + 1)) text-here p
-
-      -- each line leaves fewer bytes to come
-      pub storing-less : at + length (linesText (listedLines (codesInOrder h count t))) - n < at + length (linesText (listedLines (codesInOrder h count t))) - next
-      unfolding codesInOrder
-      storing-less = omega (arith, p .next, line-some, puts-on .place, g .puts .place)
-
-      pub storing-on : (j + 1 ≡ windowWidth → ⊥) → Storing h count t l at o w n (j + 1)
-      storing-on k = record { behind = i + 1; turns = turning-on (g .turns) e k; codes = g .codes; narrow = g .narrow; puts = puts-on }
-
-      pub storing-next : (u : Window) → Shows u (windowOf h count t (Past here)) → Storing h count t l at o u n 0
-      storing-next u s = record { behind = i + 1; turns = turning-next (g .turns) e z u s; codes = g .codes; narrow = g .narrow; puts = puts-on }
 
 -- ---- the loop over windows that looks for a wide figure
 

@@ -12,3 +12,4 @@ pub mod SheetExamples
 -- For private contracts alone (`totalOf` of `Totals` for `ExactAreas` as well):
 pub mod Printing
 pub mod Totals
+pub mod Raw

@@ -1,4 +1,4 @@
--- For private contracts alone: lines whose names stand one behind the other, and the line of one border. Assumes nothing: these are definitions.
+-- For private contracts alone: lines whose names stand one behind the other, and the figure of one border. Assumes nothing: these are definitions.
 use Prim.Native.Nat.{ℕ, zero, suc}
 use mathlib.Core.List.{List, [], _∷_, _++_}
 use mathlib.Core.Bool.{Bool, true, false, not, _&&_, _||_}
@@ -6,7 +6,6 @@ use lib.ListN.{take, drop}
 use lib.IntN.{ℤ}
 use Rattle.heading.specs.declared.Header.{Header}
 use Rattle.sheet.specs.Tables.{Tables}
-use Rattle.made.specs.Made.{lettersOf}
 use Rattle.row.specs.declared.Stand.{Stand}
 use Rattle.row.specs.Walk.{standAfter, leftAt}
 use Rattle.spelling.specs.Figures.{isNarrow, figureText}
@@ -28,9 +27,6 @@ namedText names (z ∷ s) = fieldsLine (take nameWidth names) (figureText z) ++ 
 -- its figure
 unfoldable pub metresLeft : Tables → ℤ
 metresLeft t = metresOf (netLeft t)
-
-unfoldable pub borderLine : Tables → List ℕ
-borderLine t = fieldsLine (lettersOf t) (figureText (metresLeft t))
 
 unfoldable pub isWideListed : Header → Tables → Bool
 isWideListed h t = isInSup h t && not (isNarrow (metresLeft t))

@@ -4,6 +4,7 @@ pub mod dating;
 pub mod exact;
 mod listed;
 mod printing;
+mod raw;
 mod rounding;
 mod totalling;
 

@@ -16,7 +16,7 @@ const NAME_WIDTH: usize = 11;
 const FIGURE_WIDTH: usize = 10;
 
 // The left field: blanks behind the name.
-fn put_left(out: &mut [u8], at: usize, name: &[u8]) -> usize
+pub(crate) fn put_left(out: &mut [u8], at: usize, name: &[u8]) -> usize
     requires { ⌜ (length (now name) ≤ nameWidth) × (at + length (leftField (now name)) ≤ length (now out)) ⌝ }
     ensures { λ r. ⌜ Put (now (out .entry)) at (leftField (now (name .entry))) (now (out .exit)) r ⌝ }
 {
@@ -27,7 +27,7 @@ fn put_left(out: &mut [u8], at: usize, name: &[u8]) -> usize
 }
 
 // A name and the figure at i, whose digits go straight into the output.
-pub(crate) fn put_line(out: &mut [u8], at: usize, name: &[u8], figures: &[i64], i: usize) -> usize
+fn put_line(out: &mut [u8], at: usize, name: &[u8], figures: &[i64], i: usize) -> usize
     requires { ⌜ (length (now name) ≤ nameWidth) × (i < length (now figures)) × (isNarrow (getD (now figures) i (pos 0)) ≡ true) × (at + length (fieldsLine (now name) (figureText (getD (now figures) i (pos 0)))) ≤ length (now out)) ⌝ }
     ensures { λ r. ⌜ Put (now (out .entry)) at (fieldsLine (now (name .entry)) (figureText (getD (now (figures .entry)) i (pos 0)))) (now (out .exit)) r ⌝ }
 {

@@ -1,76 +1,51 @@
--- `put_listed` meets its contract: the lines of the borders behind the walk are stored. Assumes nothing.
+-- `put_listed` meets its contract: the lines in row order, then arranged. Assumes nothing.
 use Prim.Native.Nat.{_+_, _-_}
 use native.Mathlib.Omega.{arith}
-use lib.ListN.{length}
+use borrow.Author.Needs.{needs}
 use Rattle.made.specs.Made.{tablesOf}
-use Rattle.sup.specs.Lines.{linesText}
-use Rattle.sup.specs.Sup.{listedLines}
-use Rattle.sup.specs.Answer.{codesInOrder}
-use Rattle.sup.proofs.ListedWays.{storing-less, Storing, storing-start, storing-end, code-here, narrow-here, room-here, storing-on, storing-next}
+use Rattle.sup.proofs.RawPuts.{list-room, list-from, list-to, list-done}
 use Rattle.sup.proofs.listed.put_listed.Statement.{statement}
 use Rattle.sup.proofs.listed.put_listed.Tie as tie
 
-abbrev Inv-loop : tie.InvT-loop
-Inv-loop out₀ at header count rows letters islands points w₀ next₀ j₀ out w next j = Storing header count (tablesOf rows letters islands points) out₀ at out w next j
+put-raws-requires : tie.Need-put-raws-requires
+put-raws-requires c κs =
+    let s = c .before .before .before .before in
+    (s .pre .1 .0, (s .pre .1 .1 .0, list-room (s .args .header) (s .args .count) (tablesOf (s .args .rows .now) (s .args .letters .now) (s .args .islands .now) (s .args .points .now)) (record { rows = omega arith; letters = omega arith; islands = omega arith; points = omega arith }) (s .pre .0) (s .pre .1 .0) (s .pre .1 .1 .0) (s .args .out .now) (s .args .at) (s .pre .1 .1 .1)))
 
-abbrev μ-loop : tie.MeasureT-loop
-μ-loop out₀ at header count rows letters islands points w₀ next₀ j₀ out w next j = at + length (linesText (listedLines (codesInOrder header count (tablesOf rows letters islands points)))) - next
+sub-arrange : tie.Need-sub-arrange
+sub-arrange c =
+    let s = c .before .before .before .before .before .before .before in
+    list-from (s .args .header) (s .args .count) (tablesOf (s .args .rows .now) (s .args .letters .now) (s .args .islands .now) (s .args .points .now)) (record { rows = omega arith; letters = omega arith; islands = omega arith; points = omega arith }) (s .pre .0) (s .pre .1 .0) (s .pre .1 .1 .0) (s .args .out .now) (s .args .at) (s .pre .1 .1 .1) (c .before .before .put-raws .ensures)
 
-next-window-requires : tie.Need-next-window-requires Inv-loop μ-loop
-next-window-requires c κs = tt
+part-arrange-start : tie.Need-part-arrange-start
+part-arrange-start c =
+    let s = c .before .before .before .before .before .before .before in
+    list-from (s .args .header) (s .args .count) (tablesOf (s .args .rows .now) (s .args .letters .now) (s .args .islands .now) (s .args .points .now)) (record { rows = omega arith; letters = omega arith; islands = omega arith; points = omega arith }) (s .pre .0) (s .pre .1 .0) (s .pre .1 .1 .0) (s .args .out .now) (s .args .at) (s .pre .1 .1 .1) (c .before .before .put-raws .ensures)
 
-loop-holds : tie.Need-loop-holds Inv-loop μ-loop
-loop-holds c = storing-start (c .before .before .before .before .args .header) (c .before .before .before .before .args .count) (tablesOf (c .before .before .before .before .args .rows .now) (c .before .before .before .before .args .letters .now) (c .before .before .before .before .args .islands .now) (c .before .before .before .before .args .points .now)) (c .before .before .before .before .args .out .now) (c .before .before .before .before .args .at) (record { rows = omega arith; letters = omega arith; islands = omega arith; points = omega arith }) (c .before .before .before .before .pre .0) (c .before .before .before .before .pre .1 .0) (c .before .before .before .before .pre .1 .1 .0) (c .before .before .before .before .pre .1 .1 .1) (c .next-window .result) (c .next-window .ensures)
+part-arrange-end : tie.Need-part-arrange-end
+part-arrange-end c =
+    let s = c .before .before .before .before .before .before .before in
+    list-to (s .args .header) (s .args .count) (tablesOf (s .args .rows .now) (s .args .letters .now) (s .args .islands .now) (s .args .points .now)) (record { rows = omega arith; letters = omega arith; islands = omega arith; points = omega arith }) (s .pre .0) (s .pre .1 .0) (s .pre .1 .1 .0) (s .args .out .now) (s .args .at) (s .pre .1 .1 .1) (c .before .before .put-raws .ensures)
 
-mul-d : tie.Need-mul-d Inv-loop μ-loop
-mul-d c = omega (arith, c .before .loop .inv .turns .inside)
+arrange-requires : tie.Need-arrange-requires
+arrange-requires c κs = search needs
 
-element-copy-out-d : tie.Need-element-copy-out-d Inv-loop μ-loop
-element-copy-out-d c = omega (arith, c .before .loop .inv .turns .inside)
+same-length : tie.Need-same-length
+same-length c = search needs
 
-put-border-requires : tie.Need-put-border-requires Inv-loop μ-loop
-put-border-requires c κs = let g = c .before .before .before .loop .inv in let e = c .before .before .loop-test .taken in ((code-here g e _, narrow-here g e _), room-here g e _)
-
-add-j : tie.Need-add-j Inv-loop μ-loop
-add-j c = omega (arith, c .before .before .before .before .before .before .loop .inv .turns .inside)
-
-next-window-requires-2 : tie.Need-next-window-requires-2 Inv-loop μ-loop
-next-window-requires-2 c κs = tt
-
-loop-less : tie.Need-loop-less Inv-loop μ-loop
-loop-less c = storing-less (c .before .before .before .before .before .before .before .before .loop .inv) (c .before .before .before .before .before .before .before .loop-test .taken) _ (c .before .before .before .before .put-border .ensures)
-
-loop-again : tie.Need-loop-again Inv-loop μ-loop
-loop-again c = storing-next (c .before .before .before .before .before .before .before .before .loop .inv) (c .before .before .before .before .before .before .before .loop-test .taken) _ (c .before .before .before .before .put-border .ensures) (c .next-window2 .result) (c .next-window2 .ensures)
-
-loop-less-2 : tie.Need-loop-less-2 Inv-loop μ-loop
-loop-less-2 c = storing-less (c .before .before .before .before .before .before .before .loop .inv) (c .before .before .before .before .before .before .loop-test .taken) _ (c .before .before .before .put-border .ensures)
-
-loop-again-2 : tie.Need-loop-again-2 Inv-loop μ-loop
-loop-again-2 c = storing-on (c .before .before .before .before .before .before .before .loop .inv) (c .before .before .before .before .before .before .loop-test .taken) _ (c .before .before .before .put-border .ensures) (c .if1 .left)
-
-same-length : tie.Need-same-length Inv-loop μ-loop
-same-length c = c .before .loop .inv .puts .size
-
-returns : tie.Need-returns Inv-loop μ-loop
-returns c = storing-end (c .before .loop .inv) (c .loop-test .left)
+returns : tie.Need-returns
+returns c =
+    let s = c .before .before .before .before .before .before .before .before .before .before .before in
+    list-done (s .args .header) (s .args .count) (tablesOf (s .args .rows .now) (s .args .letters .now) (s .args .islands .now) (s .args .points .now)) (record { rows = omega arith; letters = omega arith; islands = omega arith; points = omega arith }) (s .pre .0) (s .pre .1 .0) (s .pre .1 .1 .0) (s .args .out .now) (s .args .at) (s .pre .1 .1 .1) (c .before .before .before .before .before .before .put-raws .ensures) _ (c .before .before .arrange .ensures)
 
 pub put-listed-spec : {M : Type 1} → statement M
 put-listed-spec =
     tie.close
     (tie.spec
-    Inv-loop
-    μ-loop
-    next-window-requires
-    loop-holds
-    mul-d
-    element-copy-out-d
-    put-border-requires
-    add-j
-    next-window-requires-2
-    loop-less
-    loop-again
-    loop-less-2
-    loop-again-2
+    put-raws-requires
+    sub-arrange
+    part-arrange-start
+    part-arrange-end
+    arrange-requires
     same-length
     returns)
