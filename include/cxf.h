@@ -374,7 +374,7 @@ typedef struct {
    rising area. The date is eight digits: year, month, day. Refused are, in this order: the header (6), the rows (15), the tally
    (17, 18), the date (21), the first row with a listed code that is too long (22), a TOTALE beyond the tally's limit (18, with no
    row), the first figure that is too wide (23), the room (14). Past the text out is not altered. Stack: 14,672 bytes;
-   26,520 where a figure is too wide. */
+   some 26,500 where a figure is too wide. */
 cxf_sup cxf_sup_write(CXF_SHEET, const uint8_t *date, size_t date_len, uint8_t *out, size_t out_len);
 
 typedef struct {

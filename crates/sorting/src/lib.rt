@@ -82,7 +82,7 @@ fn pass(s: &mut [u8], n: usize, gap: usize)
     }
 }
 
-// The lines in order; what is left behind the last whole line stays. Each gap is less than half of the one before.
+// The lines in order; what is left behind the last whole line stays. Each gap is some four ninths of the one before.
 pub fn sort_lines(s: &mut [u8])
     ensures { λ _. ⌜ now (s .exit) ≡ sortedLines (now (s .entry)) ⌝ }
 {
