@@ -4,7 +4,7 @@
 usage: respell.py        at the top of the repository, once, after the kit's port.py
 
 It turns each whole word that begins with a small letter and has a capital further on, in every .antt and .rt file and every must-fail edit below crates/,
-but not in quoted text. A word ends at a dash, so `getD-last` becomes `get_d-last`. A name that would meet one which its file has already is told apart first (MET).
+but not in quoted text or a quoted byte. A word ends at a dash, so `getD-last` becomes `get_d-last`. A name that would meet one which its file has already is told apart first (MET).
 A second run changes nothing.
 """
 
@@ -20,7 +20,7 @@ MET = {
     "made/proofs/OwnLaws.antt": ("made_by", "made_by_lem"),
     "order/specs/Examples.antt": ("by_bytes", "by_bytes_lem"),
 }
-WORD = re.compile(r'"(?:[^"\\\n]|\\.)*"|[^\W\d][\w\']*')
+WORD = re.compile(r"(\"(?:[^\"\\\n]|\\.)*\"|\bb'(?:\\.|[^'\\])')|[^\W\d][\w']*")
 
 
 def snake(name):
@@ -30,7 +30,7 @@ def snake(name):
 
 def turned(match):
     word = match[0]
-    return snake(word) if re.match(r"[a-z][\w']*[A-Z]", word) else word
+    return snake(word) if not match[1] and re.match(r"[a-z][\w']*[A-Z]", word) else word
 
 
 def bare(name):

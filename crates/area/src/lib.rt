@@ -1,5 +1,7 @@
 // A border's rings and their areas (document 01, "Areas"): the outer ring comes first, its islands behind it.
 // All is proved, and no public function has a `requires`: each answers for any counts and any tables, and nothing wraps.
+#![tactic(auto)]
+
 ghost use Rattle.std.specs.Prelude.{◌≡◌, [], ◌+◌, ◌≤◌, length};
 ghost use Rattle.plane.specs.Rings.{most};
 ghost use Rattle.made.specs.Made.{tables_of, sum};
@@ -22,7 +24,7 @@ const ISLANDS_PLACE: usize = 10;
 
 const VERTICES_PLACE: usize = 11;
 
-#[derive(Drop)]
+#[derive(Clone, Copy)]
 pub enum Areas {
     // The doubled area of the outer ring, and of all islands together.
     Of { outer: i64, inner: i64 },
@@ -33,7 +35,7 @@ pub enum Areas {
 }
 
 // A ring of a border: its first vertex, counted from the border's first, and its vertices.
-#[derive(Drop)]
+#[derive(Clone, Copy)]
 pub enum RingPlace {
     At { from: usize, count: usize },
     Missing,
@@ -41,7 +43,7 @@ pub enum RingPlace {
 
 // A ring of a row of a sheet: its first vertex in the table of points, and its vertices; no such border or ring (19); or what
 // is wrong with the sheet (6, 15).
-#[derive(Drop)]
+#[derive(Clone, Copy)]
 pub enum RingAnswer {
     At { from: usize, count: usize },
     Missing,
@@ -49,7 +51,7 @@ pub enum RingAnswer {
 }
 
 // The doubled area; 17; no such border or ring (19); or what is wrong with the sheet (6, 15).
-#[derive(Drop)]
+#[derive(Clone, Copy)]
 pub enum AreaAnswer {
     Doubled(i64),
     Wide,

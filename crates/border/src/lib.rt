@@ -1,6 +1,8 @@
 // Border classes and texts (document 01, "Border classes"): what a row says as a border, or as a text.
 // All of it is proved, and no public function has a `requires`. Where a row is handed in as the front of two tables, numbers that
 // are not held are 0, and of its letters those count that are held.
+#![tactic(auto)]
+
 ghost use Rattle.std.specs.Prelude.{◌≡◌, [], length, get_or, pos};
 ghost use Rattle.made.specs.Made.{tables_of, letters_of};
 ghost use Rattle.border.specs.Borders.{is_border, border_with, border_of, text_of};
@@ -13,7 +15,7 @@ use made::{Verdict, count_at};
 use row::{Sought, seek};
 
 // A border row: its class, size and angle, its text's point and its inner point, and how many letters, islands and vertices it has.
-#[derive(Drop)]
+#[derive(Clone, Copy)]
 pub struct Border {
     pub class: Class,
     pub size: i64,
@@ -28,14 +30,14 @@ pub struct Border {
 }
 
 // A text row may be a surface right, a raster parcel's centroid, or both.
-#[derive(Drop)]
+#[derive(Clone, Copy)]
 pub struct Text {
     pub surface: bool,
     pub centroid: bool,
 }
 
 // The row's border; a missing row, or one that is no border (19); or what is wrong with the sheet (6, 15).
-#[derive(Drop)]
+#[derive(Clone, Copy)]
 pub enum BorderAnswer {
     Is(Border),
     Missing,
@@ -43,7 +45,7 @@ pub enum BorderAnswer {
 }
 
 // What the row says as a text; a missing row (19); or what is wrong with the sheet (6, 15).
-#[derive(Drop)]
+#[derive(Clone, Copy)]
 pub enum TextAnswer {
     Is(Text),
     Missing,

@@ -1,6 +1,8 @@
 // The library for programs in C, Rust and Python: each entry point of documents 01 and 02, exported as `include/cxf.h` declares it.
 // All of it is proved, and no public function has a `requires`. Each is thin: it calls the library's own, and `told` lays the answer
 // out in a struct.
+#![tactic(auto)]
+
 ghost use Rattle.std.specs.Prelude.{◌≡◌, length};
 ghost use Rattle.record.specs.declared.Mode.TheVariants.{Exact};
 ghost use Rattle.record.specs.Record.{record_at};

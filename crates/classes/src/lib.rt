@@ -1,5 +1,7 @@
 // Border classes (document 01, "Border classes"; document 02, T-02): the class of a border by its letters, and letters that say a surface right.
 // All of it is proved, and no public function has a `requires`.
+#![tactic(auto)]
+
 ghost use Rattle.std.specs.Prelude.{◌≡◌};
 ghost use Rattle.classes.specs.Classes.{begins_with, ends_in, begins_in_kind2, is_road, is_water, is_other, class_of, index_of, is_surface};
 
@@ -7,7 +9,7 @@ use heading::Header;
 use record::is_same;
 
 // In the paper's order.
-#[derive(Drop)]
+#[derive(Clone, Copy)]
 pub enum Class {
     Confine,
     Other,
@@ -57,7 +59,7 @@ fn is_road(kind: usize, s: &[u8]) -> bool
     if is_same(s, b"STRADA") {
         return true;
     }
-    begins_in_kind2(b'_s', kind, s)
+    begins_in_kind2(b'S', kind, s)
 }
 
 fn is_water(kind: usize, s: &[u8]) -> bool
@@ -66,7 +68,7 @@ fn is_water(kind: usize, s: &[u8]) -> bool
     if is_same(s, b"ACQUA") {
         return true;
     }
-    begins_in_kind2(b'_a', kind, s)
+    begins_in_kind2(b'A', kind, s)
 }
 
 // Letters as long as a sheet's name, in kind 3.

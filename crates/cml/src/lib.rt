@@ -1,6 +1,8 @@
 // The lines of a sheet as CML (document 02, T-11): one element LINEA of source 001 for each LINEA row.
 // All of it is proved, and no public function has a `requires`. The sheet is judged, then the length, then the room; a
 // refusal alters nothing, and past the text nothing is altered.
+#![tactic(auto)]
+
 ghost use Rattle.std.specs.Prelude.{◌≡◌, true, leb, [], ◌++◌, ◌+◌, ◌*◌, ◌≤◌, min, length};
 ghost use Rattle.laws.specs.Lists.{over};
 ghost use Rattle.record.specs.Refusals.{file_most};

@@ -1,5 +1,7 @@
 // The column of a malformed number (document 02, T-04): how far its bytes go as the beginning of a number of that form and mode.
 // All of it is proved, and no public function has a `requires`. It is worked out where a number is refused, and nowhere else.
+#![tactic(auto)]
+
 ghost use Rattle.std.specs.Prelude.{◌≡◌, cond, drop, eqb};
 ghost use Rattle.number.specs.Number.{digit};
 ghost use Rattle.column.specs.Spots.{is_sign, spot_after, is_free, spot_in, is_stuck, stretch};
@@ -12,21 +14,21 @@ use record::{Line, Mode, is_exact, is_former, line_at};
 use token::Want;
 
 // A content as an integer, or the column where it is malformed.
-#[derive(Drop)]
+#[derive(Clone, Copy)]
 pub enum PlacedInteger {
     Is(usize),
     Malformed(usize),
 }
 
 // A content as a real, in thousandths, or the column where it is malformed.
-#[derive(Drop)]
+#[derive(Clone, Copy)]
 pub enum PlacedReal {
     Is(i64),
     Malformed(usize),
 }
 
 // What may come next in a number: `spot_after` says it of each.
-#[derive(Drop)]
+#[derive(Clone, Copy)]
 pub enum Spot {
     Stuck,
     IntegerPad(usize),

@@ -1,6 +1,8 @@
 // What the conversion program writes (document 02, T-09): the clean file of a file of the first year, read in the former mode, or a refusal.
 // All of it is proved, and no public function has a `requires`. The tables are local and hold any input that is read, so that
 // no room (14) is only ever said of the buffer that is lent for the text; it is then not altered.
+#![tactic(auto)]
+
 ghost use Rattle.std.specs.Prelude.{◌≡◌, ◌≤◌, length};
 ghost use Rattle.record.specs.declared.Mode.TheVariants.{Former};
 ghost use Rattle.record.specs.Refusals.{file_most};

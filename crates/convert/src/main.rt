@@ -1,4 +1,6 @@
 // The conversion program (document 02, T-09): reads standard input, and writes what `conversion::convert_text` says of it.
+#![tactic(auto)]
+
 use conversion::{CLEAN_MOST, convert_text};
 use libc::{STDIN_FILENO, STDOUT_FILENO};
 use listing::{INPUT_MOST, Listed};

@@ -1,6 +1,8 @@
 // The ring check (document 01, "Ring check"): the first faulty pair of a ring's edges, edges from 0.
 // The table of points and its rings are those of crate `plane`. All is proved, and the public function has no `requires`.
 // An edge of no length is the pair of itself; but between other edges it makes those two share its point, and their pair comes first.
+#![tactic(auto)]
+
 mod blocks;
 
 ghost use Rattle.std.specs.Prelude.{◌≡◌, Bool, true, ℕ, ◌+◌, ◌*◌, ◌-◌, ◌≤◌, ◌<◌, length, ℤ, ◌+ℤ◌, ◌-ℤ◌, ◌*ℤ◌};
@@ -12,19 +14,19 @@ ghost use Rattle.crossing.specs.Search.{faulty-pair, FirstFault, verdict_of};
 use crate::blocks::{BOX_NUMBERS, block_length, onward, put_boxes};
 use plane::{higher, is_narrow, lower};
 
-#[derive(Drop)]
+#[derive(Clone, Copy)]
 pub struct Point {
     pub x: i64,
     pub y: i64,
 }
 
-#[derive(Drop)]
+#[derive(Clone, Copy)]
 struct Pair {
     first: usize,
     second: usize,
 }
 
-#[derive(Drop)]
+#[derive(Clone, Copy)]
 pub enum RingVerdict {
     // No pair of edges is faulty.
     Simple,

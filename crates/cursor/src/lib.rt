@@ -1,13 +1,15 @@
 // A reader that keeps the file and its place, and hands out records one by one (document 01, "Records").
 // All of it is proved, and no function has a `requires`. `new`, `next` and `next_at` have a struct that holds the caller's
 // slice, so they are thin and proved by hand; the work is `record::record_at`.
+#![tactic(auto)]
+
 ghost use Rattle.std.specs.Prelude.{◌≡◌};
 ghost use Rattle.cursor.specs.Cursor.{place_after, at_start, handed, moved_on, step_at, nth_record};
 
 use record::{Found, Mode, record_at};
 
 // The caller's file, the place in it of the next record, and the mode.
-#[derive(Drop)]
+#[derive(Clone, Copy)]
 pub struct Cursor<'a> {
     pub src: &'a [u8],
     pub at: usize,
@@ -15,7 +17,7 @@ pub struct Cursor<'a> {
 }
 
 // An answer, and the place after it.
-#[derive(Drop)]
+#[derive(Clone, Copy)]
 pub struct Served {
     pub found: Found,
     pub at: usize,

@@ -1,6 +1,8 @@
 // A grid of 64 rows of 64 cells, and which of its cells have their centre inside a ring (document 02, T-03).
 // All is proved, and the public function has no `requires`. Inside, coordinates are doubled and taken from the grid's corner, heights southward: then the
 // centres lie at odd multiples of the cell's side, and every product fits. An edge turns over, in each row that it straddles, the cells west of its crossing at once.
+#![tactic(auto)]
+
 ghost use Rattle.std.specs.Prelude.{◌≡◌, true, false, ◌+◌, ◌*◌, ◌≤◌, ◌<◌, length, get_or, ltb, pos, nat_abs, ◌+ℤ◌, ◌-ℤ◌, ◌*ℤ◌};
 ghost use Rattle.std.specs.Int.Signed.{lt_z, le_z};
 ghost use Rattle.laws.specs.Whole.{Within};
@@ -26,7 +28,7 @@ const FAR: i64 = 40_000_000;
 const ALL: u64 = 0xffff_ffff_ffff_ffff;
 
 // Whether the ring could be traced, and its cells: the northern row first, west in the highest bit, all 0 where it could not.
-#[derive(Drop)]
+#[derive(Clone, Copy)]
 pub struct RingCells {
     pub traced: bool,
     pub rows: [u64; 64],

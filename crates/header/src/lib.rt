@@ -1,5 +1,7 @@
 // The header of a file (document 01, "Header and EOF"): its three records.
 // All of it is proved, and no public function has a `requires`.
+#![tactic(auto)]
+
 ghost use Rattle.std.specs.Prelude.{◌≡◌, ◌≤◌, length, drop};
 ghost use Rattle.laws.specs.Lists.{place};
 ghost use Rattle.header.specs.Header.{first_words, stopped, kind_said, head_scale, head_name, headed};
@@ -10,7 +12,7 @@ use record::refusal::{HEADER, NUMBER};
 use record::{Line, Mode, is_same, line_at};
 
 // Where the sections begin, or the refusal with its record's number and place.
-#[derive(Drop)]
+#[derive(Clone, Copy)]
 pub enum Ahead {
     Sections {
         at: usize,
@@ -23,7 +25,7 @@ pub enum Ahead {
 }
 
 // The header beside that answer: all zero where it is refused.
-#[derive(Drop)]
+#[derive(Clone, Copy)]
 pub struct Headed {
     pub ahead: Ahead,
     pub header: Header,

@@ -1,5 +1,7 @@
 // The values of a header (document 01, "Header and EOF"): the form of a name, and the check of a header that is handed in.
 // All of it is proved, and no public function has a `requires`.
+#![tactic(auto)]
+
 ghost use Rattle.std.specs.Prelude.{◌≡◌};
 ghost use Rattle.number.specs.Number.{digit};
 ghost use Rattle.laws.specs.Lists.{all_at};
@@ -7,7 +9,7 @@ ghost use Rattle.heading.specs.Heading.{capital, name_byte, is_name, is_header};
 
 use record::is_same;
 
-#[derive(Drop)]
+#[derive(Clone, Copy)]
 pub struct Header {
     pub kind: usize,
     pub name: [u8; 11],
@@ -20,10 +22,10 @@ const REAL_MOST: i64 = 99_999_999_999;
 fn is_capital(b: u8) -> bool
     ensures { result ≡ capital b }
 {
-    if b < b'_a' {
+    if b < b'A' {
         return false;
     }
-    if b > b'_z' { false } else { true }
+    if b > b'Z' { false } else { true }
 }
 
 fn is_digit(b: u8) -> bool

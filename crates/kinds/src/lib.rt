@@ -1,5 +1,7 @@
 // The kinds of section (document 01, "Sections"): the fields of each in the file's order, and its listed codes.
 // All of it is proved, and no public function has a `requires`. A kind is a row of the tables below, and a number of `nexts` and of `codes`.
+#![tactic(auto)]
+
 ghost use Rattle.std.specs.Prelude.{◌≡◌, true, [], get_or};
 ghost use Rattle.laws.specs.Lists.{holds};
 ghost use Rattle.kinds.specs.Kinds.{schedule, next_of, fixed_vertices, is_listed, want_at};

@@ -53,7 +53,7 @@ module _ {m n x y : ℕ} {a b : ℤ} (p : Holds m a x) (q : Holds n b y) where
 
 -- a call's result goes through a local's bits: `back c.f.result c.f.ok`
 pub back : (z : ℤ) → mag z < 2 ^ 63 → to_z w64 (of_z w64 z) ≡ z
-back z h = to_z-of_z (record { sfits = h })
+back z h = to_z-of_z {w = w64} (record { sfits = h })
 
 -- what the code computes is z, which cc shows to be y, and a bound on y is known
 pub fits-as : {n : ℕ} {z y : ℤ} → z ≡ y → Within n y → n < 2 ^ 63 → SFits w64 z

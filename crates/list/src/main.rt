@@ -1,4 +1,6 @@
 // The listing program (document 01, "Listing program"): reads standard input, and writes what `listing::list_text` says of it.
+#![tactic(auto)]
+
 use libc::{STDIN_FILENO, STDOUT_FILENO};
 use listing::{INPUT_MOST, Listed, TEXT_MOST, list_text};
 

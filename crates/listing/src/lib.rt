@@ -2,6 +2,8 @@
 // whose line the conversion program has too (document 02, T-09).
 // All of it is proved, and no public function has a `requires`. The tables are local and hold any input that is read, so that
 // no room (14) is only ever said of the buffer that is lent for the text; it is then not altered.
+#![tactic(auto)]
+
 ghost use Rattle.std.specs.Prelude.{◌≡◌, ◌+◌, ◌*◌, ◌≤◌, ◌<◌, length};
 ghost use Rattle.record.specs.declared.Mode.TheVariants.{Loose};
 ghost use Rattle.sheet.specs.Reading.{reading};
@@ -22,7 +24,7 @@ use spelling::{put_bytes, put_count};
 use tally::{refused_of, tally_sheet};
 
 // The length of the text that was written; or no room (14), with the needed length.
-#[derive(Drop)]
+#[derive(Clone, Copy)]
 pub enum Listed {
     Wrote(usize),
     NoRoom(usize),

@@ -1,6 +1,8 @@
 // Runs the listing on several inputs, which stand in its file `stdin` with a byte 0 between them: sheets with every class of border
 // and islands, eleven letters in each kind of sheet, a refusal of each sort that loose mode and a tally have, exactly 8,192 bytes and
 // one more.
+#![tactic(auto)]
+
 ghost use Rattle.std.specs.Prelude.{◌≤◌, length};
 
 use libc::{STDIN_FILENO, STDOUT_FILENO};

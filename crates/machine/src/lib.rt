@@ -1,5 +1,7 @@
 // The machine over records (document 01, "Sections"): its state says what the next record must be, and a token moves it.
 // All of it is proved, and no public function has a `requires`.
+#![tactic(auto)]
+
 ghost use Rattle.std.specs.Prelude.{◌≡◌, not, ◌&&◌, length, eqb};
 ghost use Rattle.record.specs.Record.{is_exact};
 ghost use Rattle.token.specs.Lex.{lex_of};
@@ -13,7 +15,7 @@ use token::{Token, Want, lex};
 
 // The ring, or the line, whose vertices are at work: whether it must close, whether its first vertex is yet to come,
 // how many rings follow, how many vertices are left, and its first vertex.
-#[derive(Drop)]
+#[derive(Clone, Copy)]
 pub struct Ring {
     pub closed: bool,
     pub fresh: bool,
@@ -25,7 +27,7 @@ pub struct Ring {
 
 // What the next record must be: a keyword; a field of a kind at a place of its row; an island's count, so many left,
 // so many vertices spare; an x; a y, with its x.
-#[derive(Drop)]
+#[derive(Clone, Copy)]
 pub enum State {
     Due,
     Field {
@@ -43,7 +45,7 @@ pub enum State {
 }
 
 // Where a token leads: to a state, to a refusal, or to the end of the file.
-#[derive(Drop)]
+#[derive(Clone, Copy)]
 pub enum Step {
     Go(State),
     No(usize),
@@ -51,7 +53,7 @@ pub enum Step {
 }
 
 // One record at a state: the next state, its token, the content's length and the record's; or a refusal; or the EOF record.
-#[derive(Drop)]
+#[derive(Clone, Copy)]
 pub enum One {
     Go {
         state: State,

@@ -1,6 +1,8 @@
 // Well made sheets (document 01, "Sheet tables"; document 02, T-07, the starts): a sheet that is handed in is judged completely.
 // All of it is proved, and no public function has a `requires`: a sheet is a header, a count of rows and four tables, of any
 // contents and any lengths.
+#![tactic(auto)]
+
 mod numbers;
 mod rings;
 
@@ -16,7 +18,7 @@ use record::refusal::{CODE, HEADER, NOT_MADE};
 use record::{Mode, is_exact, is_plain};
 
 // The sheet is well made; or its header is wrong (6); or the first row that is faulty (15), or whose code is not listed (10).
-#[derive(Drop)]
+#[derive(Clone, Copy)]
 pub enum Verdict {
     Fine,
     BadHeader,
@@ -25,14 +27,14 @@ pub enum Verdict {
 }
 
 // A verdict in the paper's numbers: the refusal, or 0, and the row with 15 and 10.
-#[derive(Drop)]
+#[derive(Clone, Copy)]
 pub struct Fault {
     pub number: usize,
     pub row: usize,
 }
 
 // Where a row that is judged leads: to its refusal, or past its letters, island counts and points.
-#[derive(Drop)]
+#[derive(Clone, Copy)]
 enum RowJudged {
     Wrong,
     Strange,

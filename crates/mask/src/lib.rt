@@ -1,5 +1,7 @@
 // Label masks (document 02, T-03): which cells of a grid of 64 rows of 64 have their centre inside a border of a sheet. A package above the sheet
 // library, for masks only. All is proved, and no public function has a `requires`. A ring's cells are crate `grid`'s; a border's are its rings' turned over each other.
+#![tactic(auto)]
+
 ghost use Rattle.std.specs.Prelude.{◌≡◌, true, ◌&&◌, [], ◌∷◌, ◌≤◌, length};
 ghost use Rattle.std.specs.Int.Count.{ones};
 ghost use Rattle.plane.specs.Areas.{area_of};
@@ -36,7 +38,7 @@ const MOST_SIDE: usize = 10_000;
 // Rows of a grid.
 const SIDE: usize = 64;
 
-#[derive(Drop)]
+#[derive(Clone, Copy)]
 pub enum MaskAnswer {
     // How many cells are covered.
     Drawn(usize),
@@ -53,7 +55,7 @@ pub enum MaskAnswer {
 }
 
 // Whether a ring's area, or a border's, would be answered: what refuses it, without the area.
-#[derive(Drop)]
+#[derive(Clone, Copy)]
 enum Widths {
     Fine,
     Wide,
@@ -61,7 +63,7 @@ enum Widths {
 }
 
 // The northern row first, west in the highest bit; all 0 where it is refused.
-#[derive(Drop)]
+#[derive(Clone, Copy)]
 pub struct Mask {
     pub answer: MaskAnswer,
     pub rows: [u64; 64],

@@ -1,5 +1,7 @@
 // What a record's content holds (document 01, "Records"; 02, T-09): a word, an integer or a real, in each mode.
 // All of it is proved, and no public function has a `requires`: each takes any bytes. The record checks (length, bytes) are made before.
+#![tactic(auto)]
+
 ghost use Rattle.std.specs.Prelude.{◌≡◌, true, ◌+◌, ◌^◌, ◌<◌, ◌≤◌, length, drop};
 ghost use Rattle.laws.specs.Lists.{run, kept, all};
 ghost use Rattle.number.specs.Words.{blank, word_of};
@@ -8,21 +10,21 @@ ghost use Rattle.number.specs.Number.{digit, value, parted, ended, lean, integer
 use record::{Mode, is_exact, is_former};
 
 // The place and the length of a word in a content, or a blank at an end in exact mode.
-#[derive(Drop)]
+#[derive(Clone, Copy)]
 pub enum Word {
     Is { start: usize, len: usize },
     Padded,
 }
 
 // A content as an integer.
-#[derive(Drop)]
+#[derive(Clone, Copy)]
 pub enum Whole {
     Is(usize),
     Malformed,
 }
 
 // A content as a real, in thousandths.
-#[derive(Drop)]
+#[derive(Clone, Copy)]
 pub enum Decimal {
     Is(i64),
     Malformed,

@@ -1,6 +1,8 @@
 // The borders that a SUP file lists, in its order (document 02, T-01 and T-10): a window at a time, as there is no room to sort them all.
 // All of it is proved, and no public function has a `requires`: each answers for any rows. A row is handed on as the place where it
 // stands; the order is that of letters and nets there, so a sheet has to be judged before it means anything.
+#![tactic(auto)]
+
 pub mod choosing;
 pub mod comparing;
 
@@ -22,7 +24,7 @@ use plane::Area;
 use row::{Stand, stand_next};
 
 // How one comes to another.
-#[derive(Drop)]
+#[derive(Clone, Copy)]
 pub enum Comes {
     Before,
     Same,
@@ -30,21 +32,21 @@ pub enum Comes {
 }
 
 // From the first on, or from past one.
-#[derive(Drop)]
+#[derive(Clone, Copy)]
 pub enum Since {
     First,
     Past(Stand),
 }
 
 // The first `count` of the items, in order; behind them there is room for one that falls off.
-#[derive(Drop)]
+#[derive(Clone, Copy)]
 pub struct Window {
     pub items: [Stand; 385],
     pub count: usize,
 }
 
 // The row of a listed code that is too long (22), from 0.
-#[derive(Drop)]
+#[derive(Clone, Copy)]
 pub enum LongCode {
     Nowhere,
     Row(usize),

@@ -1,6 +1,8 @@
 // Rings of vertices in a table of points, and their doubled areas (document 01, "Areas").
 // The table has x and y after each other, in whole millimetres; a ring is `count` vertices of it, from vertex `from` on.
 // All is proved, and no public function has a `requires`: each answers for any table and any numbers, and nothing wraps.
+#![tactic(auto)]
+
 ghost use Rattle.std.specs.Prelude.{◌≡◌, Bool, true, ℕ, ◌+◌, ◌*◌, ◌-◌, ◌≤◌, ◌<◌, length, ℤ, pos, nat_abs, ◌-ℤ◌, ◌*ℤ◌};
 ghost use Rattle.laws.specs.Whole.{Within, low_z, high_z};
 ghost use Rattle.plane.specs.Rings.{reach, x-at, y-at, held, near, narrow};
@@ -13,7 +15,7 @@ const REACH: i64 = 20_000_000;
 // The most vertices that a sheet gives a ring.
 const MOST: usize = 9999;
 
-#[derive(Drop)]
+#[derive(Clone, Copy)]
 pub enum Area {
     // The doubled area, in square millimetres.
     Doubled(i64),
@@ -23,7 +25,7 @@ pub enum Area {
     Missing,
 }
 
-#[derive(Drop)]
+#[derive(Clone, Copy)]
 struct Frame {
     west: i64,
     east: i64,

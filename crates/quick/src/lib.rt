@@ -1,5 +1,7 @@
 // The quick way for the usual form of a real's record, which is most of a file (document 01, "Records"): it answers for what it has seen, or
 // with 0 bytes for "ask the slow way", and never refuses. All of it is proved, and no public function has a `requires`.
+#![tactic(auto)]
+
 mod aligned;
 pub mod by_word;
 pub mod integers;
@@ -16,14 +18,14 @@ use crate::unpadded::bare;
 use record::{Mode, is_exact};
 
 // Vertices that were read: how many, and the place behind them.
-#[derive(Drop)]
+#[derive(Clone, Copy)]
 pub struct Run {
     pub count: usize,
     pub next: usize,
 }
 
 // Reals in their usual form: how many, and the bytes of the record that each has.
-#[derive(Drop)]
+#[derive(Clone, Copy)]
 pub struct UsualRun {
     pub count: usize,
     pub width: usize,
@@ -31,14 +33,14 @@ pub struct UsualRun {
 
 // A real that was read: lifted, and its record's bytes, 0 where none was read. The place of the next record hangs on the
 // bytes alone, so that it is known before the real is.
-#[derive(Drop)]
+#[derive(Clone, Copy)]
 pub struct RealTaken {
     pub value: usize,
     pub width: usize,
 }
 
 // An integer that was read, and its record's bytes, 0 where none was read.
-#[derive(Drop)]
+#[derive(Clone, Copy)]
 pub struct IntegerTaken {
     pub value: usize,
     pub width: usize,
@@ -57,7 +59,7 @@ fn figure(b: u8) -> usize
     wide(std::num::wrapping_sub_u8(b, 48))
 }
 
-#[derive(Drop)]
+#[derive(Clone, Copy)]
 struct Digits {
     start: usize,
     value: usize,
@@ -123,7 +125,7 @@ fn padded_width(s: &[u8], at: usize, mode: Mode) -> usize
     0
 }
 
-#[derive(Drop)]
+#[derive(Clone, Copy)]
 struct Worth {
     len: usize,
     value: usize,

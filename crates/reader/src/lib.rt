@@ -1,6 +1,8 @@
 // The reader of a sheet (document 01, "Sheet tables"): the whole file is judged, then the room, then the tables are written.
 // All of it is proved, and no public function has a `requires`. A refusal alters nothing that was lent, and past the used
 // part no table is altered. There is no scratch array: the size of a ring is read again from the file when the one before it ends.
+#![tactic(auto)]
+
 mod cells;
 mod first_pass;
 mod first_runs;
@@ -29,7 +31,7 @@ use record::{FILE_MOST, Mode};
 use token::Want;
 
 // How many rows, letters, island counts and points a file needs.
-#[derive(Drop)]
+#[derive(Clone, Copy)]
 pub struct Needs {
     pub rows: usize,
     pub letters: usize,
@@ -39,7 +41,7 @@ pub struct Needs {
 
 // Where a walk over the records stands: the machine's state, the place and the number of the next record, the place of
 // the next ring's size, and what was read so far.
-#[derive(Drop)]
+#[derive(Clone, Copy)]
 struct ReadStand {
     pub state: State,
     pub at: usize,
@@ -49,7 +51,7 @@ struct ReadStand {
 }
 
 // One record further, with its token and its content's length; or a refusal; or the end of the file.
-#[derive(Drop)]
+#[derive(Clone, Copy)]
 enum Turn {
     On {
         stand: ReadStand,
@@ -64,7 +66,7 @@ enum Turn {
     Done,
 }
 
-#[derive(Drop)]
+#[derive(Clone, Copy)]
 enum Judged {
     Fine(Needs),
     Refused {
@@ -76,7 +78,7 @@ enum Judged {
 }
 
 // The answer to a reading: read, with what was used; no room (14), with what is needed; or refused, located.
-#[derive(Drop)]
+#[derive(Clone, Copy)]
 pub enum Answer {
     Read(Needs),
     NoRoom(Needs),
@@ -88,7 +90,7 @@ pub enum Answer {
 }
 
 // The answer and, beside it, the header, all zero where the sheet is not read, and the column: 0 but where a number is malformed (8).
-#[derive(Drop)]
+#[derive(Clone, Copy)]
 pub struct Outcome {
     pub answer: Answer,
     pub header: Header,
@@ -96,21 +98,21 @@ pub struct Outcome {
 }
 
 // A ring's size, and the bytes of the record that says it.
-#[derive(Drop)]
+#[derive(Clone, Copy)]
 struct Size {
     pub n: usize,
     pub width: usize,
 }
 
 // What a field of a row says, and its record's bytes.
-#[derive(Drop)]
+#[derive(Clone, Copy)]
 struct Said {
     pub token: usize,
     pub width: usize,
 }
 
 // A vertex that was read, and the place behind it.
-#[derive(Drop)]
+#[derive(Clone, Copy)]
 struct First {
     pub x: usize,
     pub y: usize,
@@ -118,7 +120,7 @@ struct First {
 }
 
 // What two records one behind the other say, and the place behind them.
-#[derive(Drop)]
+#[derive(Clone, Copy)]
 struct TwoSaid {
     pub first: usize,
     pub second: usize,
@@ -126,7 +128,7 @@ struct TwoSaid {
 }
 
 // Two vertices that were read one behind the other, and the place behind them.
-#[derive(Drop)]
+#[derive(Clone, Copy)]
 struct TwoPoints {
     pub x: usize,
     pub y: usize,
@@ -137,7 +139,7 @@ struct TwoPoints {
 
 // A row from its keyword up to its vertices: what its records say, 0 where it has none; where its letters stand; the place behind, and how
 // many records they are. Place 0 where it is not seen.
-#[derive(Drop)]
+#[derive(Clone, Copy)]
 struct RowHead {
     pub token: usize,
     pub letters: usize,

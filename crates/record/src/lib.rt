@@ -1,5 +1,7 @@
 // The records of a file (document 01, "Records"; 02, T-09): what stands at a place of it, in each mode.
 // All of it is proved, and no public function has a `requires`. A record is found in one pass over its bytes.
+#![tactic(auto)]
+
 pub mod refusal;
 
 ghost use Rattle.std.specs.Prelude.{◌≡◌, true, false, cond, ◌<◌, ◌≤◌, length, take, leb};
@@ -12,7 +14,7 @@ ghost use Rattle.record.specs.Scan.{crlf_at, Spoilt};
 use refusal::{BYTE, CUT, LENGTH, LINE_END, TOO_LONG};
 
 // How a file is read. Former is the loose mode as it was before T-09, for the conversion of files with notes behind their numbers.
-#[derive(Drop)]
+#[derive(Clone, Copy)]
 pub enum Mode {
     Loose,
     Exact,
@@ -20,14 +22,14 @@ pub enum Mode {
 }
 
 // The record at the front of some bytes: its content's length and its own with the line end, or the refusal's number.
-#[derive(Drop)]
+#[derive(Clone, Copy)]
 pub enum Line {
     Got { len: usize, width: usize },
     Bad(usize),
 }
 
 // What stands at a place of a file: a record's content and the place past its line end, or the refusal's number.
-#[derive(Drop)]
+#[derive(Clone, Copy)]
 pub enum Found {
     Record {
         start: usize,

@@ -1,5 +1,7 @@
 // The ring check of a sheet that is handed in (document 01, "Ring check"): is a ring of a border simple, or which pair of its edges
 // is the first that is faulty. All of it is proved, and no public function has a `requires`. The search is crate `crossing`'s.
+#![tactic(auto)]
+
 ghost use Rattle.std.specs.Prelude.{◌≡◌};
 ghost use Rattle.made.specs.Made.{tables_of};
 ghost use Rattle.ring.specs.RingCheck.{checked_of, ring_check_at};
@@ -10,7 +12,7 @@ use heading::Header;
 use made::Verdict;
 
 // The ring is simple; or the first faulty pair; 17; no such border or ring (19); or what is wrong with the sheet (6, 15).
-#[derive(Drop)]
+#[derive(Clone, Copy)]
 pub enum Checked {
     Simple,
     Faulty(usize, usize),

@@ -1,6 +1,8 @@
 // A row of a sheet that is handed in (document 01, "Refusal numbers"): every question about a row first has the header judged
 // (6), then the sheet (15), then finds the row (19), by its own starts (document 02, T-07). All of it is proved, and no public function has a
 // `requires`.
+#![tactic(auto)]
+
 ghost use Rattle.std.specs.Prelude.{◌≡◌, ◌*◌, ◌≤◌, length, drop};
 ghost use Rattle.kinds.specs.Kinds.{row_width, first_point_place};
 ghost use Rattle.made.specs.Made.{tables_of};
@@ -14,7 +16,7 @@ use record::Mode;
 use std::num::wrapping_add_usize;
 
 // Where a row's own part of the four tables begins.
-#[derive(Drop)]
+#[derive(Clone, Copy)]
 pub struct Stand {
     pub row: usize,
     pub letters: usize,
@@ -23,7 +25,7 @@ pub struct Stand {
 }
 
 // Where the row stands; no such row (19); or what is wrong with the sheet (6, 15).
-#[derive(Drop)]
+#[derive(Clone, Copy)]
 pub enum Sought {
     At(Stand),
     Missing,

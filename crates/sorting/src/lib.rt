@@ -1,6 +1,8 @@
 // Lines of 23 bytes put in the order of their bytes, where they stand (document 02, T-01): the listed borders of a SUP file, in the output itself.
 // All of it is proved, and the public function has no `requires`. What it means is `sorted_lines` in `specs/Lines.antt`; all else here serves speed:
 // passes over wide gaps only ever exchange two lines, and leave little to do for the last pass, which alone is shown to sort.
+#![tactic(auto)]
+
 ghost use Rattle.std.specs.Prelude.{◌≡◌, ◌+◌, ◌*◌, ◌≤◌, length};
 ghost use Rattle.sorting.specs.Lines.{line_width, line_at, bytes_before, sorted_lines};
 ghost use Rattle.sorting.specs.Exchanges.{Inside, exchanged, Exchanges, InOrder};

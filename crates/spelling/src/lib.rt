@@ -4,6 +4,8 @@
 // And as CML has it (document 02, T-11): a real with no blank in front.
 // And bytes as they are, at a place.
 // All of it is proved, and no public function has a `requires`: a value out of range, or too little room, alters nothing.
+#![tactic(auto)]
+
 ghost use Rattle.std.specs.Prelude.{◌≡◌, true, cond, ◌&&◌, [], ◌∷◌, ◌+◌, ◌-◌, ◌^◌, ◌/◌, ◌%◌, ◌≤◌, ◌<◌, length, leb, nat_abs};
 ghost use Rattle.laws.specs.Lists.{over, pasted};
 ghost use Rattle.number.specs.Number.{is_real};

@@ -1,5 +1,7 @@
 // The SUP file of a sheet (document 02, T-01; the specification's section 1.2): a name and a date, counts, areas in square metres.
 // All of it is proved, and no public function has a `requires`. All is judged before anything is stored; past the text nothing is altered.
+#![tactic(auto)]
+
 pub mod dating;
 pub mod exact;
 mod listed;
@@ -30,7 +32,7 @@ use tally::{Refusal, tally_sheet};
 
 // The length of the text that was written; no room (14), with the needed length; the sheet's refusal or its tally's (6, 15, 17, 18); a bad
 // date (21); the first row whose listed code is too long (22); TOTALE past the limit (18); the first line whose figure is too wide (23).
-#[derive(Drop)]
+#[derive(Clone, Copy)]
 pub enum SupAnswer {
     Wrote(usize),
     NoRoom(usize),
@@ -42,7 +44,7 @@ pub enum SupAnswer {
 }
 
 // A combined total, or that it is past the limit (18).
-#[derive(Drop)]
+#[derive(Clone, Copy)]
 pub enum Total {
     Is(i64),
     Past,
@@ -50,7 +52,7 @@ pub enum Total {
 
 // A sheet's tally, or why there is none (6, 15, 17, 18); TOTALE before it is rounded; the other areas, in the file's order: buildings, parcels, roads,
 // waters, insets, CONFINE.
-#[derive(Drop)]
+#[derive(Clone, Copy)]
 pub struct ExactSheet {
     pub refusal: Refusal,
     pub figures: [i64; 24],

@@ -1,6 +1,8 @@
 // A SUP file that came with a delivery, checked against its sheet (document 02, T-10): accepted, or the first line that is wrong (25).
 // All of it is proved, and no public function has a `requires`. Names, order, counts and totals are those that T-01 writes (crate `sup`); a figure
 // may be rounded in another way, as far as is allowed for its line. The file is read where it stands.
+#![tactic(auto)]
+
 mod allowing;
 mod walking;
 
@@ -29,7 +31,7 @@ use supline::reading::{figure_in, is_right_date, line_from};
 use tally::Refusal;
 
 // The file is the sheet's; the sheet's refusal or its tally's (6, 15, 17, 18); TOTALE past the limit (18); the first wrong line, from 1 (25).
-#[derive(Drop)]
+#[derive(Clone, Copy)]
 pub enum SupChecked {
     Accepted,
     Refused(Refusal),

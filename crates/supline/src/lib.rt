@@ -1,6 +1,8 @@
 // A line of a SUP file that came with a delivery (document 02, T-10): what stands in it, and whether it is right.
 // All of it is proved, and no public function has a `requires`. A right line is the one that T-01 writes (crate `sup`) for its name and for the figure
 // that stands there, and that figure is as near to the exact area as is allowed.
+#![tactic(auto)]
+
 pub mod reading;
 
 ghost use Rattle.std.specs.Prelude.{◌≡◌, true};

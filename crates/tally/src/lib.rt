@@ -1,5 +1,7 @@
 // Tallies (document 01, "Areas"): for each class, borders, outer total, islands, island total.
 // All of it is proved, and no public function has a `requires`.
+#![tactic(auto)]
+
 ghost use Rattle.std.specs.Prelude.{◌≡◌, true, length};
 ghost use Rattle.record.specs.declared.Mode.TheVariants.{Loose};
 ghost use Rattle.made.specs.declared.Verdict.TheVariants.{Fine};
@@ -18,14 +20,14 @@ use record::refusal::{NO_SUCH, PAST_LIMIT, TOO_WIDE};
 use row::{Sought, Stand, seek, stand_next};
 
 // The classes in their order, each with its four figures.
-#[derive(Drop)]
+#[derive(Clone, Copy)]
 pub struct Tally {
     pub figures: [i64; 24],
 }
 
 // Nothing is refused; what is wrong with the sheet (6, 15); no such border (19); a figure is past the limit (18) or a ring is too
 // wide (17), with the row.
-#[derive(Drop)]
+#[derive(Clone, Copy)]
 pub enum Refusal {
     None,
     Sheet(Verdict),
@@ -35,7 +37,7 @@ pub enum Refusal {
 }
 
 // The tally, and what was refused.
-#[derive(Drop)]
+#[derive(Clone, Copy)]
 pub struct Taken {
     pub tally: Tally,
     pub refusal: Refusal,

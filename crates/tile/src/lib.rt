@@ -1,5 +1,7 @@
 // Tile points (document 01, "Tile points"): where a point lies from a tile's north-west corner, as one pair of 32-bit floats.
 // All is proved, and the public function has no `requires`: it answers for any four numbers, and nothing is rounded.
+#![tactic(auto)]
+
 ghost use Rattle.std.specs.Prelude.{◌≡◌, true, ℤ};
 ghost use Rattle.tile.specs.Tiles.{in_frame, scaled, along_of, tile_of};
 
@@ -8,20 +10,20 @@ use spelling::is_real;
 // The largest difference: each whole number up to it is a 32-bit float.
 const FRAME: i64 = 16_777_215;
 
-#[derive(Drop)]
+#[derive(Clone, Copy)]
 pub struct Offset {
     pub east: f32,
     pub south: f32,
 }
 
-#[derive(Drop)]
+#[derive(Clone, Copy)]
 pub enum Tile {
     At(Offset),
     // Refusal 20.
     Outside,
 }
 
-#[derive(Drop)]
+#[derive(Clone, Copy)]
 enum Along {
     By(f32),
     Off,

@@ -1,5 +1,7 @@
 // What a record's content says where the machine stands (document 01, "Sections"): one number, or a refusal.
 // All of it is proved, and no public function has a `requires`.
+#![tactic(auto)]
+
 ghost use Rattle.std.specs.Prelude.{◌≡◌, cond};
 ghost use Rattle.laws.specs.Lists.{place};
 ghost use Rattle.token.specs.Lex.{keywords, lift, may_lie_outside, unmarked, is_marked, key_of, lex_of};
@@ -10,14 +12,14 @@ use record::{Mode, is_same};
 
 // What a content says, as one number, or the refusal's number. A keyword says twice its kind, one more where it lies
 // outside, 0 for EOF; letters their count; an integer itself; a real its thousandths lifted by 10,000,000,000.
-#[derive(Drop)]
+#[derive(Clone, Copy)]
 pub enum Token {
     Say(usize),
     Bad(usize),
 }
 
 // What a content is to be read as.
-#[derive(Drop)]
+#[derive(Clone, Copy)]
 pub enum Want {
     Key,
     Text,

@@ -9,7 +9,7 @@ use record::refusal::NO_SUCH;
 const MOVED_OFF: usize = 24;
 
 #[repr(C)]
-#[derive(Drop)]
+#[derive(Clone, Copy)]
 pub struct CxfEdited {
     pub number: usize,
     pub row: usize,

@@ -1,6 +1,8 @@
 // What a caller in another language asks and is told: the structs of `include/cxf.h`, and each answer laid out in one.
 // All of it is proved, and no public function has a `requires`. `number` is 0 where the question was answered, else the refusal; a
 // field that the answer does not name is 0.
+#![tactic(auto)]
+
 pub mod edits;
 pub mod masks;
 pub mod question;
@@ -20,7 +22,7 @@ use record::refusal::{NO_ROOM, TOO_LONG};
 use writer::Written;
 
 #[repr(C)]
-#[derive(Drop)]
+#[derive(Clone, Copy)]
 pub struct CxfReading {
     pub number: usize,
     pub nth: usize,
@@ -36,7 +38,7 @@ pub struct CxfReading {
 }
 
 #[repr(C)]
-#[derive(Drop)]
+#[derive(Clone, Copy)]
 pub struct CxfWritten {
     pub number: usize,
     pub row: usize,
@@ -44,7 +46,7 @@ pub struct CxfWritten {
 }
 
 #[repr(C)]
-#[derive(Drop)]
+#[derive(Clone, Copy)]
 pub struct CxfTile {
     pub number: usize,
     pub east: f32,
@@ -52,7 +54,7 @@ pub struct CxfTile {
 }
 
 #[repr(C)]
-#[derive(Drop)]
+#[derive(Clone, Copy)]
 pub struct CxfRecord {
     pub number: usize,
     pub start: usize,
@@ -61,7 +63,7 @@ pub struct CxfRecord {
 }
 
 #[repr(C)]
-#[derive(Drop)]
+#[derive(Clone, Copy)]
 pub struct CxfNumber {
     pub number: usize,
     pub column: usize,
@@ -69,7 +71,7 @@ pub struct CxfNumber {
 }
 
 #[repr(C)]
-#[derive(Drop)]
+#[derive(Clone, Copy)]
 pub struct CxfListed {
     pub number: usize,
     pub length: usize,

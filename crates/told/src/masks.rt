@@ -9,7 +9,7 @@ use record::refusal::{NO_SUCH, OFF_TILE, TOO_WIDE};
 const BAD_SIDE: usize = 26;
 
 #[repr(C)]
-#[derive(Drop)]
+#[derive(Clone, Copy)]
 pub struct CxfMask {
     pub number: usize,
     pub row: usize,
@@ -18,7 +18,7 @@ pub struct CxfMask {
 }
 
 // What is told beside the rows.
-#[derive(Drop)]
+#[derive(Clone, Copy)]
 struct MaskFigures {
     number: usize,
     row: usize,

@@ -11,7 +11,7 @@ use record::refusal::{NO_SUCH, TOO_WIDE};
 use ring::Checked;
 
 #[repr(C)]
-#[derive(Drop)]
+#[derive(Clone, Copy)]
 pub struct CxfBorder {
     pub number: usize,
     pub row: usize,
@@ -28,7 +28,7 @@ pub struct CxfBorder {
 }
 
 #[repr(C)]
-#[derive(Drop)]
+#[derive(Clone, Copy)]
 pub struct CxfText {
     pub number: usize,
     pub row: usize,
@@ -37,7 +37,7 @@ pub struct CxfText {
 }
 
 #[repr(C)]
-#[derive(Drop)]
+#[derive(Clone, Copy)]
 pub struct CxfArea {
     pub number: usize,
     pub row: usize,
@@ -45,7 +45,7 @@ pub struct CxfArea {
 }
 
 #[repr(C)]
-#[derive(Drop)]
+#[derive(Clone, Copy)]
 pub struct CxfRing {
     pub number: usize,
     pub row: usize,

@@ -7,7 +7,7 @@ use supcheck::SupChecked;
 use tally::refused_of;
 
 #[repr(C)]
-#[derive(Drop)]
+#[derive(Clone, Copy)]
 pub struct CxfSupChecked {
     pub number: usize,
     pub row: usize,

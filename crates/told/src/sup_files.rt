@@ -7,7 +7,7 @@ use sup::SupAnswer;
 use tally::refused_of;
 
 #[repr(C)]
-#[derive(Drop)]
+#[derive(Clone, Copy)]
 pub struct CxfSup {
     pub number: usize,
     pub row: usize,

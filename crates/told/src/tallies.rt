@@ -5,7 +5,7 @@ ghost use Rattle.told.specs.Tallies.{tally_in, tally_laid, tally_told, take_told
 use tally::{Refusal, Taken, Tally, empty, refused_of};
 
 #[repr(C)]
-#[derive(Drop)]
+#[derive(Clone, Copy)]
 pub struct CxfTally {
     pub number: usize,
     pub row: usize,

@@ -4,6 +4,8 @@
 // Where 000 prints a part of a section alone, `stdin` has records of our own: before the vertices of 1.1.6 the first eight of its BORDO (the
 // keyword to the inner point), behind 1.1.7 its 820 vertices (753 on a circle round the inner point, 67 on a smaller one), and the EOF. The two notes
 // of 1.1.6 stand behind ten blanks as those of 1.1.7 do, where our text of 000 has a tab; the tab behind its vertices is left out.
+#![tactic(auto)]
+
 ghost use Rattle.std.specs.Prelude.{◌≤◌, length};
 
 use heading::Header;

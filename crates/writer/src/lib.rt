@@ -1,6 +1,8 @@
 // The writer of a sheet (document 01, "Sheet tables" and "Refusal numbers"): the exact mode's layout.
 // All of it is proved, and no public function has a `requires`. The sheet is judged, then the length, then the room; a
 // refusal alters nothing, and past the text nothing is altered.
+#![tactic(auto)]
+
 ghost use Rattle.std.specs.Prelude.{◌≡◌, true, [], ◌+◌, ◌-◌, ◌*◌, ◌≤◌, ◌<◌, min, length, get_or};
 ghost use Rattle.laws.specs.Lists.{over};
 ghost use Rattle.record.specs.Refusals.{file_most};
@@ -27,7 +29,7 @@ use spelling::{put_bytes, spell_integer, spell_real};
 use token::{WORD_STARTS, WORDS, Want};
 
 // The length that was written; too long for a file (1); no room (14), with the needed length; or what is wrong with the sheet.
-#[derive(Drop)]
+#[derive(Clone, Copy)]
 pub enum Written {
     Wrote(usize),
     TooLong,
