@@ -1,0 +1,10 @@
+-- `cxf_convert` converts as the library does. Assumes nothing.
+use Rattle.conversion.specs.Conversion.{conversion_of}
+use Rattle.told.proofs.ToldWays.{listed}
+use Rattle.cabi.proofs.cxf_convert.Goals as goal
+
+pub returns-in-Wrote : goal.returns-in-Wrote
+returns-in-Wrote c = listed (conversion_of c.args.src.now) c.args.out.now c.convert_text.ensures.0 c.convert_text.ensures.1 c.in-Wrote.is
+
+pub returns-in-NoRoom : goal.returns-in-NoRoom
+returns-in-NoRoom c = listed (conversion_of c.args.src.now) c.args.out.now c.convert_text.ensures.0 c.convert_text.ensures.1 c.in-NoRoom.is

@@ -1,0 +1,16 @@
+-- `clean_text` meets its contract: the writer writes, or its refusal is a line. Assumes nothing.
+use Rattle.made.specs.Made.{tables_of}
+use Rattle.conversion.proofs.CleanWays.{clean-wrote, clean-none, clean-long, clean-refused}
+use Rattle.conversion.proofs.clean_text.Goals as goal
+
+pub returns-in-Wrote : goal.returns-in-Wrote
+returns-in-Wrote c = clean-wrote c.args.header c.args.count (tables_of c.args.rows.now c.args.letters.now c.args.islands.now c.args.points.now) _ c.args.out.now _ c.write.ensures.0 c.write.ensures.1 _ c.in-Wrote.is
+
+pub returns-in-NoRoom : goal.returns-in-NoRoom
+returns-in-NoRoom c = clean-none c.args.header c.args.count (tables_of c.args.rows.now c.args.letters.now c.args.islands.now c.args.points.now) _ c.args.out.now _ c.write.ensures.0 c.write.ensures.1 _ c.in-NoRoom.is
+
+pub returns-in-TooLong : goal.returns-in-TooLong
+returns-in-TooLong c = absurd (clean-long c.args.header c.args.count (tables_of c.args.rows.now c.args.letters.now c.args.islands.now c.args.points.now) _ c.args.out.now _ c.write.ensures.0 c.write.ensures.1 c.requires c.in-TooLong.is)
+
+pub returns-in-Refused : goal.returns-in-Refused
+returns-in-Refused c = clean-refused c.args.header c.args.count (tables_of c.args.rows.now c.args.letters.now c.args.islands.now c.args.points.now) _ c.args.out.now _ c.write.ensures.0 c.write.ensures.1 _ c.in-Refused.is _ c.fault_of-fault.ensures _ _ c.refused_text.ensures.0 c.refused_text.ensures.1

@@ -1,0 +1,9 @@
+-- `convert_text` meets its contract: too long, or what the input is converted to. Assumes nothing.
+use Rattle.conversion.proofs.CleanWays.{text-long, text-short}
+use Rattle.conversion.proofs.convert_text.Goals as goal
+
+pub returns-then-src-gt-INPUT_MOST : goal.returns-then-src-gt-INPUT_MOST
+returns-then-src-gt-INPUT_MOST c = text-long c.args.src.now _ c.args.out.now _ c.if-src-gt-INPUT_MOST.true c.refused_text.ensures.0 c.refused_text.ensures.1
+
+pub returns : goal.returns
+returns c = text-short c.args.src.now _ c.args.out.now _ c.if-src-gt-INPUT_MOST.false c.converted_text.ensures.0 c.converted_text.ensures.1

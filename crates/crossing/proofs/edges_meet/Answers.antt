@@ -1,0 +1,20 @@
+-- `crossing::edges_meet` meets its contract: the three tests in the code's order, where the definition has the document's.
+use mathlib.Core.Path.{sym, ◌∙◌}
+use borrow.Author.Tests.{not-true, not-false}
+use Rattle.crossing.proofs.EdgeLaws.{meet-not-boxes, meet-not-beside, meet-if}
+use Rattle.crossing.proofs.edges_meet.Goals as goal
+
+pub returns-then-not-boxes_overlap : goal.returns-then-not-boxes_overlap
+returns-then-not-boxes_overlap c =
+    meet-not-boxes c.args.a c.args.b c.args.c c.args.d (sym c.boxes_overlap.ensures ∙ not-true _ c.if-not-boxes_overlap.true)
+
+pub returns-then-beside_line : goal.returns-then-beside_line
+returns-then-beside_line c =
+    meet-not-beside c.args.a c.args.b c.args.c c.args.d (sym c.beside_line.ensures ∙ c.if-beside_line.true)
+
+pub returns : goal.returns
+returns c =
+    meet-if c.args.a c.args.b c.args.c c.args.d
+    (sym c.boxes_overlap.ensures ∙ not-false _ c.if-not-boxes_overlap.false)
+    (sym c.beside_line.ensures ∙ c.if-beside_line.false)
+    c.beside_line-2.ensures

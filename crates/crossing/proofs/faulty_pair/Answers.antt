@@ -1,0 +1,71 @@
+-- `crossing::faulty_pair` meets its contract: one lemma of EdgeLaws for each answer; the vertices are close, since the ring is narrow.
+use mathlib.Core.Path.{◌≡◌}
+use mathlib.Core.Logic.{⊎_elim}
+use Prim.Native.Nat.{ℕ, ◌+◌, ◌<◌}
+use native.Mathlib.Omega.{arith}
+use Rattle.crossing.specs.declared.Point.{Point}
+use Rattle.crossing.specs.Edges.{Close, point_at}
+use Rattle.crossing.proofs.EdgeLaws.{close-as, faulty-itself, faulty-next, faulty-ends, faulty-other, not_first, not_last}
+use Rattle.crossing.proofs.faulty_pair.Goals as goal
+
+-- two vertices of the ring, as the locals have them
+near : (s : tie.Start) (k l : ℕ) → k < s.args.edges + 1 → l < s.args.edges + 1 → (p q : Point) → p ≡ point_at s.args.points.now (s.args.from + k) → q ≡ point_at s.args.points.now (s.args.from + l) → Close p q
+near s = close-as s.args.points.now s.args.from (s.args.edges + 1) s.requires.3
+
+pub returns-then-i-j : goal.returns-then-i-j
+returns-then-i-j c =
+    let e = faulty-itself c.args.points.now c.args.from c.args.edges c.args.i c.args.j c.if-i-j.true in
+    cc
+
+pub neighbours_overlap-requires : goal.neighbours_overlap-requires
+neighbours_overlap-requires c =
+    let i = c.args.i in (
+      near c (i + 1) i (omega arith) (omega arith) _ _ c.requires.5 c.requires.4,
+      near c (i + 1) (c.args.j + 1) (omega arith) (omega arith) _ _ c.requires.5 c.vertex-d.ensures,
+    )
+
+pub returns-then-i-j-2 : goal.returns-then-i-j-2
+returns-then-i-j-2 c =
+    let e = faulty-next c.args.points.now c.args.from c.args.edges c.args.i c.args.j c.if-i-j-2.true in
+    cc
+
+pub neighbours_overlap-requires-then-j-edges : goal.neighbours_overlap-requires-then-j-edges
+neighbours_overlap-requires-then-j-edges c =
+    let j = c.args.j in
+    let d = c.vertex-d.ensures in (
+      near c (j + 1) j (omega arith) (omega arith) _ _ d c.vertex-c.ensures,
+      near c (j + 1) (c.args.i + 1) (omega arith) (omega arith) _ _ d c.requires.5,
+    )
+
+pub returns-then-j-edges : goal.returns-then-j-edges
+returns-then-j-edges c =
+    let e =
+    faulty-ends c.args.points.now c.args.from c.args.edges c.args.i c.args.j
+    c.if-i-j.false c.if-i-j-2.false
+    c.if-i-eq0.true c.if-j-edges.true in
+    cc
+
+pub edges_meet-requires : goal.edges_meet-requires
+edges_meet-requires c =
+    let i = c.args.i in
+    let j = c.args.j in
+    let r = c.vertex-c.ensures in
+    let t = c.vertex-d.ensures in (
+      near c i (i + 1) (omega arith) (omega arith) _ _ c.requires.4 c.requires.5,
+      near c i j (omega arith) (omega arith) _ _ c.requires.4 r,
+      near c i (j + 1) (omega arith) (omega arith) _ _ c.requires.4 t,
+      near c j (j + 1) (omega arith) (omega arith) _ _ r t,
+      near c j i (omega arith) (omega arith) _ _ r c.requires.4,
+      near c j (i + 1) (omega arith) (omega arith) _ _ r c.requires.5,
+    )
+
+pub returns : goal.returns
+returns c =
+    let i = c.args.i in
+    let j = c.args.j in
+    let e =
+    faulty-other c.args.points.now c.args.from c.args.edges i j
+    c.if-i-j.false c.if-i-j-2.false
+    (⊎_elim (λ w. not_last c.args.points.now c.args.from c.args.edges i j w.1.left)
+    (λ w. not_first c.args.points.now c.args.from c.args.edges i j w.left) c.if-i-eq0.branch) in
+    cc

@@ -1,0 +1,24 @@
+-- `crossing::spans_overlap` meets its contract: the two tests of the definition, in its order.
+use lib.Signed.{le_z}
+use mir.Facts.{to_z-of_z}
+use Rattle.laws.proofs.Chains.{and-on, and-off}
+use Rattle.laws.specs.Whole.{low_z, high_z}
+use Rattle.laws.proofs.Bits.{back}
+use Rattle.crossing.specs.Edges.{spans-overlap}
+use Rattle.crossing.proofs.spans_overlap.Goals as goal
+
+pub returns-then-lower-higher : goal.returns-then-lower-higher
+unfolding spans-overlap
+returns-then-lower-higher c =
+    let s = c in
+    let a = s.args.a in let b = s.args.b in let cc' = s.args.c in let d = s.args.d in
+    and-on (le_z (low_z a b) (high_z cc' d)) (le_z (low_z cc' d) (high_z a b))
+    (cc (to_z-of_z s.ranges.a, to_z-of_z s.ranges.b, to_z-of_z s.ranges.c, to_z-of_z s.ranges.d, back c.lower.result c.lower.type-inv, back c.higher.result c.higher.type-inv))
+    (cc (to_z-of_z s.ranges.a, to_z-of_z s.ranges.b, to_z-of_z s.ranges.c, to_z-of_z s.ranges.d, back c.lower-then-lower-higher.result c.lower-then-lower-higher.type-inv, back c.higher-then-lower-higher.result c.higher-then-lower-higher.type-inv))
+
+pub returns : goal.returns
+unfolding spans-overlap
+returns c =
+    let a = c.args.a in let b = c.args.b in let cc' = c.args.c in let d = c.args.d in
+    and-off (le_z (low_z a b) (high_z cc' d)) (le_z (low_z cc' d) (high_z a b))
+    (cc (to_z-of_z c.ranges.a, to_z-of_z c.ranges.b, to_z-of_z c.ranges.c, to_z-of_z c.ranges.d, back c.lower.result c.lower.type-inv, back c.higher.result c.higher.type-inv))

@@ -1,0 +1,21 @@
+-- `edit::remove_row` meets its contract: the row is sought, then taken out. Assumes nothing.
+use mathlib.Core.Path.{refl}
+use native.Mathlib.Omega.{arith}
+use Rattle.made.specs.Made.{tables_of}
+use Rattle.edit.proofs.RemoveWays.{remove-after, remove-asks}
+use Rattle.edit.proofs.removing.remove_row.Goals as goal
+
+pub remove_at-requires : goal.remove_at-requires
+remove_at-requires c = remove-asks c.args.header c.args.count (tables_of c.args.rows.now c.args.letters.now c.args.islands.now c.args.points.now) c.args.row c.seek.result c.seek.ensures _ c.in-At.is
+
+pub overflow_sub-result : goal.overflow_sub-result
+overflow_sub-result c = let h = (remove-asks c.args.header c.args.count (tables_of c.args.rows.now c.args.letters.now c.args.islands.now c.args.points.now) c.args.row c.seek.result c.seek.ensures _ c.in-At.is).1 in omega arith
+
+pub returns-in-At : goal.returns-in-At
+returns-in-At c = (remove-after c.args.header c.args.count (tables_of c.args.rows.now c.args.letters.now c.args.islands.now c.args.points.now) c.args.row c.seek.result c.seek.ensures _ c.in-At.is, (c.remove_at.ensures.0, (c.remove_at.ensures.1.0, (c.remove_at.ensures.1.1.0, c.remove_at.ensures.1.1.1))))
+
+pub returns-in-Missing : goal.returns-in-Missing
+returns-in-Missing c = (remove-after c.args.header c.args.count (tables_of c.args.rows.now c.args.letters.now c.args.islands.now c.args.points.now) c.args.row c.seek.result c.seek.ensures _ c.in-Missing.is, (refl, (refl, (refl, refl))))
+
+pub returns-in-Refused : goal.returns-in-Refused
+returns-in-Refused c = (remove-after c.args.header c.args.count (tables_of c.args.rows.now c.args.letters.now c.args.islands.now c.args.points.now) c.args.row c.seek.result c.seek.ensures _ c.in-Refused.is, (refl, (refl, (refl, refl))))

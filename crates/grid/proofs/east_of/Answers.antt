@@ -1,0 +1,9 @@
+-- `grid::east_of` meets its contract. Assumes nothing.
+use Rattle.grid.proofs.EdgeWays.{read_by, east-is}
+use Rattle.grid.proofs.east_of.Goals as goal
+
+pub past-requires : goal.past-requires
+past-requires c = read_by _ _ _ c.ranges.cx c.number_at.ensures c.number_at.type-inv c.requires.1
+
+pub returns : goal.returns
+returns c = east-is _ _ _ c.ranges.cx c.number_at.ensures c.number_at.type-inv _ c.past.type-inv c.past.ensures

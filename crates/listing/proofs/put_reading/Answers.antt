@@ -1,0 +1,20 @@
+-- `put_reading` meets its contract: refused, or the used part of tables that hold any input; 14 never comes. Assumes nothing.
+use lib.IntN.{pos}
+use lib.ListN.{replicate}
+use Rattle.listing.proofs.ReadWays.{put_same, room-same, refused-fits, read-fits-in, enough-tables, read-refused, read_short, read_fits, read-sheet}
+use Rattle.listing.proofs.put_reading.Goals as goal
+
+pub put_refused-requires : goal.put_refused-requires
+put_refused-requires c = refused-fits _ _ _ _ _ c.requires.1
+
+pub put_used-requires : goal.put_used-requires
+put_used-requires c = (read_fits c.args.src.now _ c.requires.0 enough-tables _ c.read_as-outcome.ensures.0 _ c.in-Read.is (replicate 4380 (pos 0)) _ (replicate 8192 0) _ (replicate 4096 0) _ (replicate 1365 (pos 0)) _ c.read_as-outcome.ensures.1.0 c.read_as-outcome.ensures.1.1.0 c.read_as-outcome.ensures.1.1.1.0 c.read_as-outcome.ensures.1.1.1.1, room-same (read-sheet c.args.src.now _ c.requires.0 enough-tables _ c.read_as-outcome.ensures.0 _ c.in-Read.is (replicate 4380 (pos 0)) _ (replicate 8192 0) _ (replicate 4096 0) _ (replicate 1365 (pos 0)) _ c.read_as-outcome.ensures.1.0 c.read_as-outcome.ensures.1.1.0 c.read_as-outcome.ensures.1.1.1.0 c.read_as-outcome.ensures.1.1.1.1) _ (read-fits-in c.args.src.now _ c.requires.1))
+
+pub returns-in-Refused : goal.returns-in-Refused
+returns-in-Refused c = put_same (read-refused c.args.src.now _ c.requires.0 enough-tables _ c.read_as-outcome.ensures.0 _ _ _ c.in-Refused.is) c.put_refused.ensures
+
+pub returns-in-NoRoom : goal.returns-in-NoRoom
+returns-in-NoRoom c = absurd (read_short c.args.src.now _ c.requires.0 enough-tables _ c.read_as-outcome.ensures.0 _ c.in-NoRoom.is)
+
+pub returns-in-Read : goal.returns-in-Read
+returns-in-Read c = put_same (read-sheet c.args.src.now _ c.requires.0 enough-tables _ c.read_as-outcome.ensures.0 _ c.in-Read.is (replicate 4380 (pos 0)) _ (replicate 8192 0) _ (replicate 4096 0) _ (replicate 1365 (pos 0)) _ c.read_as-outcome.ensures.1.0 c.read_as-outcome.ensures.1.1.0 c.read_as-outcome.ensures.1.1.1.0 c.read_as-outcome.ensures.1.1.1.1) c.put_used.ensures

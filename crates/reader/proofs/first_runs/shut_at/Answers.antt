@@ -1,0 +1,35 @@
+-- `reader::shut_at` meets its contract. Assumes nothing.
+use Rattle.reader.proofs.Running.{shut-asks, ended-asks, shut-still, shut-on}
+use native.Mathlib.Omega.{arith}
+use borrow.Author.Tests.{not-false}
+use Rattle.reader.proofs.first_runs.shut_at.Goals as goal
+
+pub is_ending-requires : goal.is_ending-requires
+is_ending-requires c = c.requires.left
+
+pub past_at-requires : goal.past_at-requires
+past_at-requires c = shut-asks c.args.mode c.args.src.now c.args.d c.args.r c.args.k c.args.at c.requires
+
+pub returns-then-not-is_ending : goal.returns-then-not-is_ending
+returns-then-not-is_ending c = shut-still c.args.mode c.args.src.now c.args.d c.args.r c.args.k c.args.at c.requires _ c.past_at.ensures
+
+pub past_at-requires-then-next-eq0 : goal.past_at-requires-then-next-eq0
+past_at-requires-then-next-eq0 c = shut-asks c.args.mode c.args.src.now c.args.d c.args.r c.args.k c.args.at c.requires
+
+pub returns-then-next-eq0 : goal.returns-then-next-eq0
+returns-then-next-eq0 c = shut-still c.args.mode c.args.src.now c.args.d c.args.r c.args.k c.args.at c.requires _ c.past_at-then-next-eq0.ensures
+
+pub overflow_add-k : goal.overflow_add-k
+overflow_add-k c = omega (arith, c.requires.points)
+
+pub ended_at-requires : goal.ended_at-requires
+ended_at-requires c = ended-asks c.args.mode c.args.src.now c.args.d c.args.r c.args.k c.args.at c.requires
+
+pub returns-then-is_shut : goal.returns-then-is_shut
+returns-then-is_shut c = shut-on c.args.mode c.args.src.now c.args.d c.args.r c.args.k c.args.at c.requires (c.is_ending.ensures (not-false _ c.if-not-is_ending.false)) c.first_at-f.result.x c.first_at-f.result.y c.first_at-f.result.next c.first_at-f.ensures c.if-next-eq0.false c.is_shut.result c.is_shut.ensures c.if-is_shut.true _ c.ended_at.ensures
+
+pub past_at-requires-2 : goal.past_at-requires-2
+past_at-requires-2 c = shut-asks c.args.mode c.args.src.now c.args.d c.args.r c.args.k c.args.at c.requires
+
+pub returns : goal.returns
+returns c = shut-still c.args.mode c.args.src.now c.args.d c.args.r c.args.k c.args.at c.requires _ c.past_at-2.ensures

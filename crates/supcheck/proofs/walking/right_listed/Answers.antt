@@ -1,0 +1,64 @@
+-- `right_listed` meets its contract: the lines of the borders behind the walk are right. Assumes nothing.
+use native.Mathlib.Omega.{arith}
+use Rattle.made.specs.Made.{tables_of}
+use Rattle.row.specs.Walk.{first_stand}
+use Rattle.order.proofs.TurnLaws.{turning-more}
+use Rattle.supcheck.proofs.WalkingWays.{counting-start, counting-end, counting-small, counting-stop, counting-on, counting-next}
+use Rattle.supcheck.proofs.walking.right_listed.Goals as goal
+
+pub guide-requires : goal.guide-requires
+guide-requires c = tt
+
+pub next_window-w-requires : goal.next_window-w-requires
+next_window-w-requires c = tt
+
+pub loop-j-init : goal.loop-j-init
+loop-j-init c = counting-start c.args.header c.args.count (tables_of c.args.rows.now c.args.letters.now c.args.islands.now c.args.points.now) c.args.s.now (record { rows = omega arith; letters = omega arith; islands = omega arith; points = omega arith }) c.requires c.next_window-w.result c.next_window-w.ensures
+
+pub offset_bounds-w-j : goal.offset_bounds-w-j
+offset_bounds-w-j c = omega (arith, c.loop-j.invariant.turns.inside)
+
+pub bounds-w-j : goal.bounds-w-j
+bounds-w-j c = omega (arith, c.loop-j.invariant.turns.inside)
+
+pub overflow_add-i : goal.overflow_add-i
+overflow_add-i c = omega (arith, counting-small c.loop-j.invariant c.loop-j-test.true)
+
+pub line_from-requires : goal.line_from-requires
+line_from-requires c = tt
+
+pub is_right_border-requires : goal.is_right_border-requires
+is_right_border-requires c = tt
+
+pub returns-then-not-is_right_border : goal.returns-then-not-is_right_border
+returns-then-not-is_right_border c = counting-stop c.loop-j.invariant c.loop-j-test.true first_stand _ c.line_from.ensures _ c.is_right_border.ensures c.if-not-is_right_border.true
+
+pub overflow_add-i-in-loop-j : goal.overflow_add-i-in-loop-j
+overflow_add-i-in-loop-j c = omega (arith, counting-small c.loop-j.invariant c.loop-j-test.true)
+
+pub overflow_add-j : goal.overflow_add-j
+overflow_add-j c = omega (arith, c.loop-j.invariant.turns.inside)
+
+pub overflow_add-i-then-j-eq-WIDTH : goal.overflow_add-i-then-j-eq-WIDTH
+overflow_add-i-then-j-eq-WIDTH c = omega (arith, counting-small c.loop-j.invariant c.loop-j-test.true)
+
+pub guide-requires-then-j-eq-WIDTH : goal.guide-requires-then-j-eq-WIDTH
+guide-requires-then-j-eq-WIDTH c = tt
+
+pub next_window-w-requires-then-j-eq-WIDTH : goal.next_window-w-requires-then-j-eq-WIDTH
+next_window-w-requires-then-j-eq-WIDTH c = tt
+
+pub loop-j-smaller-then-j-eq-WIDTH : goal.loop-j-smaller-then-j-eq-WIDTH
+loop-j-smaller-then-j-eq-WIDTH c = let h = turning-more c.loop-j.invariant.turns c.loop-j-test.true in omega arith
+
+pub loop-j-preserved-then-j-eq-WIDTH : goal.loop-j-preserved-then-j-eq-WIDTH
+loop-j-preserved-then-j-eq-WIDTH c = counting-next c.loop-j.invariant c.loop-j-test.true first_stand _ c.line_from.ensures _ c.is_right_border.ensures c.if-not-is_right_border.false c.next_window-w-then-j-eq-WIDTH.result c.next_window-w-then-j-eq-WIDTH.ensures
+
+pub loop-j-smaller : goal.loop-j-smaller
+loop-j-smaller c = let h = turning-more c.loop-j.invariant.turns c.loop-j-test.true in omega arith
+
+pub loop-j-preserved : goal.loop-j-preserved
+loop-j-preserved c = counting-on c.loop-j.invariant c.loop-j-test.true first_stand _ c.line_from.ensures _ c.is_right_border.ensures c.if-not-is_right_border.false c.if-j-eq-WIDTH.false
+
+pub returns : goal.returns
+returns c = counting-end c.loop-j.invariant c.loop-j-test.false

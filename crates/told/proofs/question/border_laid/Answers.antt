@@ -1,0 +1,12 @@
+-- `border_laid` lays a border out, and its signed numbers are read back from their bits. Assumes nothing.
+use borrow.Author.Rules.{rules}
+use Rattle.laws.proofs.Bits.{back}
+use Rattle.told.proofs.ToldWays.{class-most}
+use Rattle.told.proofs.question.border_laid.Goals as goal
+
+pub overflow_add-place : goal.overflow_add-place
+overflow_add-place c = let h = class-most c.args.b.class c.index_of-place.ensures in search rules
+
+pub returns : goal.returns
+returns c =
+    cc (back c.args.b.size c.well-formed.0.1.1.1.0.1, back c.args.b.angle c.well-formed.0.1.1.1.1.0.1, back c.args.b.x c.well-formed.0.1.1.1.1.1.0.1, back c.args.b.y c.well-formed.0.1.1.1.1.1.1.0.1, back c.args.b.x2 c.well-formed.0.1.1.1.1.1.1.1.0.1, back c.args.b.y2 c.well-formed.0.1.1.1.1.1.1.1.1.0.1)

@@ -1,0 +1,15 @@
+-- `put_points` meets its contract. What is to come are the numbers from `i` on, which are reals. Assumes nothing.
+use Prim.Native.Nat.{◌-◌}
+use mathlib.Core.Bool.{true}
+use mathlib.Core.Path.{◌≡◌}
+use lib.ListN.{length, drop}
+use Rattle.made.specs.Made.{are_reals}
+use Rattle.layout.specs.Sheet.{reals_text}
+use Rattle.writer.proofs.Putting.{Putting}
+use Rattle.writer.proofs.put_points.Given as goal
+
+abbrev pub invariant-loop-i : goal.invariant-loop-i
+invariant-loop-i l = Putting l.initial.out l.at (reals_text l.s) l.out l.next (reals_text (drop l.i l.s)) × (are_reals (drop l.i l.s) ≡ true)
+
+abbrev pub decreases-loop-i : goal.decreases-loop-i
+decreases-loop-i l = length l.s - l.i
