@@ -1,12 +1,13 @@
 -- `crossing::edges_meet` meets its contract: the three tests in the code's order, where the definition has the document's.
-use mathlib.Core.Path.{sym, ◌∙◌}
+use mathlib.Core.Bool.{not}
+use mathlib.Core.Path.{sym, ◌∙◌, ap}
 use borrow.Author.Tests.{not-true, not-false}
 use Rattle.crossing.proofs.EdgeLaws.{meet-not-boxes, meet-not-beside, meet-if}
 use Rattle.crossing.proofs.edges_meet.Goals as goal
 
 pub returns-then-not-boxes_overlap : goal.returns-then-not-boxes_overlap
 returns-then-not-boxes_overlap c =
-    meet-not-boxes c.args.a c.args.b c.args.c c.args.d (sym c.boxes_overlap.ensures ∙ not-true _ c.if-not-boxes_overlap.true)
+    meet-not-boxes c.args.a c.args.b c.args.c c.args.d (sym c.boxes_overlap.ensures ∙ not-true _ (ap not c.if-not-boxes_overlap.true))
 
 pub returns-then-beside_line : goal.returns-then-beside_line
 returns-then-beside_line c =
@@ -15,6 +16,6 @@ returns-then-beside_line c =
 pub returns : goal.returns
 returns c =
     meet-if c.args.a c.args.b c.args.c c.args.d
-    (sym c.boxes_overlap.ensures ∙ not-false _ c.if-not-boxes_overlap.false)
+    (sym c.boxes_overlap.ensures ∙ not-false _ (ap not c.if-not-boxes_overlap.false))
     (sym c.beside_line.ensures ∙ c.if-beside_line.false)
     c.beside_line-2.ensures

@@ -1,6 +1,6 @@
 -- `crossing::first_fault` meets its contract: one lemma of VerdictLaws for each of the four answers.
-use mathlib.Core.Path.{◌≡◌, sym, ◌∙◌}
-use mathlib.Core.Bool.{true}
+use mathlib.Core.Path.{◌≡◌, sym, ◌∙◌, ap}
+use mathlib.Core.Bool.{true, not}
 use Prim.Native.Nat.{◌+◌, ◌-◌, ◌≤◌, ◌*◌}
 use native.Mathlib.Omega.{arith}
 use lib.ListN.{length}
@@ -15,23 +15,23 @@ module _ (c : tie.Else2) where
   s = c
 
   is_held : held (length s.args.points.now) s.args.from s.args.count ≡ true
-  is_held = sym c.is_ring.ensures ∙ not-false _ c.if-not-is_ring.false
+  is_held = sym c.is_ring.ensures ∙ not-false _ (ap not c.if-not-is_ring.false)
 
   is-slim : narrow s.args.points.now s.args.from s.args.count ≡ true
-  is-slim = sym c.is_narrow.ensures ∙ not-false _ c.if-not-is_narrow.false
+  is-slim = sym c.is_narrow.ensures ∙ not-false _ (ap not c.if-not-is_narrow.false)
 
   has : (1 ≤ s.args.count) × (s.args.count ≤ most) × (2 * (s.args.from + s.args.count) ≤ length s.args.points.now)
   has = held-has (length s.args.points.now) s.args.from s.args.count is_held
 
 pub returns-then-not-is_ring : goal.returns-then-not-is_ring
 returns-then-not-is_ring c =
-    verdict-missing c.args.points.now c.args.from c.args.count (sym c.is_ring.ensures ∙ not-true _ c.if-not-is_ring.true)
+    verdict-missing c.args.points.now c.args.from c.args.count (sym c.is_ring.ensures ∙ not-true _ (ap not c.if-not-is_ring.true))
 
 pub returns-then-not-is_narrow : goal.returns-then-not-is_narrow
 returns-then-not-is_narrow c =
     verdict-wide c.args.points.now c.args.from c.args.count
-    (sym c.is_ring.ensures ∙ not-false _ c.if-not-is_ring.false)
-    (sym c.is_narrow.ensures ∙ not-true _ c.if-not-is_narrow.true)
+    (sym c.is_ring.ensures ∙ not-false _ (ap not c.if-not-is_ring.false))
+    (sym c.is_narrow.ensures ∙ not-true _ (ap not c.if-not-is_narrow.true))
 
 pub overflow_sub-count : goal.overflow_sub-count
 overflow_sub-count c = omega (arith, has c)

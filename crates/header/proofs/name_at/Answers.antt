@@ -1,4 +1,6 @@
 -- `name_at` meets its contract: the ways are in `HeadWays`. Assumes nothing.
+use mathlib.Core.Bool.{not}
+use mathlib.Core.Path.{ap}
 use borrow.Author.Rules.{rules}
 use Rattle.heading.proofs.HeadingWays.{name-held}
 use Rattle.header.proofs.HeadWays.{word-ends, line-ways, named-ways}
@@ -32,7 +34,7 @@ pub slice_bounds-copied-end : goal.slice_bounds-copied-end
 slice_bounds-copied-end c = part-is-name-end c
 
 pub copied-requires : goal.copied-requires
-copied-requires c = name-held _ _ _ c.is_name.ensures c.if-not-is_name.false
+copied-requires c = name-held _ _ _ c.is_name.ensures (ap not c.if-not-is_name.false)
 
 pub scale_at-requires : goal.scale_at-requires
 scale_at-requires c = search (line-ways, named-ways, rules)

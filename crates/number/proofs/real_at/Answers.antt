@@ -1,4 +1,6 @@
 -- `real_at` meets its contract: the ways are in `RealWays`. Assumes nothing.
+use mathlib.Core.Bool.{not}
+use mathlib.Core.Path.{ap}
 use borrow.Author.Rules.{rules}
 use Rattle.number.proofs.RealWays.{token-asks, neat-asks, real-ways}
 use Rattle.number.proofs.real_at.Goals as goal
@@ -19,10 +21,10 @@ pub returns-then-not-is_ended : goal.returns-then-not-is_ended
 returns-then-not-is_ended c = search (real-ways, rules)
 
 pub thousandths_of-m-requires : goal.thousandths_of-m-requires
-thousandths_of-m-requires c = token-asks _ _ _ _ c.is_token.ensures c.if-not-is_token.false c.digits-n.ensures
+thousandths_of-m-requires c = token-asks _ _ _ _ c.is_token.ensures (ap not c.if-not-is_token.false) c.digits-n.ensures
 
 pub is_neat-requires : goal.is_neat-requires
-is_neat-requires c = neat-asks _ _ _ _ c.is_token.ensures c.if-not-is_token.false _ c.thousandths_of-m.ensures.0
+is_neat-requires c = neat-asks _ _ _ _ c.is_token.ensures (ap not c.if-not-is_token.false) _ c.thousandths_of-m.ensures.0
 
 pub returns-then-is_neat : goal.returns-then-is_neat
 returns-then-is_neat c = search (real-ways, rules)

@@ -1,6 +1,7 @@
 -- `order::next_window` meets its contract: what is to come is put into what is held; a walk that is guided and does not fill the window is
 -- made once more, unguided. The first inner loop finds the place, the second carries each item one place on. Assumes nothing.
-use mathlib.Core.Path.{◌∙◌}
+use mathlib.Core.Bool.{not}
+use mathlib.Core.Path.{◌∙◌, ap}
 use mathlib.Core.Logic.{⊎_elim}
 use native.Mathlib.Omega.{arith}
 use borrow.Author.Tests.{not-true, not-false}
@@ -117,10 +118,10 @@ pub returns-then-n-eq-WIDTH : goal.returns-then-n-eq-WIDTH
 returns-then-n-eq-WIDTH c = guided-full (tables_of c.args.rows.now c.args.letters.now c.args.islands.now c.args.points.now) c.args.guide.now c.loop-d.guided _ _ _ _ (filling-end c.loop-k.invariant c.loop-k-test.false) c.if-n-eq-WIDTH.true
 
 pub returns-then-not-guided : goal.returns-then-not-guided
-returns-then-not-guided c = unguided (tables_of c.args.rows.now c.args.letters.now c.args.islands.now c.args.points.now) c.args.guide.now c.loop-d.guided (not-true c.loop-d.guided c.if-not-guided.true) _ _ _ _ (filling-end c.loop-k.invariant c.loop-k-test.false)
+returns-then-not-guided c = unguided (tables_of c.args.rows.now c.args.letters.now c.args.islands.now c.args.points.now) c.args.guide.now c.loop-d.guided (not-true c.loop-d.guided (ap not c.if-not-guided.true)) _ _ _ _ (filling-end c.loop-k.invariant c.loop-k-test.false)
 
 pub loop-d-smaller : goal.loop-d-smaller
-loop-d-smaller c = rw (not-false c.loop-d.guided c.if-not-guided.false) (omega arith)
+loop-d-smaller c = rw (not-false c.loop-d.guided (ap not c.if-not-guided.false)) (omega arith)
 
 pub loop-d-preserved : goal.loop-d-preserved
 loop-d-preserved c = tt

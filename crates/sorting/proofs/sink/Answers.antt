@@ -1,4 +1,6 @@
 -- `sink` meets its contract: see `Sinking`. Assumes nothing.
+use mathlib.Core.Bool.{not}
+use mathlib.Core.Path.{ap}
 use native.Mathlib.Omega.{arith}
 use Rattle.sorting.proofs.SortedLaws.{exchanges-length}
 use Rattle.sorting.proofs.SinkLaws.{sinking-start, sinking-in, sinking-near, sinking-front, sinking-end, sinking-on}
@@ -14,7 +16,7 @@ pub shape_of-s-then-not-is_before : goal.shape_of-s-then-not-is_before
 shape_of-s-then-not-is_before c = exchanges-length c.loop-j.invariant.mixed
 
 pub returns-then-not-is_before : goal.returns-then-not-is_before
-returns-then-not-is_before c = (c.loop-j.invariant.mixed, sinking-end c.loop-j.invariant c.loop-j-test.true c.requires.0 _ c.is_before.ensures c.if-not-is_before.true)
+returns-then-not-is_before c = (c.loop-j.invariant.mixed, sinking-end c.loop-j.invariant c.loop-j-test.true c.requires.0 _ c.is_before.ensures (ap not c.if-not-is_before.true))
 
 pub exchange-requires : goal.exchange-requires
 exchange-requires c = (sinking-near c.loop-j.invariant _ (omega arith), sinking-in c.loop-j.invariant)
@@ -23,7 +25,7 @@ pub loop-j-smaller : goal.loop-j-smaller
 loop-j-smaller c = let h = c.requires.0 in let k = c.loop-j-test.true in omega arith
 
 pub loop-j-preserved : goal.loop-j-preserved
-loop-j-preserved c = sinking-on c.loop-j.invariant c.loop-j-test.true c.requires.0 _ c.is_before.ensures c.if-not-is_before.false c.exchange.ensures
+loop-j-preserved c = sinking-on c.loop-j.invariant c.loop-j-test.true c.requires.0 _ c.is_before.ensures (ap not c.if-not-is_before.false) c.exchange.ensures
 
 pub shape_of-s : goal.shape_of-s
 shape_of-s c = exchanges-length c.loop-j.invariant.mixed

@@ -1,5 +1,6 @@
 -- `tally::is_tally` meets its contract. Invariant: the figures before `i` passed. Assumes nothing.
-use mathlib.Core.Path.{◌≡◌, refl, sym, ◌∙◌}
+use mathlib.Core.Bool.{not}
+use mathlib.Core.Path.{◌≡◌, refl, sym, ◌∙◌, ap}
 use native.Mathlib.Omega.{arith}
 use lib.ListN.{length, length-map}
 use Rattle.tally.proofs.TallyWays.{tally-more, tally-stop, tally-end}
@@ -25,7 +26,7 @@ pub returns-then-not-is_figure : goal.returns-then-not-is_figure
 returns-then-not-is_figure c =
     let l = figures-are c in
     tally-stop c.args.t1.figures c.loop-i.i c.loop-i.invariant.1 (omega arith) c.is_figure-arg-1.given
-    c.is_figure.ensures c.if-not-is_figure.true
+    c.is_figure.ensures (ap not c.if-not-is_figure.true)
 
 pub overflow_add-i : goal.overflow_add-i
 overflow_add-i c = omega arith
@@ -38,7 +39,7 @@ loop-i-preserved c =
     let l = figures-are c in (
       omega arith,
       tally-more c.args.t1.figures c.loop-i.i c.loop-i.invariant.1 (omega arith) c.is_figure-arg-1.given
-          c.is_figure.ensures c.if-not-is_figure.false,
+          c.is_figure.ensures (ap not c.if-not-is_figure.false),
     )
 
 pub returns : goal.returns

@@ -1,8 +1,8 @@
 -- `edit::rows_stay` meets its contract: the loop's invariant is `Testing`. Assumes nothing.
 use lib.IntN.{ℤ}
 use mir.Facts.{to_z-of_z}
-use mathlib.Core.Path.{◌≡◌}
-use mathlib.Core.Bool.{true, false}
+use mathlib.Core.Path.{◌≡◌, ap}
+use mathlib.Core.Bool.{true, false, not}
 use native.Mathlib.Omega.{arith}
 use Rattle.edit.specs.Moves.{rows_stay}
 use Rattle.edit.proofs.PartWays.{unbits}
@@ -23,7 +23,7 @@ pub row_stays-requires : goal.row_stays-requires
 row_stays-requires c = (row-there _ _ _ _ _ c.loop-k.invariant c.loop-k-test.true c.requires.0, rw (to_z-of_z c.ranges.dx) c.requires.1, rw (to_z-of_z c.ranges.dy) c.requires.2)
 
 pub returns-then-not-row_stays : goal.returns-then-not-row_stays
-returns-then-not-row_stays c = unbits (λ (x y : ℤ). false ≡ rows_stay x y c.args.count c.args.rows.now) c.ranges.dx c.ranges.dy (testing-not _ _ _ _ _ c.loop-k.invariant c.loop-k-test.true c.requires.0 _ c.row_stays.ensures c.if-not-row_stays.true)
+returns-then-not-row_stays c = unbits (λ (x y : ℤ). false ≡ rows_stay x y c.args.count c.args.rows.now) c.ranges.dx c.ranges.dy (testing-not _ _ _ _ _ c.loop-k.invariant c.loop-k-test.true c.requires.0 _ c.row_stays.ensures (ap not c.if-not-row_stays.true))
 
 pub overflow_add-r : goal.overflow_add-r
 overflow_add-r c = omega (arith, c.loop-k.invariant.at, c.loop-k-test.true, c.requires.0)
@@ -32,7 +32,7 @@ pub loop-k-smaller : goal.loop-k-smaller
 loop-k-smaller c = let h = c.loop-k-test.true in omega arith
 
 pub loop-k-preserved : goal.loop-k-preserved
-loop-k-preserved c = testing-on _ _ _ _ _ c.loop-k.invariant c.loop-k-test.true c.requires.0 _ c.row_stays.ensures c.if-not-row_stays.false
+loop-k-preserved c = testing-on _ _ _ _ _ c.loop-k.invariant c.loop-k-test.true c.requires.0 _ c.row_stays.ensures (ap not c.if-not-row_stays.false)
 
 pub returns : goal.returns
 returns c = unbits (λ (x y : ℤ). true ≡ rows_stay x y c.args.count c.args.rows.now) c.ranges.dx c.ranges.dy (testing-all _ _ _ _ _ c.loop-k.invariant c.loop-k-test.false)

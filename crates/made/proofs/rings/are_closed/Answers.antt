@@ -1,4 +1,6 @@
 -- `made::are_closed` meets its contract: the rings passed are closed, and those that are left are held behind `at`. Assumes nothing.
+use mathlib.Core.Bool.{not}
+use mathlib.Core.Path.{ap}
 use Rattle.made.proofs.TableWays.{closed-ways, closed-step, held-step}
 use borrow.Author.Rules.{rules}
 use Rattle.made.proofs.rings.are_closed.Goals as goal
@@ -48,7 +50,7 @@ loop-i-smaller c = search (closed-ways, rules)
 pub loop-i-preserved : goal.loop-i-preserved
 loop-i-preserved c = (
   search rules,
-  closed-step _ _ _ _ c.loop-i.invariant.1 c.loop-i-test.true _ c.wide-n.ensures _ c.is_closed.ensures c.if-not-is_closed.false,
+  closed-step _ _ _ _ c.loop-i.invariant.1 c.loop-i-test.true _ c.wide-n.ensures _ c.is_closed.ensures (ap not c.if-not-is_closed.false),
   held-step _ c.args.s.now _ _ c.loop-i.invariant.2 c.loop-i-test.true _ c.wide-n.ensures,
 
 )

@@ -1,4 +1,6 @@
 -- `quick::integers::integer_at` meets its contract. Assumes nothing.
+use mathlib.Core.Bool.{not}
+use mathlib.Core.Path.{ap}
 use Rattle.quick.proofs.Fours.{four-in, two_is, long-is}
 use Rattle.quick.proofs.Twelve.{never}
 use Rattle.std.proofs.Common.{arith}
@@ -32,13 +34,13 @@ pub bounds-s-at-4 : goal.bounds-s-at-4
 bounds-s-at-4 c = omega (arith, four-in c.args.mode c.args.s.now c.args.at _ c.four_ending-width.ensures c.if-width-eq0.false)
 
 pub returns-then-is_two : goal.returns-then-is_two
-returns-then-is_two c = two_is c.args.mode c.args.s.now c.args.at _ c.four_ending-width.ensures c.if-width-eq0.false _ c.is_digit.ensures c.if-not-is_digit.false _ c.if-is_two.true _ c.if-a-eq32.true c.if-b-eq32.true c.is_two.ensures c.two_value.ensures
+returns-then-is_two c = two_is c.args.mode c.args.s.now c.args.at _ c.four_ending-width.ensures c.if-width-eq0.false _ c.is_digit.ensures (ap not c.if-not-is_digit.false) _ c.if-is_two.true _ c.if-a-eq32.true c.if-b-eq32.true c.is_two.ensures c.two_value.ensures
 
 pub returns-then-b-eq32 : goal.returns-then-b-eq32
 returns-then-b-eq32 c = λ h. never h
 
 pub returns-then-is_long : goal.returns-then-is_long
-returns-then-is_long c = long-is c.args.mode c.args.s.now c.args.at _ c.four_ending-width.ensures c.if-width-eq0.false _ c.is_digit.ensures c.if-not-is_digit.false _ c.if-is_long.true _ c.is_long.ensures c.long_value.ensures
+returns-then-is_long c = long-is c.args.mode c.args.s.now c.args.at _ c.four_ending-width.ensures c.if-width-eq0.false _ c.is_digit.ensures (ap not c.if-not-is_digit.false) _ c.if-is_long.true _ c.is_long.ensures c.long_value.ensures
 
 pub returns : goal.returns
 returns c = λ h. never h

@@ -1,4 +1,6 @@
 -- `quick::integers::noted_body` meets its contract. Assumes nothing.
+use mathlib.Core.Bool.{not}
+use mathlib.Core.Path.{ap}
 use Rattle.quick.proofs.LooseIntegers.{body-any, body-in, body-noted}
 use Rattle.std.proofs.Common.{arith}
 use Rattle.quick.proofs.Twelve.{never}
@@ -26,4 +28,4 @@ pub returns-then-f-t : goal.returns-then-f-t
 returns-then-f-t c = λ h. never h
 
 pub returns : goal.returns
-returns c = body-noted c.args.mode c.args.t.now c.loose_body-b.result.len c.loose_body-b.result.value c.loose_body-b.ensures c.if-e-lt1.false c.is_former.result c.is_former.ensures c.if-not-is_former.false c.if-t-l-ne32.false c.note_run.result c.note_run.ensures.0 c.if-f-t.false
+returns c = body-noted c.args.mode c.args.t.now c.loose_body-b.result.len c.loose_body-b.result.value c.loose_body-b.ensures c.if-e-lt1.false c.is_former.result c.is_former.ensures (ap not c.if-not-is_former.false) c.if-t-l-ne32.false c.note_run.result c.note_run.ensures.0 c.if-f-t.false

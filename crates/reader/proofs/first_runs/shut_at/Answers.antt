@@ -1,4 +1,6 @@
 -- `reader::shut_at` meets its contract. Assumes nothing.
+use mathlib.Core.Bool.{not}
+use mathlib.Core.Path.{ap}
 use Rattle.reader.proofs.Running.{shut-asks, ended-asks, shut-still, shut-on}
 use native.Mathlib.Omega.{arith}
 use borrow.Author.Tests.{not-false}
@@ -26,7 +28,7 @@ pub ended_at-requires : goal.ended_at-requires
 ended_at-requires c = ended-asks c.args.mode c.args.src.now c.args.d c.args.r c.args.k c.args.at c.requires
 
 pub returns-then-is_shut : goal.returns-then-is_shut
-returns-then-is_shut c = shut-on c.args.mode c.args.src.now c.args.d c.args.r c.args.k c.args.at c.requires (c.is_ending.ensures (not-false _ c.if-not-is_ending.false)) c.first_at-f.result.x c.first_at-f.result.y c.first_at-f.result.next c.first_at-f.ensures c.if-next-eq0.false c.is_shut.result c.is_shut.ensures c.if-is_shut.true _ c.ended_at.ensures
+returns-then-is_shut c = shut-on c.args.mode c.args.src.now c.args.d c.args.r c.args.k c.args.at c.requires (c.is_ending.ensures (not-false _ (ap not c.if-not-is_ending.false))) c.first_at-f.result.x c.first_at-f.result.y c.first_at-f.result.next c.first_at-f.ensures c.if-next-eq0.false c.is_shut.result c.is_shut.ensures c.if-is_shut.true _ c.ended_at.ensures
 
 pub past_at-requires-2 : goal.past_at-requires-2
 past_at-requires-2 c = shut-asks c.args.mode c.args.src.now c.args.d c.args.r c.args.k c.args.at c.requires

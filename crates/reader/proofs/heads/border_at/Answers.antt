@@ -1,4 +1,6 @@
 -- `reader::border_at` meets its contract. Assumes nothing.
+use mathlib.Core.Bool.{not}
+use mathlib.Core.Path.{ap}
 use native.Mathlib.Omega.{arith}
 use borrow.Author.Tests.{not-false}
 use Rattle.quick.proofs.Places.{real-inside}
@@ -35,4 +37,4 @@ pub returns-then-not-is_countable : goal.returns-then-not-is_countable
 returns-then-not-is_countable c = λ h. unseen _ _ _ _ _ c.no_head-then-not-is_countable.ensures h
 
 pub returns : goal.returns
-returns c = λ h. border-read c.args.mode c.args.src.now c.args.at c.args.key.width c.args.key.token c.requires.0.0 c.args.judged c.requires.0.1 (c.lead_at-lead.ensures (some_of _ c.if-lead-eq0.false)) (c.angle_at-a.ensures (some_of _ c.if-a-eq0.false)) (c.points_at-p.ensures (some_of _ c.if-p-eq0.false)) (c.counts_at-counts.ensures (some_of _ c.if-counts-eq0.false)) (c.is_countable.ensures (not-false _ c.if-not-is_countable.false))
+returns c = λ h. border-read c.args.mode c.args.src.now c.args.at c.args.key.width c.args.key.token c.requires.0.0 c.args.judged c.requires.0.1 (c.lead_at-lead.ensures (some_of _ c.if-lead-eq0.false)) (c.angle_at-a.ensures (some_of _ c.if-a-eq0.false)) (c.points_at-p.ensures (some_of _ c.if-p-eq0.false)) (c.counts_at-counts.ensures (some_of _ c.if-counts-eq0.false)) (c.is_countable.ensures (not-false _ (ap not c.if-not-is_countable.false)))

@@ -1,4 +1,6 @@
 -- `reader::path_at` meets its contract. Assumes nothing.
+use mathlib.Core.Bool.{not}
+use mathlib.Core.Path.{ap}
 use native.Mathlib.Omega.{arith}
 use borrow.Author.Tests.{not-false}
 use Rattle.reader.proofs.HeadWays.{unseen-head, some_of}
@@ -18,4 +20,4 @@ pub returns-then-not-is_countable : goal.returns-then-not-is_countable
 returns-then-not-is_countable c = λ h. unseen-head _ _ _ _ c.no_head-then-not-is_countable.ensures h
 
 pub returns : goal.returns
-returns c = λ h. path-head c.args.mode c.args.src.now c.args.at c.args.key.width c.args.key.token c.requires.0 _ _ _ c.requires.1 (c.counts_at-counts.ensures (some_of _ c.if-counts-eq0.false)) (c.is_taken.ensures (not-false _ c.if-not-is_taken.false)) (c.is_countable.ensures (not-false _ c.if-not-is_countable.false))
+returns c = λ h. path-head c.args.mode c.args.src.now c.args.at c.args.key.width c.args.key.token c.requires.0 _ _ _ c.requires.1 (c.counts_at-counts.ensures (some_of _ c.if-counts-eq0.false)) (c.is_taken.ensures (not-false _ (ap not c.if-not-is_taken.false))) (c.is_countable.ensures (not-false _ (ap not c.if-not-is_countable.false)))

@@ -1,4 +1,6 @@
 -- `reader::fields_into` meets its contract. Assumes nothing.
+use mathlib.Core.Bool.{not}
+use mathlib.Core.Path.{ap}
 use Rattle.reader.proofs.Fields.{entered-start, entered-few, entered-is, entered_at, entered-inside, entered_on}
 use Rattle.reader.specs.Store.{at_rest}
 use native.Mathlib.Omega.{arith}
@@ -9,7 +11,7 @@ pub returns-then-not-is_begun : goal.returns-then-not-is_begun
 returns-then-not-is_begun c = at_rest
 
 pub overflow_sub-row : goal.overflow_sub-row
-overflow_sub-row c = omega (arith, (c.is_begun.ensures (not-false _ c.if-not-is_begun.false)).0)
+overflow_sub-row c = omega (arith, (c.is_begun.ensures (not-false _ (ap not c.if-not-is_begun.false))).0)
 
 pub overflow_mul-row : goal.overflow_mul-row
 overflow_mul-row c = omega (arith, c.requires.small, c.requires.here, c.requires.rows)
@@ -51,7 +53,7 @@ pub overflow_add-row : goal.overflow_add-row
 overflow_add-row c = omega (arith, c.requires.small, c.requires.here, c.requires.rows, (c.said_at-said.ensures (omega (arith, c.if-width-eq0.false))).cell)
 
 pub put_field-requires : goal.put_field-requires
-put_field-requires c = (omega (arith, c.loop-st.invariant.kept, (c.is_begun.ensures (not-false _ c.if-not-is_begun.false)).0, (c.is_begun.ensures (not-false _ c.if-not-is_begun.false)).1, (c.said_at-said.ensures (omega (arith, c.if-width-eq0.false))).cell), (entered-inside c.args.mode c.args.src.now c.args.d c.requires c.args.rows.now c.loop-st.st c.loop-st.here c.loop-st.ring c.loop-st.k c.loop-st.rows c.loop-st.invariant c.said_at-said.result _ c.said_at-said.ensures c.if-width-eq0.false).2)
+put_field-requires c = (omega (arith, c.loop-st.invariant.kept, (c.is_begun.ensures (not-false _ (ap not c.if-not-is_begun.false))).0, (c.is_begun.ensures (not-false _ (ap not c.if-not-is_begun.false))).1, (c.said_at-said.ensures (omega (arith, c.if-width-eq0.false))).cell), (entered-inside c.args.mode c.args.src.now c.args.d c.requires c.args.rows.now c.loop-st.st c.loop-st.here c.loop-st.ring c.loop-st.k c.loop-st.rows c.loop-st.invariant c.said_at-said.result _ c.said_at-said.ensures c.if-width-eq0.false).2)
 
 pub overflow_add-here : goal.overflow_add-here
 overflow_add-here c = omega (arith, (entered-inside c.args.mode c.args.src.now c.args.d c.requires c.args.rows.now c.loop-st.st c.loop-st.here c.loop-st.ring c.loop-st.k c.loop-st.rows c.loop-st.invariant c.said_at-said.result _ c.said_at-said.ensures c.if-width-eq0.false).1, c.requires.small)

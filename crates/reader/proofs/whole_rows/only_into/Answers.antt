@@ -1,4 +1,6 @@
 -- `reader::only_into` meets its contract. Assumes nothing.
+use mathlib.Core.Bool.{not}
+use mathlib.Core.Path.{ap}
 use Rattle.reader.proofs.RingLaws.{run-usual, run_inside, run_room}
 use Rattle.reader.proofs.OnlyRing.{into-none, into-not, only-stored, trusts}
 use borrow.Author.Tests.{not-false}
@@ -27,10 +29,10 @@ pub returns-then-width-eq0 : goal.returns-then-width-eq0
 returns-then-width-eq0 c = into-not c.args.mode c.args.src.now c.args.at c.args.islands c.args.n c.args.from c.args.points.now
 
 pub overflow_mul-from : goal.overflow_mul-from
-overflow_mul-from c = omega (arith, c.holds_ring.ensures (not-false c.holds_ring.result c.if-not-holds_ring.false), c.ranges)
+overflow_mul-from c = omega (arith, c.holds_ring.ensures (not-false c.holds_ring.result (ap not c.if-not-holds_ring.false)), c.ranges)
 
 pub values_into-requires : goal.values_into-requires
-values_into-requires c = run_room c.args.mode c.args.src.now c.args.at c.trusted_width-width.result c.args.n c.args.from (run-usual c.args.mode c.args.src.now c.args.at c.trusted_width-width.result c.args.n c.trusted_width-width.ensures c.if-width-eq0.false) c.requires.0.1 c.requires.0.0 c.args.points.now c.holds_ring.result c.holds_ring.ensures c.if-not-holds_ring.false
+values_into-requires c = run_room c.args.mode c.args.src.now c.args.at c.trusted_width-width.result c.args.n c.args.from (run-usual c.args.mode c.args.src.now c.args.at c.trusted_width-width.result c.args.n c.trusted_width-width.ensures c.if-width-eq0.false) c.requires.0.1 c.requires.0.0 c.args.points.now c.holds_ring.result c.holds_ring.ensures (ap not c.if-not-holds_ring.false)
 
 pub overflow_mul-result : goal.overflow_mul-result
 overflow_mul-result c = omega (arith, run_inside c.args.mode c.args.src.now c.args.at c.trusted_width-width.result c.args.n c.trusted_width-width.ensures c.if-width-eq0.false c.requires.0.0, c.requires.0.1)

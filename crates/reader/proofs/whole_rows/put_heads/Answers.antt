@@ -1,6 +1,7 @@
 -- `reader::put_heads` meets its contract. Assumes nothing.
+use mathlib.Core.Bool.{not}
 use borrow.Author.Tests.{not-false}
-use mathlib.Core.Path.{◌∙◌}
+use mathlib.Core.Path.{◌∙◌, ap}
 use mathlib.Core.List.{[]}
 use native.Mathlib.Omega.{arith}
 use Rattle.reader.specs.Turn.{stand_of}
@@ -49,7 +50,7 @@ returns-then-not-holds_head c = rowing-puts c.args.d c.requires.2 c.loop-mode.in
 
 -- src/whole_rows.rt:231:9
 pub head_into-requires : goal.head_into-requires
-head_into-requires c = (store_asks c.loop-mode.invariant c.head_at-h.result c.head_at-h.ensures c.if-next-eq0.false, (c.holds_head.ensures (not-false c.holds_head.result c.if-not-holds_head.false)))
+head_into-requires c = (store_asks c.loop-mode.invariant c.head_at-h.result c.head_at-h.ensures c.if-next-eq0.false, (c.holds_head.ensures (not-false c.holds_head.result (ap not c.if-not-holds_head.false))))
 
 -- src/whole_rows.rt:234:13
 pub row_more-behind-requires : goal.row_more-behind-requires

@@ -1,4 +1,6 @@
 -- `wide_listed` meets its contract: no border behind the walk has a wide figure. Assumes nothing.
+use mathlib.Core.Bool.{not}
+use mathlib.Core.Path.{ap}
 use native.Mathlib.Omega.{arith}
 use lib.ListN.{get_or}
 use Rattle.made.specs.Made.{tables_of}
@@ -30,7 +32,7 @@ overflow_add-result c = omega (arith, widening-small c.loop-j.invariant c.loop-j
 
 pub returns-then-not-is_narrow : goal.returns-then-not-is_narrow
 returns-then-not-is_narrow c = let k = narrow-known c.args.rows.now c.args.letters.now c.args.islands.now c.args.points.now (get_or c.loop-j.w.items c.loop-j.j first_stand) _ c.metres_at.ensures c.metres_at.type-inv _ c.is_narrow.ensures in
-    widening-found c.loop-j.invariant c.loop-j-test.true first_stand _ k c.if-not-is_narrow.true
+    widening-found c.loop-j.invariant c.loop-j-test.true first_stand _ k (ap not c.if-not-is_narrow.true)
 
 pub overflow_add-i : goal.overflow_add-i
 overflow_add-i c = omega (arith, widening-small c.loop-j.invariant c.loop-j-test.true)
@@ -46,14 +48,14 @@ loop-j-smaller-then-j-eq-WIDTH c = let h = turning-more c.loop-j.invariant.turns
 
 pub loop-j-preserved-then-j-eq-WIDTH : goal.loop-j-preserved-then-j-eq-WIDTH
 loop-j-preserved-then-j-eq-WIDTH c = let k = narrow-known c.args.rows.now c.args.letters.now c.args.islands.now c.args.points.now (get_or c.loop-j.w.items c.loop-j.j first_stand) _ c.metres_at.ensures c.metres_at.type-inv _ c.is_narrow.ensures in
-    widening-next c.loop-j.invariant c.loop-j-test.true first_stand _ k c.if-not-is_narrow.false c.next_window-w-then-j-eq-WIDTH.result c.next_window-w-then-j-eq-WIDTH.ensures
+    widening-next c.loop-j.invariant c.loop-j-test.true first_stand _ k (ap not c.if-not-is_narrow.false) c.next_window-w-then-j-eq-WIDTH.result c.next_window-w-then-j-eq-WIDTH.ensures
 
 pub loop-j-smaller : goal.loop-j-smaller
 loop-j-smaller c = let h = turning-more c.loop-j.invariant.turns c.loop-j-test.true in omega arith
 
 pub loop-j-preserved : goal.loop-j-preserved
 loop-j-preserved c = let k = narrow-known c.args.rows.now c.args.letters.now c.args.islands.now c.args.points.now (get_or c.loop-j.w.items c.loop-j.j first_stand) _ c.metres_at.ensures c.metres_at.type-inv _ c.is_narrow.ensures in
-    widening-on c.loop-j.invariant c.loop-j-test.true first_stand _ k c.if-not-is_narrow.false c.if-j-eq-WIDTH.false
+    widening-on c.loop-j.invariant c.loop-j-test.true first_stand _ k (ap not c.if-not-is_narrow.false) c.if-j-eq-WIDTH.false
 
 pub returns : goal.returns
 returns c = widening-end c.loop-j.invariant c.loop-j-test.false

@@ -1,4 +1,6 @@
 -- `first_wide` meets its contract. Invariant: those before `i` are narrow. Assumes nothing.
+use mathlib.Core.Bool.{not}
+use mathlib.Core.Path.{ap}
 use native.Mathlib.Omega.{arith}
 use Rattle.sup.proofs.TotalWays.{wide-start, wide-none, wide_step, wide-stop}
 use Rattle.sup.proofs.totalling.first_wide.Goals as goal
@@ -16,7 +18,7 @@ pub overflow_add-result : goal.overflow_add-result
 overflow_add-result c = omega arith
 
 pub returns-then-not-is_narrow : goal.returns-then-not-is_narrow
-returns-then-not-is_narrow c = wide-stop _ _ _ c.loop-i.invariant.1 _ c.loop-i-test.true c.is_narrow-arg-1.given c.is_narrow.ensures c.if-not-is_narrow.true
+returns-then-not-is_narrow c = wide-stop _ _ _ c.loop-i.invariant.1 _ c.loop-i-test.true c.is_narrow-arg-1.given c.is_narrow.ensures (ap not c.if-not-is_narrow.true)
 
 pub overflow_add-i : goal.overflow_add-i
 overflow_add-i c = omega arith
@@ -25,7 +27,7 @@ pub loop-i-smaller : goal.loop-i-smaller
 loop-i-smaller c = omega arith
 
 pub loop-i-preserved : goal.loop-i-preserved
-loop-i-preserved c = (omega arith, wide_step _ _ _ c.loop-i.invariant.1 _ c.loop-i-test.true c.is_narrow-arg-1.given c.is_narrow.ensures c.if-not-is_narrow.false)
+loop-i-preserved c = (omega arith, wide_step _ _ _ c.loop-i.invariant.1 _ c.loop-i-test.true c.is_narrow-arg-1.given c.is_narrow.ensures (ap not c.if-not-is_narrow.false))
 
 pub returns : goal.returns
 returns c = wide-none _ _ _ c.loop-i.invariant.1 c.loop-i-test.false

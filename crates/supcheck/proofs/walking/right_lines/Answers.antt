@@ -1,4 +1,6 @@
 -- `right_lines` meets its contract: the lines behind the walk are right. Assumes nothing.
+use mathlib.Core.Bool.{not}
+use mathlib.Core.Path.{ap}
 use native.Mathlib.Omega.{arith}
 use Rattle.supcheck.proofs.WalkingWays.{righting-start, righting-end, righting-stop, righting-on}
 use Rattle.supcheck.proofs.walking.right_lines.Goals as goal
@@ -38,7 +40,7 @@ pub is_right_line-requires : goal.is_right_line-requires
 is_right_line-requires c = tt
 
 pub returns-then-not-is_right_line : goal.returns-then-not-is_right_line
-returns-then-not-is_right_line c = righting-stop c.loop-i.invariant c.loop-i-test.true _ c.line_from.ensures c.is_right_line-arg-in-loop-i-1.given c.is_right_line-arg-in-loop-i-2-1.given _ c.is_right_line.ensures c.if-not-is_right_line.true
+returns-then-not-is_right_line c = righting-stop c.loop-i.invariant c.loop-i-test.true _ c.line_from.ensures c.is_right_line-arg-in-loop-i-1.given c.is_right_line-arg-in-loop-i-2-1.given _ c.is_right_line.ensures (ap not c.if-not-is_right_line.true)
 
 pub overflow_add-i : goal.overflow_add-i
 overflow_add-i c = omega arith
@@ -47,7 +49,7 @@ pub loop-i-smaller : goal.loop-i-smaller
 loop-i-smaller c = omega arith
 
 pub loop-i-preserved : goal.loop-i-preserved
-loop-i-preserved c = righting-on c.loop-i.invariant c.loop-i-test.true _ c.line_from.ensures c.is_right_line-arg-in-loop-i-1.given c.is_right_line-arg-in-loop-i-2-1.given _ c.is_right_line.ensures c.if-not-is_right_line.false
+loop-i-preserved c = righting-on c.loop-i.invariant c.loop-i-test.true _ c.line_from.ensures c.is_right_line-arg-in-loop-i-1.given c.is_right_line-arg-in-loop-i-2-1.given _ c.is_right_line.ensures (ap not c.if-not-is_right_line.false)
 
 pub returns : goal.returns
 returns c = righting-end c.loop-i.invariant c.loop-i-test.false

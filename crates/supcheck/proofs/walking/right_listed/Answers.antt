@@ -1,4 +1,6 @@
 -- `right_listed` meets its contract: the lines of the borders behind the walk are right. Assumes nothing.
+use mathlib.Core.Bool.{not}
+use mathlib.Core.Path.{ap}
 use native.Mathlib.Omega.{arith}
 use Rattle.made.specs.Made.{tables_of}
 use Rattle.row.specs.Walk.{first_stand}
@@ -31,7 +33,7 @@ pub is_right_border-requires : goal.is_right_border-requires
 is_right_border-requires c = tt
 
 pub returns-then-not-is_right_border : goal.returns-then-not-is_right_border
-returns-then-not-is_right_border c = counting-stop c.loop-j.invariant c.loop-j-test.true first_stand _ c.line_from.ensures _ c.is_right_border.ensures c.if-not-is_right_border.true
+returns-then-not-is_right_border c = counting-stop c.loop-j.invariant c.loop-j-test.true first_stand _ c.line_from.ensures _ c.is_right_border.ensures (ap not c.if-not-is_right_border.true)
 
 pub overflow_add-i-in-loop-j : goal.overflow_add-i-in-loop-j
 overflow_add-i-in-loop-j c = omega (arith, counting-small c.loop-j.invariant c.loop-j-test.true)
@@ -52,13 +54,13 @@ pub loop-j-smaller-then-j-eq-WIDTH : goal.loop-j-smaller-then-j-eq-WIDTH
 loop-j-smaller-then-j-eq-WIDTH c = let h = turning-more c.loop-j.invariant.turns c.loop-j-test.true in omega arith
 
 pub loop-j-preserved-then-j-eq-WIDTH : goal.loop-j-preserved-then-j-eq-WIDTH
-loop-j-preserved-then-j-eq-WIDTH c = counting-next c.loop-j.invariant c.loop-j-test.true first_stand _ c.line_from.ensures _ c.is_right_border.ensures c.if-not-is_right_border.false c.next_window-w-then-j-eq-WIDTH.result c.next_window-w-then-j-eq-WIDTH.ensures
+loop-j-preserved-then-j-eq-WIDTH c = counting-next c.loop-j.invariant c.loop-j-test.true first_stand _ c.line_from.ensures _ c.is_right_border.ensures (ap not c.if-not-is_right_border.false) c.next_window-w-then-j-eq-WIDTH.result c.next_window-w-then-j-eq-WIDTH.ensures
 
 pub loop-j-smaller : goal.loop-j-smaller
 loop-j-smaller c = let h = turning-more c.loop-j.invariant.turns c.loop-j-test.true in omega arith
 
 pub loop-j-preserved : goal.loop-j-preserved
-loop-j-preserved c = counting-on c.loop-j.invariant c.loop-j-test.true first_stand _ c.line_from.ensures _ c.is_right_border.ensures c.if-not-is_right_border.false c.if-j-eq-WIDTH.false
+loop-j-preserved c = counting-on c.loop-j.invariant c.loop-j-test.true first_stand _ c.line_from.ensures _ c.is_right_border.ensures (ap not c.if-not-is_right_border.false) c.if-j-eq-WIDTH.false
 
 pub returns : goal.returns
 returns c = counting-end c.loop-j.invariant c.loop-j-test.false
