@@ -17,8 +17,7 @@ returns-in-Wide c = search (total-ways, rules)
 passed : (c : tie.After-known-told invariant-loop decreases-loop)
     → Passed c.args.points.now c.args.from c.args.sizes.now c.loop-i.total c.loop-i.at c.loop-i.i c.wide-n.result c.in-Doubled.d
 passed c =
-    let s = c in
-    total-passed s.args.points.now s.args.from s.args.sizes.now c.loop-i.total c.loop-i.at c.loop-i.i c.loop-i.invariant.1 c.loop-i-test.true _ c.wide-n.ensures _ c.doubled_area.ensures _ c.in-Doubled.is c.loop-i.invariant.2 c.loop-i.invariant.3
+    total-passed c.args.points.now c.args.from c.args.sizes.now c.loop-i.total c.loop-i.at c.loop-i.i c.loop-i.invariant.1 c.loop-i-test.true _ c.wide-n.ensures _ c.doubled_area.ensures _ c.in-Doubled.is c.loop-i.invariant.2 c.loop-i.invariant.3
 
 pub overflow_add-total : goal.overflow_add-total
 overflow_add-total c = (passed c).ranges

@@ -4,7 +4,7 @@ use Rattle.told.proofs.ToldWays.{listed}
 use Rattle.cabi.proofs.cxf_listing.Goals as goal
 
 pub returns-in-Wrote : goal.returns-in-Wrote
-returns-in-Wrote c = listed (listing_of c.args.src.now) c.args.out.now c.list_text.ensures.0 c.list_text.ensures.1 c.in-Wrote.is
+returns-in-Wrote c = listed (listing_of c.args.src.now) c.args.out.now c.list_text.ensures.value c.list_text.ensures.out_after c.in-Wrote.is
 
 pub returns-in-NoRoom : goal.returns-in-NoRoom
-returns-in-NoRoom c = listed (listing_of c.args.src.now) c.args.out.now c.list_text.ensures.0 c.list_text.ensures.1 c.in-NoRoom.is
+returns-in-NoRoom c = listed (listing_of c.args.src.now) c.args.out.now c.list_text.ensures.value c.list_text.ensures.out_after c.in-NoRoom.is

@@ -7,19 +7,19 @@ use Rattle.cml.proofs.Walk.{roomy-room, roomy-wrote}
 use Rattle.cml.proofs.lines_judged.Goals as goal
 
 pub put_lines-length-requires : goal.put_lines-length-requires
-put_lines-length-requires c = (c.requires, roomy-room (tables_of c.args.rows.now c.args.letters.now c.args.islands.now c.args.points.now) _ (length c.args.out.now) c.requires c.is_roomy.ensures c.if-is_roomy.true)
+put_lines-length-requires c = record { points_value = c.requires; points_in_bounds = roomy-room (tables_of c.args.rows.now c.args.letters.now c.args.islands.now c.args.points.now) _ (length c.args.out.now) c.requires c.is_roomy.ensures c.if-is_roomy.true }
 
 pub returns-then-is_roomy : goal.returns-then-is_roomy
-returns-then-is_roomy c = (roomy-wrote (tables_of c.args.rows.now c.args.letters.now c.args.islands.now c.args.points.now) _ (length c.args.out.now) c.requires c.is_roomy.ensures c.if-is_roomy.true c.put_lines-length.ensures.0, c.put_lines-length.ensures.1)
+returns-then-is_roomy c = record { value = roomy-wrote (tables_of c.args.rows.now c.args.letters.now c.args.islands.now c.args.points.now) _ (length c.args.out.now) c.requires c.is_roomy.ensures c.if-is_roomy.true c.put_lines-length.ensures.value; out_after = c.put_lines-length.ensures.out_after }
 
 pub returns-then-needed-gt-FILE_MOST : goal.returns-then-needed-gt-FILE_MOST
-returns-then-needed-gt-FILE_MOST c = (wrote-long _ (length c.args.out.now) _ c.lines_size-needed.ensures c.if-needed-gt-FILE_MOST.true, refl)
+returns-then-needed-gt-FILE_MOST c = record { value = wrote-long _ (length c.args.out.now) _ c.lines_size-needed.ensures c.if-needed-gt-FILE_MOST.true; out_after = refl }
 
 pub returns-then-needed-out : goal.returns-then-needed-out
-returns-then-needed-out c = (wrote-tight _ (length c.args.out.now) _ c.lines_size-needed.ensures c.if-needed-gt-FILE_MOST.false c.if-needed-out.true, refl)
+returns-then-needed-out c = record { value = wrote-tight _ (length c.args.out.now) _ c.lines_size-needed.ensures c.if-needed-gt-FILE_MOST.false c.if-needed-out.true; out_after = refl }
 
 pub put_lines-requires : goal.put_lines-requires
-put_lines-requires c = (c.requires, wrote-room _ (length c.args.out.now) _ c.lines_size-needed.ensures c.if-needed-gt-FILE_MOST.false c.if-needed-out.false)
+put_lines-requires c = record { points_value = c.requires; points_in_bounds = wrote-room _ (length c.args.out.now) _ c.lines_size-needed.ensures c.if-needed-gt-FILE_MOST.false c.if-needed-out.false }
 
 pub returns : goal.returns
-returns c = (wrote-whole _ (length c.args.out.now) _ c.lines_size-needed.ensures c.if-needed-gt-FILE_MOST.false c.if-needed-out.false, c.put_lines.ensures.1)
+returns c = record { value = wrote-whole _ (length c.args.out.now) _ c.lines_size-needed.ensures c.if-needed-gt-FILE_MOST.false c.if-needed-out.false; out_after = c.put_lines.ensures.out_after }

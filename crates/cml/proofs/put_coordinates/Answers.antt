@@ -5,7 +5,7 @@ use Rattle.cml.proofs.PairWays.{coordinate-asks, coordinates-on, rest-real, coor
 use Rattle.cml.proofs.put_coordinates.Goals as goal
 
 pub loop-j-init : goal.loop-j-init
-loop-j-init c = (putting-start _ _ _ c.requires.1, c.requires.0)
+loop-j-init c = (putting-start _ _ _ c.requires.s_in_bounds, c.requires.s_value)
 
 pub put_coordinate-next-requires : goal.put_coordinate-next-requires
 put_coordinate-next-requires c = coordinate-asks c.args.s.now _ c.loop-j-test.true c.loop-j.invariant.1 c.loop-j.invariant.0

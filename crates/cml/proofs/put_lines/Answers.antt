@@ -8,7 +8,7 @@ use Rattle.cml.proofs.Walk.{walk-drawn, writing_start, writing-room, writing-on,
 use Rattle.cml.proofs.put_lines.Goals as goal
 
 pub loop-k-init : goal.loop-k-init
-loop-k-init c = writing_start (tables_of c.args.rows.now c.args.letters.now c.args.islands.now c.args.points.now) _ _ c.requires.0 c.requires.1
+loop-k-init c = writing_start (tables_of c.args.rows.now c.args.letters.now c.args.islands.now c.args.points.now) _ _ c.requires.points_value c.requires.points_in_bounds
 
 pub offset_bounds-rows-r : goal.offset_bounds-rows-r
 offset_bounds-rows-r c = omega (arith, c.loop-k.invariant.walk.stands.row_in)
@@ -35,7 +35,7 @@ pub slice_bounds-put_row-end-in-loop-k : goal.slice_bounds-put_row-end-in-loop-k
 slice_bounds-put_row-end-in-loop-k c = omega (arith, c.loop-k.invariant.walk.stands.points-in)
 
 pub put_row-next-requires : goal.put_row-next-requires
-put_row-next-requires c = (walk-drawn c.loop-k.invariant.walk c.loop-k-test.true, writing-room c.loop-k.invariant c.loop-k-test.true)
+put_row-next-requires c = record { drawn = walk-drawn c.loop-k.invariant.walk c.loop-k-test.true; points_in_bounds = writing-room c.loop-k.invariant c.loop-k-test.true }
 
 pub loop-k-preserved : goal.loop-k-preserved
 loop-k-preserved c = writing-on c.loop-k.invariant c.loop-k-test.true (c.stand_next-d.ensures ∙ after_next _ _ c.loop-k.invariant.walk.stands.row_in (stands-small (walk-stands c.loop-k.invariant.walk c.loop-k-test.true) (omega arith) (omega arith) (omega arith) (omega arith))) c.put_row-next.ensures
@@ -44,4 +44,4 @@ pub shape_of-out : goal.shape_of-out
 shape_of-out c = c.loop-k.invariant.puts.size
 
 pub returns : goal.returns
-returns c = (writing-length c.loop-k.invariant c.loop-k-test.false, writing-end c.loop-k.invariant c.loop-k-test.false)
+returns c = record { value = writing-length c.loop-k.invariant c.loop-k-test.false; out_after = writing-end c.loop-k.invariant c.loop-k-test.false }

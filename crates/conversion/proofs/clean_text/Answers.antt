@@ -4,13 +4,13 @@ use Rattle.conversion.proofs.CleanWays.{clean-wrote, clean-none, clean-long, cle
 use Rattle.conversion.proofs.clean_text.Goals as goal
 
 pub returns-in-Wrote : goal.returns-in-Wrote
-returns-in-Wrote c = clean-wrote c.args.header c.args.count (tables_of c.args.rows.now c.args.letters.now c.args.islands.now c.args.points.now) _ c.args.out.now _ c.write.ensures.0 c.write.ensures.1 _ c.in-Wrote.is
+returns-in-Wrote c = clean-wrote c.args.header c.args.count (tables_of c.args.rows.now c.args.letters.now c.args.islands.now c.args.points.now) _ c.args.out.now _ c.write.ensures.value c.write.ensures.out_after _ c.in-Wrote.is
 
 pub returns-in-NoRoom : goal.returns-in-NoRoom
-returns-in-NoRoom c = clean-none c.args.header c.args.count (tables_of c.args.rows.now c.args.letters.now c.args.islands.now c.args.points.now) _ c.args.out.now _ c.write.ensures.0 c.write.ensures.1 _ c.in-NoRoom.is
+returns-in-NoRoom c = clean-none c.args.header c.args.count (tables_of c.args.rows.now c.args.letters.now c.args.islands.now c.args.points.now) _ c.args.out.now _ c.write.ensures.value c.write.ensures.out_after _ c.in-NoRoom.is
 
 pub returns-in-TooLong : goal.returns-in-TooLong
-returns-in-TooLong c = absurd (clean-long c.args.header c.args.count (tables_of c.args.rows.now c.args.letters.now c.args.islands.now c.args.points.now) _ c.args.out.now _ c.write.ensures.0 c.write.ensures.1 c.requires c.in-TooLong.is)
+returns-in-TooLong c = absurd (clean-long c.args.header c.args.count (tables_of c.args.rows.now c.args.letters.now c.args.islands.now c.args.points.now) _ c.args.out.now _ c.write.ensures.value c.write.ensures.out_after c.requires c.in-TooLong.is)
 
 pub returns-in-Refused : goal.returns-in-Refused
-returns-in-Refused c = clean-refused c.args.header c.args.count (tables_of c.args.rows.now c.args.letters.now c.args.islands.now c.args.points.now) _ c.args.out.now _ c.write.ensures.0 c.write.ensures.1 _ c.in-Refused.is _ c.fault_of-fault.ensures _ _ c.refused_text.ensures.0 c.refused_text.ensures.1
+returns-in-Refused c = clean-refused c.args.header c.args.count (tables_of c.args.rows.now c.args.letters.now c.args.islands.now c.args.points.now) _ c.args.out.now _ c.write.ensures.value c.write.ensures.out_after _ c.in-Refused.is _ c.fault_of-fault.ensures _ _ c.refused_text.ensures.value c.refused_text.ensures.out_after

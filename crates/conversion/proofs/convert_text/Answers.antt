@@ -3,7 +3,7 @@ use Rattle.conversion.proofs.CleanWays.{text-long, text-short}
 use Rattle.conversion.proofs.convert_text.Goals as goal
 
 pub returns-then-src-gt-INPUT_MOST : goal.returns-then-src-gt-INPUT_MOST
-returns-then-src-gt-INPUT_MOST c = text-long c.args.src.now _ c.args.out.now _ c.if-src-gt-INPUT_MOST.true c.refused_text.ensures.0 c.refused_text.ensures.1
+returns-then-src-gt-INPUT_MOST c = text-long c.args.src.now _ c.args.out.now _ c.if-src-gt-INPUT_MOST.true c.refused_text.ensures.value c.refused_text.ensures.out_after
 
 pub returns : goal.returns
-returns c = text-short c.args.src.now _ c.args.out.now _ c.if-src-gt-INPUT_MOST.false c.converted_text.ensures.0 c.converted_text.ensures.1
+returns c = text-short c.args.src.now _ c.args.out.now _ c.if-src-gt-INPUT_MOST.false c.converted_text.ensures.value c.converted_text.ensures.out_after

@@ -47,12 +47,10 @@ overflow_sub-count-2 c = omega (arith, has c)
 
 pub returns-then-found-count : goal.returns-then-found-count
 returns-then-found-count c =
-    let s = c in
     let r = c.search-found in
-    verdict-faulty s.args.points.now s.args.from s.args.count (is_held c) (is-slim c) r.result.first r.result.second r.ensures c.if-found-count.true
+    verdict-faulty c.args.points.now c.args.from c.args.count (is_held c) (is-slim c) r.result.first r.result.second r.ensures c.if-found-count.true
 
 pub returns : goal.returns
 returns c =
-    let s = c in
     let r = c.search-found in
-    verdict-simple s.args.points.now s.args.from s.args.count (is_held c) (is-slim c) r.result.first r.result.second r.ensures c.if-found-count.false
+    verdict-simple c.args.points.now c.args.from c.args.count (is_held c) (is-slim c) r.result.first r.result.second r.ensures c.if-found-count.false

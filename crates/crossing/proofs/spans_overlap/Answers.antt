@@ -10,11 +10,10 @@ use Rattle.crossing.proofs.spans_overlap.Goals as goal
 pub returns-then-lower-higher : goal.returns-then-lower-higher
 unfolding spans-overlap
 returns-then-lower-higher c =
-    let s = c in
-    let a = s.args.a in let b = s.args.b in let cc' = s.args.c in let d = s.args.d in
+    let a = c.args.a in let b = c.args.b in let cc' = c.args.c in let d = c.args.d in
     and-on (le_z (low_z a b) (high_z cc' d)) (le_z (low_z cc' d) (high_z a b))
-    (cc (to_z-of_z s.ranges.a, to_z-of_z s.ranges.b, to_z-of_z s.ranges.c, to_z-of_z s.ranges.d, back c.lower.result c.lower.type-inv, back c.higher.result c.higher.type-inv))
-    (cc (to_z-of_z s.ranges.a, to_z-of_z s.ranges.b, to_z-of_z s.ranges.c, to_z-of_z s.ranges.d, back c.lower-then-lower-higher.result c.lower-then-lower-higher.type-inv, back c.higher-then-lower-higher.result c.higher-then-lower-higher.type-inv))
+    (cc (to_z-of_z c.ranges.a, to_z-of_z c.ranges.b, to_z-of_z c.ranges.c, to_z-of_z c.ranges.d, back c.lower.result c.lower.type-inv, back c.higher.result c.higher.type-inv))
+    (cc (to_z-of_z c.ranges.a, to_z-of_z c.ranges.b, to_z-of_z c.ranges.c, to_z-of_z c.ranges.d, back c.lower-then-lower-higher.result c.lower-then-lower-higher.type-inv, back c.higher-then-lower-higher.result c.higher-then-lower-higher.type-inv))
 
 pub returns : goal.returns
 unfolding spans-overlap

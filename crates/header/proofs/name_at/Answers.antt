@@ -20,9 +20,7 @@ overflow_add-last c = search (line-ways, named-ways, rules)
 
 pub slice_bounds-is_name-end : goal.slice_bounds-is_name-end
 slice_bounds-is_name-end c =
-    let l = c in
-    let a = l.before.before in
-    word-ends _ _ _ _ a.line_at.ensures a.before.before.before.requires _ _ l.len.given.1 _ c.word_of.ensures _ _ c.in-Is.is
+    word-ends _ _ _ _ c.line_at.ensures c.requires _ _ c.in-Got.is _ c.word_of.ensures _ _ c.in-Is.is
 
 pub returns-then-not-is_name : goal.returns-then-not-is_name
 returns-then-not-is_name c = search (line-ways, named-ways, rules)
@@ -31,7 +29,7 @@ pub overflow_add-at : goal.overflow_add-at
 overflow_add-at c = search (line-ways, named-ways, rules)
 
 pub slice_bounds-copied-end : goal.slice_bounds-copied-end
-slice_bounds-copied-end c = part-is-name-end c
+slice_bounds-copied-end c = slice_bounds-is_name-end c
 
 pub copied-requires : goal.copied-requires
 copied-requires c = name-held _ _ _ c.is_name.ensures (ap not c.if-not-is_name.false)

@@ -14,4 +14,4 @@ pub slice_bounds-put_text-end : goal.slice_bounds-put_text-end
 slice_bounds-put_text-end c = part_count _ _ (text_in _ _ _ _ c.put_refused-size.ensures)
 
 pub returns : goal.returns
-returns c = text-handed _ _ _ _ c.put_refused-size.ensures _ _ _ c.put_text.ensures.0 c.put_text.ensures.1
+returns c = text-handed _ _ _ _ c.put_refused-size.ensures _ _ _ c.put_text.ensures.value c.put_text.ensures.out_after

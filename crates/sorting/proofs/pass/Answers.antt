@@ -17,10 +17,10 @@ pub loop-i-smaller : goal.loop-i-smaller
 loop-i-smaller c = let k = c.loop-i-test.true in omega arith
 
 pub loop-i-preserved : goal.loop-i-preserved
-loop-i-preserved c = passing-on c.loop-i.invariant c.sink.ensures.0 c.sink.ensures.1
+loop-i-preserved c = passing-on c.loop-i.invariant c.sink.ensures.exchanges c.sink.ensures.in_order
 
 pub shape_of-s : goal.shape_of-s
 shape_of-s c = exchanges-length c.loop-i.invariant.mixed
 
 pub returns : goal.returns
-returns c = (c.loop-i.invariant.mixed, passing-end c.loop-i.invariant _ c.loop-i-test.false)
+returns c = record { exchanges = c.loop-i.invariant.mixed; in_order = passing-end c.loop-i.invariant _ c.loop-i-test.false }

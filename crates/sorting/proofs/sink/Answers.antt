@@ -16,7 +16,7 @@ pub shape_of-s-then-not-is_before : goal.shape_of-s-then-not-is_before
 shape_of-s-then-not-is_before c = exchanges-length c.loop-j.invariant.mixed
 
 pub returns-then-not-is_before : goal.returns-then-not-is_before
-returns-then-not-is_before c = (c.loop-j.invariant.mixed, sinking-end c.loop-j.invariant c.loop-j-test.true c.requires.0 _ c.is_before.ensures (ap not c.if-not-is_before.true))
+returns-then-not-is_before c = record { exchanges = c.loop-j.invariant.mixed; in_order = sinking-end c.loop-j.invariant c.loop-j-test.true c.requires.0 _ c.is_before.ensures (ap not c.if-not-is_before.true) }
 
 pub exchange-requires : goal.exchange-requires
 exchange-requires c = (sinking-near c.loop-j.invariant _ (omega arith), sinking-in c.loop-j.invariant)
@@ -31,4 +31,4 @@ pub shape_of-s : goal.shape_of-s
 shape_of-s c = exchanges-length c.loop-j.invariant.mixed
 
 pub returns : goal.returns
-returns c = (c.loop-j.invariant.mixed, sinking-front c.loop-j.invariant c.loop-j-test.false)
+returns c = record { exchanges = c.loop-j.invariant.mixed; in_order = sinking-front c.loop-j.invariant c.loop-j-test.false }

@@ -22,13 +22,13 @@ pub loop-gap-smaller : goal.loop-gap-smaller
 loop-gap-smaller c = next-gap _ c.loop-gap-test.true
 
 pub loop-gap-preserved : goal.loop-gap-preserved
-loop-gap-preserved c = (omega (arith, next-gap _ c.loop-gap-test.true, c.loop-gap.invariant.0), passes-more c.loop-gap.invariant.1 c.pass.ensures.0)
+loop-gap-preserved c = (omega (arith, next-gap _ c.loop-gap-test.true, c.loop-gap.invariant.0), passes-more c.loop-gap.invariant.1 c.pass.ensures.exchanges)
 
 pub pass-requires-2 : goal.pass-requires-2
 pass-requires-2 c = (omega arith, omega (arith, exchanges-length c.loop-gap.invariant.1, lines-few c.args.s.now))
 
 pub shape_of-s : goal.shape_of-s
-shape_of-s c = exchanges-length (passes-more c.loop-gap.invariant.1 c.pass-2.ensures.0)
+shape_of-s c = exchanges-length (passes-more c.loop-gap.invariant.1 c.pass-2.ensures.exchanges)
 
 pub returns : goal.returns
-returns c = sorted-is (passes-more c.loop-gap.invariant.1 c.pass-2.ensures.0) (c.pass-2.ensures.1 refl)
+returns c = sorted-is (passes-more c.loop-gap.invariant.1 c.pass-2.ensures.exchanges) (c.pass-2.ensures.in_order refl)

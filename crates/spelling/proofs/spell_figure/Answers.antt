@@ -7,13 +7,13 @@ use Rattle.spelling.specs.Figures.{is_narrow}
 use Rattle.spelling.proofs.spell_figure.Goals as goal
 
 pub returns-then-out-lt-FIGURE_WIDTH : goal.returns-then-out-lt-FIGURE_WIDTH
-returns-then-out-lt-FIGURE_WIDTH c = (signed-tight is_narrow 10 _ _ c.ranges.value _ c.is_narrow.ensures c.if-is_narrow.true c.if-out-lt-FIGURE_WIDTH.true, refl)
+returns-then-out-lt-FIGURE_WIDTH c = record { value = signed-tight is_narrow 10 _ _ c.ranges.value _ c.is_narrow.ensures c.if-is_narrow.true c.if-out-lt-FIGURE_WIDTH.true; out_after = refl }
 
 pub put_figure-requires : goal.put_figure-requires
 put_figure-requires c = (cc, search rules)
 
 pub returns-then-is_narrow : goal.returns-then-is_narrow
-returns-then-is_narrow c = (signed-done is_narrow 10 _ _ c.ranges.value _ c.is_narrow.ensures c.if-is_narrow.true c.if-out-lt-FIGURE_WIDTH.false, cc (back _ c.ranges.value))
+returns-then-is_narrow c = record { value = signed-done is_narrow 10 _ _ c.ranges.value _ c.is_narrow.ensures c.if-is_narrow.true c.if-out-lt-FIGURE_WIDTH.false; out_after = cc (back _ c.ranges.value) }
 
 pub returns : goal.returns
-returns c = (signed-out is_narrow 10 _ (length c.args.out.now) c.ranges.value _ c.is_narrow.ensures c.if-is_narrow.false, refl)
+returns c = record { value = signed-out is_narrow 10 _ (length c.args.out.now) c.ranges.value _ c.is_narrow.ensures c.if-is_narrow.false; out_after = refl }

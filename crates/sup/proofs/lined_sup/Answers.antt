@@ -9,22 +9,22 @@ use Rattle.sup.proofs.TextWays.{name-fits, listed-counted, lined-wide, lined-tig
 use Rattle.sup.proofs.lined_sup.Goals as goal
 
 pub first_wide_line-wide-requires : goal.first_wide_line-wide-requires
-first_wide_line-wide-requires c = ((c.requires.0.0, c.requires.0.1, back _ c.ranges.total.sfits ∙ c.requires.0.2), (listed-counted c.args.header c.args.count c.args.rows.now c.args.letters.now c.args.islands.now c.args.points.now _ c.sup_count-listed.ensures))
+first_wide_line-wide-requires c = record { points_value = (c.requires.points_value.0, c.requires.points_value.1, back _ c.ranges.total.sfits ∙ c.requires.points_value.2); listed_value = (listed-counted c.args.header c.args.count c.args.rows.now c.args.letters.now c.args.islands.now c.args.points.now _ c.sup_count-listed.ensures) }
 
 pub returns-then-wide-ne0 : goal.returns-then-wide-ne0
-returns-then-wide-ne0 c = (lined-wide c.args.header c.args.count (tables_of c.args.rows.now c.args.letters.now c.args.islands.now c.args.points.now) c.args.date.now c.args.figures.now (length c.args.out.now) _ c.first_wide_line-wide.ensures c.if-wide-ne0.true, refl)
+returns-then-wide-ne0 c = record { value = lined-wide c.args.header c.args.count (tables_of c.args.rows.now c.args.letters.now c.args.islands.now c.args.points.now) c.args.date.now c.args.figures.now (length c.args.out.now) _ c.first_wide_line-wide.ensures c.if-wide-ne0.true; out_after = refl }
 
 pub overflow_add-needed : goal.overflow_add-needed
-overflow_add-needed c = omega (arith, listed-held c.args.header c.args.count (tables_of c.args.rows.now c.args.letters.now c.args.islands.now c.args.points.now) c.requires.0.0, (listed-counted c.args.header c.args.count c.args.rows.now c.args.letters.now c.args.islands.now c.args.points.now _ c.sup_count-listed.ensures))
+overflow_add-needed c = omega (arith, listed-held c.args.header c.args.count (tables_of c.args.rows.now c.args.letters.now c.args.islands.now c.args.points.now) c.requires.points_value.0, (listed-counted c.args.header c.args.count c.args.rows.now c.args.letters.now c.args.islands.now c.args.points.now _ c.sup_count-listed.ensures))
 
 pub overflow_mul-needed : goal.overflow_mul-needed
-overflow_mul-needed c = omega (arith, listed-held c.args.header c.args.count (tables_of c.args.rows.now c.args.letters.now c.args.islands.now c.args.points.now) c.requires.0.0, (listed-counted c.args.header c.args.count c.args.rows.now c.args.letters.now c.args.islands.now c.args.points.now _ c.sup_count-listed.ensures))
+overflow_mul-needed c = omega (arith, listed-held c.args.header c.args.count (tables_of c.args.rows.now c.args.letters.now c.args.islands.now c.args.points.now) c.requires.points_value.0, (listed-counted c.args.header c.args.count c.args.rows.now c.args.letters.now c.args.islands.now c.args.points.now _ c.sup_count-listed.ensures))
 
 pub returns-then-needed-out : goal.returns-then-needed-out
-returns-then-needed-out c = (lined-tight c.args.header c.args.count (tables_of c.args.rows.now c.args.letters.now c.args.islands.now c.args.points.now) c.args.date.now c.args.figures.now (length c.args.out.now) _ c.first_wide_line-wide.ensures c.if-wide-ne0.false (name-fits _ _ c.args.header.name c.well-formed.0.1.1.1.0.1.0.1) c.requires.1 c.requires.0.3 _ (listed-counted c.args.header c.args.count c.args.rows.now c.args.letters.now c.args.islands.now c.args.points.now _ c.sup_count-listed.ensures) c.if-needed-out.true, refl)
+returns-then-needed-out c = record { value = lined-tight c.args.header c.args.count (tables_of c.args.rows.now c.args.letters.now c.args.islands.now c.args.points.now) c.args.date.now c.args.figures.now (length c.args.out.now) _ c.first_wide_line-wide.ensures c.if-wide-ne0.false (name-fits _ _ c.args.header.name c.well-formed.0.1.1.1.0.1.0.1) c.requires.points_value_2 c.requires.points_value.3 _ (listed-counted c.args.header c.args.count c.args.rows.now c.args.letters.now c.args.islands.now c.args.points.now _ c.sup_count-listed.ensures) c.if-needed-out.true; out_after = refl }
 
 pub store-requires : goal.store-requires
-store-requires c = ((c.requires.0.0, c.requires.0.1, back _ c.ranges.total.sfits ∙ c.requires.0.2, c.requires.0.3), ((c.requires.1, sym c.first_wide_line-wide.ensures ∙ c.if-wide-ne0.false), lined-room c.args.header c.args.count (tables_of c.args.rows.now c.args.letters.now c.args.islands.now c.args.points.now) c.args.date.now c.args.figures.now (length c.args.out.now) _ c.first_wide_line-wide.ensures c.if-wide-ne0.false (name-fits _ _ c.args.header.name c.well-formed.0.1.1.1.0.1.0.1) c.requires.1 c.requires.0.3 _ (listed-counted c.args.header c.args.count c.args.rows.now c.args.letters.now c.args.islands.now c.args.points.now _ c.sup_count-listed.ensures) c.if-needed-out.false))
+store-requires c = record { points_value = (c.requires.points_value.0, c.requires.points_value.1, back _ c.ranges.total.sfits ∙ c.requires.points_value.2, c.requires.points_value.3); points_value_2 = (c.requires.points_value_2, sym c.first_wide_line-wide.ensures ∙ c.if-wide-ne0.false); points_in_bounds = lined-room c.args.header c.args.count (tables_of c.args.rows.now c.args.letters.now c.args.islands.now c.args.points.now) c.args.date.now c.args.figures.now (length c.args.out.now) _ c.first_wide_line-wide.ensures c.if-wide-ne0.false (name-fits _ _ c.args.header.name c.well-formed.0.1.1.1.0.1.0.1) c.requires.points_value_2 c.requires.points_value.3 _ (listed-counted c.args.header c.args.count c.args.rows.now c.args.letters.now c.args.islands.now c.args.points.now _ c.sup_count-listed.ensures) c.if-needed-out.false }
 
 pub returns : goal.returns
-returns c = (lined-whole c.args.header c.args.count (tables_of c.args.rows.now c.args.letters.now c.args.islands.now c.args.points.now) c.args.date.now c.args.figures.now (length c.args.out.now) _ c.first_wide_line-wide.ensures c.if-wide-ne0.false (name-fits _ _ c.args.header.name c.well-formed.0.1.1.1.0.1.0.1) c.requires.1 c.requires.0.3 _ (listed-counted c.args.header c.args.count c.args.rows.now c.args.letters.now c.args.islands.now c.args.points.now _ c.sup_count-listed.ensures) c.if-needed-out.false, c.store.ensures)
+returns c = record { value = lined-whole c.args.header c.args.count (tables_of c.args.rows.now c.args.letters.now c.args.islands.now c.args.points.now) c.args.date.now c.args.figures.now (length c.args.out.now) _ c.first_wide_line-wide.ensures c.if-wide-ne0.false (name-fits _ _ c.args.header.name c.well-formed.0.1.1.1.0.1.0.1) c.requires.points_value_2 c.requires.points_value.3 _ (listed-counted c.args.header c.args.count c.args.rows.now c.args.letters.now c.args.islands.now c.args.points.now _ c.sup_count-listed.ensures) c.if-needed-out.false; out_after = c.store.ensures }

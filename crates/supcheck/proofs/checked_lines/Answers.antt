@@ -9,7 +9,7 @@ use Rattle.supcheck.proofs.CheckedWays.{right-few, lines-wrong, bytes-behind, li
 use Rattle.supcheck.proofs.checked_lines.Goals as goal
 
 pub right_count-right-requires : goal.right_count-right-requires
-right_count-right-requires c = ((c.requires.0, c.requires.1, c.requires.2, back _ c.ranges.total.sfits ∙ c.requires.3), (listed-counted c.args.header c.args.count c.args.rows.now c.args.letters.now c.args.islands.now c.args.points.now _ c.sup_count-listed.ensures))
+right_count-right-requires c = record { points_value = (c.requires.0, c.requires.1, c.requires.2, back _ c.ranges.total.sfits ∙ c.requires.3); listed_value = (listed-counted c.args.header c.args.count c.args.rows.now c.args.letters.now c.args.islands.now c.args.points.now _ c.sup_count-listed.ensures) }
 
 pub overflow_add-listed : goal.overflow_add-listed
 overflow_add-listed c = omega (arith, listed-held c.args.header c.args.count (tables_of c.args.rows.now c.args.letters.now c.args.islands.now c.args.points.now) c.requires.0, (listed-counted c.args.header c.args.count c.args.rows.now c.args.letters.now c.args.islands.now c.args.points.now _ c.sup_count-listed.ensures))

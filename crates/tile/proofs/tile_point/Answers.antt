@@ -13,16 +13,14 @@ returns-in-Off c =
 
 pub returns-in-Off-difference : goal.returns-in-Off-difference
 returns-in-Off-difference c =
-    let s = c in
-    let by : along_of s.args.west s.args.x ≡ By c.in-By.east = cc (c.in-By.is, c.difference.ensures, to_z-of_z s.ranges.west, to_z-of_z s.ranges.x) in
-    let off : along_of s.args.y s.args.north ≡ Off = cc (c.in-Off-difference.is, c.difference-in-By.ensures, to_z-of_z s.ranges.y, to_z-of_z s.ranges.north) in
-    tile-off-south s.args.west s.args.north s.args.x s.args.y c.in-By.east by off
+    let by : along_of c.args.west c.args.x ≡ By c.in-By.east = cc (c.in-By.is, c.difference.ensures, to_z-of_z c.ranges.west, to_z-of_z c.ranges.x) in
+    let off : along_of c.args.y c.args.north ≡ Off = cc (c.in-Off-difference.is, c.difference-in-By.ensures, to_z-of_z c.ranges.y, to_z-of_z c.ranges.north) in
+    tile-off-south c.args.west c.args.north c.args.x c.args.y c.in-By.east by off
 
 pub returns-in-By-difference : goal.returns-in-By-difference
 returns-in-By-difference c =
-    let s = c in
     let f = c.in-By.east in
     let g = c.in-By-difference.south in
-    let by : along_of s.args.west s.args.x ≡ By f = cc (c.in-By.is, c.difference.ensures, to_z-of_z s.ranges.west, to_z-of_z s.ranges.x) in
-    let by_2 : along_of s.args.y s.args.north ≡ By g = cc (c.in-By-difference.is, c.difference-in-By.ensures, to_z-of_z s.ranges.y, to_z-of_z s.ranges.north) in
-    tile-at s.args.west s.args.north s.args.x s.args.y f g by by_2
+    let by : along_of c.args.west c.args.x ≡ By f = cc (c.in-By.is, c.difference.ensures, to_z-of_z c.ranges.west, to_z-of_z c.ranges.x) in
+    let by_2 : along_of c.args.y c.args.north ≡ By g = cc (c.in-By-difference.is, c.difference-in-By.ensures, to_z-of_z c.ranges.y, to_z-of_z c.ranges.north) in
+    tile-at c.args.west c.args.north c.args.x c.args.y f g by by_2

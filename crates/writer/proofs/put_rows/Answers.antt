@@ -8,7 +8,7 @@ use Rattle.writer.proofs.Walk.{writing_start, writing-room, writing-on, writing-
 use Rattle.writer.proofs.put_rows.Goals as goal
 
 pub loop-k-init : goal.loop-k-init
-loop-k-init c = writing_start (tables_of c.args.rows.now c.args.letters.now c.args.islands.now c.args.points.now) _ _ _ c.requires.0 c.requires.1
+loop-k-init c = writing_start (tables_of c.args.rows.now c.args.letters.now c.args.islands.now c.args.points.now) _ _ _ c.requires.points_value c.requires.points_in_bounds
 
 pub offset_bounds-rows-r : goal.offset_bounds-rows-r
 offset_bounds-rows-r c = omega (arith, c.loop-k.invariant.walk.stands.row_in)
@@ -56,7 +56,7 @@ pub slice_bounds-put_row-end-in-loop-k-3 : goal.slice_bounds-put_row-end-in-loop
 slice_bounds-put_row-end-in-loop-k-3 c = omega (arith, c.loop-k.invariant.walk.stands.points-in)
 
 pub put_row-next-requires : goal.put_row-next-requires
-put_row-next-requires c = (walk-made c.loop-k.invariant.walk c.loop-k-test.true, writing-room c.loop-k.invariant c.loop-k-test.true)
+put_row-next-requires c = record { points_value = walk-made c.loop-k.invariant.walk c.loop-k-test.true; points_in_bounds = writing-room c.loop-k.invariant c.loop-k-test.true }
 
 pub loop-k-preserved : goal.loop-k-preserved
 loop-k-preserved c = writing-on c.loop-k.invariant c.loop-k-test.true (c.stand_next-d.ensures ∙ after_next _ _ c.loop-k.invariant.walk.stands.row_in (stands-small (walk-stands c.loop-k.invariant.walk c.loop-k-test.true) (omega arith) (omega arith) (omega arith) (omega arith))) c.put_row-next.ensures

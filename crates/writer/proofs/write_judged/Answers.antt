@@ -5,13 +5,13 @@ use Rattle.writer.proofs.SheetWays.{wrote-long, wrote-tight, wrote-room, wrote-w
 use Rattle.writer.proofs.write_judged.Goals as goal
 
 pub returns-then-needed-gt-FILE_MOST : goal.returns-then-needed-gt-FILE_MOST
-returns-then-needed-gt-FILE_MOST c = (wrote-long _ (length c.args.out.now) _ c.sheet_length-needed.ensures c.if-needed-gt-FILE_MOST.true, refl)
+returns-then-needed-gt-FILE_MOST c = record { value = wrote-long _ (length c.args.out.now) _ c.sheet_length-needed.ensures c.if-needed-gt-FILE_MOST.true; out_after = refl }
 
 pub returns-then-needed-out : goal.returns-then-needed-out
-returns-then-needed-out c = (wrote-tight _ (length c.args.out.now) _ c.sheet_length-needed.ensures c.if-needed-gt-FILE_MOST.false c.if-needed-out.true, refl)
+returns-then-needed-out c = record { value = wrote-tight _ (length c.args.out.now) _ c.sheet_length-needed.ensures c.if-needed-gt-FILE_MOST.false c.if-needed-out.true; out_after = refl }
 
 pub put_sheet-requires : goal.put_sheet-requires
-put_sheet-requires c = (c.requires, wrote-room _ (length c.args.out.now) _ c.sheet_length-needed.ensures c.if-needed-gt-FILE_MOST.false c.if-needed-out.false)
+put_sheet-requires c = record { points_value = c.requires; points_in_bounds = wrote-room _ (length c.args.out.now) _ c.sheet_length-needed.ensures c.if-needed-gt-FILE_MOST.false c.if-needed-out.false }
 
 pub returns : goal.returns
-returns c = (wrote-whole _ (length c.args.out.now) _ c.sheet_length-needed.ensures c.if-needed-gt-FILE_MOST.false c.if-needed-out.false, c.put_sheet.ensures)
+returns c = record { value = wrote-whole _ (length c.args.out.now) _ c.sheet_length-needed.ensures c.if-needed-gt-FILE_MOST.false c.if-needed-out.false; out_after = c.put_sheet.ensures }

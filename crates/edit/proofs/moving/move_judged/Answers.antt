@@ -12,16 +12,16 @@ use Rattle.edit.proofs.SheetMoves.{off-x, off-y, both-parts, off-rows, off-point
 use Rattle.edit.proofs.moving.move_judged.Goals as goal
 
 pub returns-then-not-is_part : goal.returns-then-not-is_part
-returns-then-not-is_part c = (off-x _ _ c.args.count c.args.rows.now c.args.points.now c.ranges.dx c.ranges.dy _ c.is_part.ensures (ap not c.if-not-is_part.true), (refl, refl))
+returns-then-not-is_part c = record { value = off-x _ _ c.args.count c.args.rows.now c.args.points.now c.ranges.dx c.ranges.dy _ c.is_part.ensures (ap not c.if-not-is_part.true); rows_after = refl; points_after = refl }
 
 pub returns-then-not-is_part-2 : goal.returns-then-not-is_part-2
-returns-then-not-is_part-2 c = (off-y _ _ c.args.count c.args.rows.now c.args.points.now c.ranges.dx c.ranges.dy _ c.is_part.ensures (ap not c.if-not-is_part.false) _ c.is_part-2.ensures (ap not c.if-not-is_part-2.true), (refl, refl))
+returns-then-not-is_part-2 c = record { value = off-y _ _ c.args.count c.args.rows.now c.args.points.now c.ranges.dx c.ranges.dy _ c.is_part.ensures (ap not c.if-not-is_part.false) _ c.is_part-2.ensures (ap not c.if-not-is_part-2.true); rows_after = refl; points_after = refl }
 
 pub rows_stay-requires : goal.rows_stay-requires
 rows_stay-requires c = (c.requires.0, (both-parts _ _ c.args.count c.args.rows.now c.args.points.now c.ranges.dx c.ranges.dy _ c.is_part.ensures (ap not c.if-not-is_part.false) _ c.is_part-2.ensures (ap not c.if-not-is_part-2.false)).0, (both-parts _ _ c.args.count c.args.rows.now c.args.points.now c.ranges.dx c.ranges.dy _ c.is_part.ensures (ap not c.if-not-is_part.false) _ c.is_part-2.ensures (ap not c.if-not-is_part-2.false)).1)
 
 pub returns-then-not-rows_stay : goal.returns-then-not-rows_stay
-returns-then-not-rows_stay c = (off-rows _ _ c.args.count c.args.rows.now c.args.points.now c.ranges.dx c.ranges.dy _ c.is_part.ensures (ap not c.if-not-is_part.false) _ c.is_part-2.ensures (ap not c.if-not-is_part-2.false) _ c.rows_stay.ensures (ap not c.if-not-rows_stay.true), (refl, refl))
+returns-then-not-rows_stay c = record { value = off-rows _ _ c.args.count c.args.rows.now c.args.points.now c.ranges.dx c.ranges.dy _ c.is_part.ensures (ap not c.if-not-is_part.false) _ c.is_part-2.ensures (ap not c.if-not-is_part-2.false) _ c.rows_stay.ensures (ap not c.if-not-rows_stay.true); rows_after = refl; points_after = refl }
 
 pub vertices_of-v-requires : goal.vertices_of-v-requires
 vertices_of-v-requires c = (c.requires.0, omega (arith, c.requires.1))
@@ -39,7 +39,7 @@ pub points_stay-requires : goal.points_stay-requires
 points_stay-requires c = (length-take-le (2 * c.vertices_of-v.result) c.args.points.now (omega (arith, c.requires.1, c.vertices_of-v.ensures)), (both-parts _ _ c.args.count c.args.rows.now c.args.points.now c.ranges.dx c.ranges.dy _ c.is_part.ensures (ap not c.if-not-is_part.false) _ c.is_part-2.ensures (ap not c.if-not-is_part-2.false)).0, (both-parts _ _ c.args.count c.args.rows.now c.args.points.now c.ranges.dx c.ranges.dy _ c.is_part.ensures (ap not c.if-not-is_part.false) _ c.is_part-2.ensures (ap not c.if-not-is_part-2.false)).1)
 
 pub returns-then-not-points_stay : goal.returns-then-not-points_stay
-returns-then-not-points_stay c = (off-points _ _ c.args.count c.args.rows.now c.args.points.now c.ranges.dx c.ranges.dy _ c.is_part.ensures (ap not c.if-not-is_part.false) _ c.is_part-2.ensures (ap not c.if-not-is_part-2.false) _ c.rows_stay.ensures (ap not c.if-not-rows_stay.false) _ c.vertices_of-v.ensures _ c.points_stay.ensures (ap not c.if-not-points_stay.true), (refl, refl))
+returns-then-not-points_stay c = record { value = off-points _ _ c.args.count c.args.rows.now c.args.points.now c.ranges.dx c.ranges.dy _ c.is_part.ensures (ap not c.if-not-is_part.false) _ c.is_part-2.ensures (ap not c.if-not-is_part-2.false) _ c.rows_stay.ensures (ap not c.if-not-rows_stay.false) _ c.vertices_of-v.ensures _ c.points_stay.ensures (ap not c.if-not-points_stay.true); rows_after = refl; points_after = refl }
 
 pub move_rows-requires : goal.move_rows-requires
 move_rows-requires c = (c.requires.0, sym c.rows_stay.ensures ∙ not-false _ (ap not c.if-not-rows_stay.false))
@@ -60,4 +60,4 @@ pub shape_of-points : goal.shape_of-points
 shape_of-points c = points-length _ _ c.args.count c.args.rows.now c.args.points.now c.ranges.dx c.ranges.dy _ c.vertices_of-v.ensures c.requires.1 _ c.move_points.ensures
 
 pub returns : goal.returns
-returns c = (all_stay _ _ c.args.count c.args.rows.now c.args.points.now c.ranges.dx c.ranges.dy _ c.is_part.ensures (ap not c.if-not-is_part.false) _ c.is_part-2.ensures (ap not c.if-not-is_part-2.false) _ c.rows_stay.ensures (ap not c.if-not-rows_stay.false) _ c.vertices_of-v.ensures _ c.points_stay.ensures (ap not c.if-not-points_stay.false), (rows_left _ _ c.args.count c.args.rows.now c.args.points.now c.ranges.dx c.ranges.dy _ c.move_rows.ensures, points-left _ _ c.args.count c.args.rows.now c.args.points.now c.ranges.dx c.ranges.dy _ c.vertices_of-v.ensures c.requires.1 _ c.move_points.ensures))
+returns c = record { value = all_stay _ _ c.args.count c.args.rows.now c.args.points.now c.ranges.dx c.ranges.dy _ c.is_part.ensures (ap not c.if-not-is_part.false) _ c.is_part-2.ensures (ap not c.if-not-is_part-2.false) _ c.rows_stay.ensures (ap not c.if-not-rows_stay.false) _ c.vertices_of-v.ensures _ c.points_stay.ensures (ap not c.if-not-points_stay.false); rows_after = rows_left _ _ c.args.count c.args.rows.now c.args.points.now c.ranges.dx c.ranges.dy _ c.move_rows.ensures; points_after = points-left _ _ c.args.count c.args.rows.now c.args.points.now c.ranges.dx c.ranges.dy _ c.vertices_of-v.ensures c.requires.1 _ c.move_points.ensures }

@@ -75,4 +75,4 @@ pub shape_of-points : goal.shape_of-points
 shape_of-points c = ap length c.close_numbers.ensures ∙ length-closed _ _ _ _ (points-asks c.args.count c.args.row (tables_of c.args.rows.now c.args.letters.now c.args.islands.now c.args.points.now) c.requires.0 c.requires.1 c.args.d c.requires.2 c.end_of-end.result c.end_of-end.ensures _ c.counted-v.ensures.0)
 
 pub returns : goal.returns
-returns c = (rows-done c.args.count c.args.row (tables_of c.args.rows.now c.args.letters.now c.args.islands.now c.args.points.now) c.requires.0 c.requires.1 c.args.d c.requires.2 c.end_of-end.result c.end_of-end.ensures _ c.close_numbers-2.ensures _ _ _ c.counted-l.ensures.0 c.counted-i.ensures.0 c.counted-v.ensures.0 _ c.lower_rows.ensures, (letters-done c.args.count c.args.row (tables_of c.args.rows.now c.args.letters.now c.args.islands.now c.args.points.now) c.requires.0 c.requires.1 c.args.d c.requires.2 c.end_of-end.result c.end_of-end.ensures _ c.counted-l.ensures.0 _ c.close_letters.ensures, (islands-done c.args.count c.args.row (tables_of c.args.rows.now c.args.letters.now c.args.islands.now c.args.points.now) c.requires.0 c.requires.1 c.args.d c.requires.2 c.end_of-end.result c.end_of-end.ensures _ c.counted-i.ensures.0 _ c.close_islands.ensures, points-done c.args.count c.args.row (tables_of c.args.rows.now c.args.letters.now c.args.islands.now c.args.points.now) c.requires.0 c.requires.1 c.args.d c.requires.2 c.end_of-end.result c.end_of-end.ensures _ c.counted-v.ensures.0 _ c.close_numbers.ensures)))
+returns c = record { rows_after = rows-done c.args.count c.args.row (tables_of c.args.rows.now c.args.letters.now c.args.islands.now c.args.points.now) c.requires.0 c.requires.1 c.args.d c.requires.2 c.end_of-end.result c.end_of-end.ensures _ c.close_numbers-2.ensures _ _ _ c.counted-l.ensures.0 c.counted-i.ensures.0 c.counted-v.ensures.0 _ c.lower_rows.ensures; letters_after = letters-done c.args.count c.args.row (tables_of c.args.rows.now c.args.letters.now c.args.islands.now c.args.points.now) c.requires.0 c.requires.1 c.args.d c.requires.2 c.end_of-end.result c.end_of-end.ensures _ c.counted-l.ensures.0 _ c.close_letters.ensures; islands_after = islands-done c.args.count c.args.row (tables_of c.args.rows.now c.args.letters.now c.args.islands.now c.args.points.now) c.requires.0 c.requires.1 c.args.d c.requires.2 c.end_of-end.result c.end_of-end.ensures _ c.counted-i.ensures.0 _ c.close_islands.ensures; points_after = points-done c.args.count c.args.row (tables_of c.args.rows.now c.args.letters.now c.args.islands.now c.args.points.now) c.requires.0 c.requires.1 c.args.d c.requires.2 c.end_of-end.result c.end_of-end.ensures _ c.counted-v.ensures.0 _ c.close_numbers.ensures }

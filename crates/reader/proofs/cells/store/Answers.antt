@@ -5,43 +5,43 @@ use borrow.Author.Tests.{eq-eqb, ne_eqb}
 use Rattle.reader.proofs.cells.store.Goals as goal
 
 pub overflow_mul-a : goal.overflow_mul-a
-overflow_mul-a c = omega (arith, rw c.in-Due.is at c.requires.1)
+overflow_mul-a c = omega (arith, rw c.in-Due.is at c.requires.put_room)
 
 pub put_row-requires : goal.put_row-requires
-put_row-requires c = (rw c.in-Due.is at c.requires.1, c.requires.0.0, c.requires.0.2)
+put_row-requires c = (rw c.in-Due.is at c.requires.put_room, c.requires.t_le_token_most.0, c.requires.t_le_token_most.2)
 
 pub overflow_sub-a : goal.overflow_sub-a
-overflow_sub-a c = omega (arith, rw c.in-Field.is at c.requires.1)
+overflow_sub-a c = omega (arith, rw c.in-Field.is at c.requires.put_room)
 
 pub overflow_mul-a-in-Field : goal.overflow_mul-a-in-Field
-overflow_mul-a-in-Field c = omega (arith, rw c.in-Field.is at c.requires.1)
+overflow_mul-a-in-Field c = omega (arith, rw c.in-Field.is at c.requires.put_room)
 
 pub overflow_add-a : goal.overflow_add-a
-overflow_add-a c = omega (arith, rw c.in-Field.is at c.requires.1)
+overflow_add-a c = omega (arith, rw c.in-Field.is at c.requires.put_room)
 
 pub put_field-requires : goal.put_field-requires
-put_field-requires c = omega (arith, rw c.in-Field.is at c.requires.1, c.requires.0.0)
+put_field-requires c = omega (arith, rw c.in-Field.is at c.requires.put_room, c.requires.t_le_token_most.0)
 
 pub put_word-requires : goal.put_word-requires
-put_word-requires c = (rw (c.in-Field.is, eq-eqb _ _ c.if-place-eq-LETTERS_PLACE.true) at c.requires.1).3
+put_word-requires c = (rw (c.in-Field.is, eq-eqb _ _ c.if-place-eq-LETTERS_PLACE.true) at c.requires.put_room).3
 
 pub put_island-requires : goal.put_island-requires
-put_island-requires c = omega (arith, rw c.in-Island.is at c.requires.1, rw c.in-Island.is at c.requires.0.1)
+put_island-requires c = omega (arith, rw c.in-Island.is at c.requires.put_room, rw c.in-Island.is at c.requires.t_le_token_most.1)
 
 pub overflow_mul-np : goal.overflow_mul-np
-overflow_mul-np c = omega (arith, rw c.in-X.is at c.requires.1)
+overflow_mul-np c = omega (arith, rw c.in-X.is at c.requires.put_room)
 
 pub put_real-requires : goal.put_real-requires
-put_real-requires c = omega (arith, rw c.in-X.is at c.requires.1, c.requires.0.0)
+put_real-requires c = omega (arith, rw c.in-X.is at c.requires.put_room, c.requires.t_le_token_most.0)
 
 pub overflow_mul-np-in-Y : goal.overflow_mul-np-in-Y
-overflow_mul-np-in-Y c = omega (arith, rw c.in-Y.is at c.requires.1)
+overflow_mul-np-in-Y c = omega (arith, rw c.in-Y.is at c.requires.put_room)
 
 pub overflow_add-np : goal.overflow_add-np
-overflow_add-np c = omega (arith, rw c.in-Y.is at c.requires.1)
+overflow_add-np c = omega (arith, rw c.in-Y.is at c.requires.put_room)
 
 pub put_real-requires-in-Y : goal.put_real-requires-in-Y
-put_real-requires-in-Y c = omega (arith, rw c.in-Y.is at c.requires.1, c.requires.0.0)
+put_real-requires-in-Y c = omega (arith, rw c.in-Y.is at c.requires.put_room, c.requires.t_le_token_most.0)
 
 pub returns-in-Due : goal.returns-in-Due
 returns-in-Due c = rw c.in-Due.is (c.put_row.ensures, (refl, (refl, refl)))

@@ -7,7 +7,7 @@ pub returns-then-left-lt2 : goal.returns-then-left-lt2
 returns-then-left-lt2 c = still
 
 pub fresh_into-requires : goal.fresh_into-requires
-fresh_into-requires c = (c.requires, (c.in-X.is, c.if-fresh.true, c.if-left-lt2.false))
+fresh_into-requires c = record { in_file = c.requires; state_value = (c.in-X.is, c.if-fresh.true, c.if-left-lt2.false) }
 
 pub returns-then-fresh : goal.returns-then-fresh
 returns-then-fresh c = c.fresh_into.ensures

@@ -50,7 +50,7 @@ returns-then-not-holds_head c = rowing-puts c.args.d c.requires.2 c.loop-mode.in
 
 -- src/whole_rows.rt:231:9
 pub head_into-requires : goal.head_into-requires
-head_into-requires c = (store_asks c.loop-mode.invariant c.head_at-h.result c.head_at-h.ensures c.if-next-eq0.false, (c.holds_head.ensures (not-false c.holds_head.result (ap not c.if-not-holds_head.false))))
+head_into-requires c = record { head_few = store_asks c.loop-mode.invariant c.head_at-h.result c.head_at-h.ensures c.if-next-eq0.false; row_width_in_bounds = (c.holds_head.ensures (not-false c.holds_head.result (ap not c.if-not-holds_head.false))) }
 
 -- src/whole_rows.rt:234:13
 pub row_more-behind-requires : goal.row_more-behind-requires
@@ -58,7 +58,7 @@ row_more-behind-requires c = row-asks (c.loop-mode.invariant []).within c.head_a
 
 -- src/whole_rows.rt:235:13
 pub only_into-end-requires : goal.only_into-end-requires
-only_into-end-requires c = (ring-asks (c.loop-mode.invariant []).within c.head_at-h.result c.head_at-h.ensures c.if-next-eq0.false, into-asks c.loop-mode.invariant c.head_at-h.result c.head_at-h.ensures c.if-next-eq0.false)
+only_into-end-requires c = record { at_in_bounds = ring-asks (c.loop-mode.invariant []).within c.head_at-h.result c.head_at-h.ensures c.if-next-eq0.false; usual = into-asks c.loop-mode.invariant c.head_at-h.result c.head_at-h.ensures c.if-next-eq0.false }
 
 -- src/whole_rows.rt:238:42
 pub overflow_add-nth : goal.overflow_add-nth
@@ -78,7 +78,7 @@ shape_of-points-then-end-eq0 c = c.only_into-end.auto.1.1.1.1.1.0 ∙ (c.loop-mo
 
 -- src/whole_rows.rt:238:13
 pub returns-then-end-eq0 : goal.returns-then-end-eq0
-returns-then-end-eq0 c = rowing-puts c.args.d c.requires.2 (put-behind c.loop-mode.invariant c.head_at-h.result c.head_at-h.ensures c.if-next-eq0.false _ _ c.head_into.ensures.0 c.head_into.ensures.1 _ _ c.only_into-end.ensures c.head_into.auto.1.1.1.0 c.head_into.auto.1.1.1.1.0 c.only_into-end.auto.1.1.1.1.1.0 c.if-end-eq0.true _ c.opened-state.ensures _ c.row_more-behind.ensures) _ c.stand_of-then-end-eq0.ensures
+returns-then-end-eq0 c = rowing-puts c.args.d c.requires.2 (put-behind c.loop-mode.invariant c.head_at-h.result c.head_at-h.ensures c.if-next-eq0.false _ _ c.head_into.ensures.rows_after c.head_into.ensures.letters_after _ _ c.only_into-end.ensures c.head_into.auto.1.1.1.0 c.head_into.auto.1.1.1.1.0 c.only_into-end.auto.1.1.1.1.1.0 c.if-end-eq0.true _ c.opened-state.ensures _ c.row_more-behind.ensures) _ c.stand_of-then-end-eq0.ensures
 
 -- src/whole_rows.rt:241:15
 pub overflow_add-nth-in-loop-mode : goal.overflow_add-nth-in-loop-mode
@@ -86,20 +86,20 @@ overflow_add-nth-in-loop-mode c = omega (arith, nth-asks (c.loop-mode.invariant 
 
 -- src/whole_rows.rt:241:33
 pub overflow_mul-nth : goal.overflow_mul-nth
-overflow_mul-nth c = omega (arith, (end-asks (c.loop-mode.invariant []).within c.head_at-h.result c.head_at-h.ensures c.if-next-eq0.false _ (into-turns c.loop-mode.invariant c.head_at-h.result c.head_at-h.ensures c.if-next-eq0.false _ _ c.head_into.ensures.0 c.head_into.ensures.1 _ _ c.only_into-end.ensures c.if-end-eq0.false)).0)
+overflow_mul-nth c = omega (arith, (end-asks (c.loop-mode.invariant []).within c.head_at-h.result c.head_at-h.ensures c.if-next-eq0.false _ (into-turns c.loop-mode.invariant c.head_at-h.result c.head_at-h.ensures c.if-next-eq0.false _ _ c.head_into.ensures.rows_after c.head_into.ensures.letters_after _ _ c.only_into-end.ensures c.if-end-eq0.false)).0)
 
 -- src/whole_rows.rt:241:15
 pub overflow_add-nth-in-loop-mode-2 : goal.overflow_add-nth-in-loop-mode-2
-overflow_add-nth-in-loop-mode-2 c = omega (arith, (end-asks (c.loop-mode.invariant []).within c.head_at-h.result c.head_at-h.ensures c.if-next-eq0.false _ (into-turns c.loop-mode.invariant c.head_at-h.result c.head_at-h.ensures c.if-next-eq0.false _ _ c.head_into.ensures.0 c.head_into.ensures.1 _ _ c.only_into-end.ensures c.if-end-eq0.false)).1)
+overflow_add-nth-in-loop-mode-2 c = omega (arith, (end-asks (c.loop-mode.invariant []).within c.head_at-h.result c.head_at-h.ensures c.if-next-eq0.false _ (into-turns c.loop-mode.invariant c.head_at-h.result c.head_at-h.ensures c.if-next-eq0.false _ _ c.head_into.ensures.rows_after c.head_into.ensures.letters_after _ _ c.only_into-end.ensures c.if-end-eq0.false)).1)
 
 -- src/whole_rows.rt:243:9
 pub points_more-needs-requires : goal.points_more-needs-requires
-points_more-needs-requires c = rw c.row_more-behind.ensures (end-asks (c.loop-mode.invariant []).within c.head_at-h.result c.head_at-h.ensures c.if-next-eq0.false _ (into-turns c.loop-mode.invariant c.head_at-h.result c.head_at-h.ensures c.if-next-eq0.false _ _ c.head_into.ensures.0 c.head_into.ensures.1 _ _ c.only_into-end.ensures c.if-end-eq0.false)).2
+points_more-needs-requires c = rw c.row_more-behind.ensures (end-asks (c.loop-mode.invariant []).within c.head_at-h.result c.head_at-h.ensures c.if-next-eq0.false _ (into-turns c.loop-mode.invariant c.head_at-h.result c.head_at-h.ensures c.if-next-eq0.false _ _ c.head_into.ensures.rows_after c.head_into.ensures.letters_after _ _ c.only_into-end.ensures c.if-end-eq0.false)).2
 
 -- src/whole_rows.rt:216:5
 pub loop-mode-smaller : goal.loop-mode-smaller
-loop-mode-smaller c = end-less (c.loop-mode.invariant []).within c.head_at-h.result c.head_at-h.ensures c.if-next-eq0.false _ (into-turns c.loop-mode.invariant c.head_at-h.result c.head_at-h.ensures c.if-next-eq0.false _ _ c.head_into.ensures.0 c.head_into.ensures.1 _ _ c.only_into-end.ensures c.if-end-eq0.false)
+loop-mode-smaller c = end-less (c.loop-mode.invariant []).within c.head_at-h.result c.head_at-h.ensures c.if-next-eq0.false _ (into-turns c.loop-mode.invariant c.head_at-h.result c.head_at-h.ensures c.if-next-eq0.false _ _ c.head_into.ensures.rows_after c.head_into.ensures.letters_after _ _ c.only_into-end.ensures c.if-end-eq0.false)
 
 -- src/whole_rows.rt:216:5
 pub loop-mode-preserved : goal.loop-mode-preserved
-loop-mode-preserved c = put-again c.loop-mode.invariant c.head_at-h.result c.head_at-h.ensures c.if-next-eq0.false _ _ c.head_into.ensures.0 c.head_into.ensures.1 _ _ c.only_into-end.ensures c.head_into.auto.1.1.1.0 c.head_into.auto.1.1.1.1.0 c.only_into-end.auto.1.1.1.1.1.0 c.if-end-eq0.false _ _ c.row_more-behind.ensures c.points_more-needs.ensures
+loop-mode-preserved c = put-again c.loop-mode.invariant c.head_at-h.result c.head_at-h.ensures c.if-next-eq0.false _ _ c.head_into.ensures.rows_after c.head_into.ensures.letters_after _ _ c.only_into-end.ensures c.head_into.auto.1.1.1.0 c.head_into.auto.1.1.1.1.0 c.only_into-end.auto.1.1.1.1.1.0 c.if-end-eq0.false _ _ c.row_more-behind.ensures c.points_more-needs.ensures

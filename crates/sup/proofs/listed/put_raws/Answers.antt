@@ -8,13 +8,13 @@ use Rattle.sup.proofs.RawPuts.{raws-start, raws-end, raws-fits, raws-narrow, raw
 use Rattle.sup.proofs.listed.put_raws.Goals as goal
 
 pub loop-k-init : goal.loop-k-init
-loop-k-init c = raws-start c.args.header c.args.count (tables_of c.args.rows.now c.args.letters.now c.args.islands.now c.args.points.now) c.args.out.now c.args.at c.requires.0 c.requires.1.0 c.requires.1.1
+loop-k-init c = raws-start c.args.header c.args.count (tables_of c.args.rows.now c.args.letters.now c.args.islands.now c.args.points.now) c.args.out.now c.args.at c.requires.points_value c.requires.points_value_2.0 c.requires.points_value_2.1
 
 pub is_in_sup-requires : goal.is_in_sup-requires
 is_in_sup-requires c = tt
 
 pub put_raw-next-requires : goal.put_raw-next-requires
-put_raw-next-requires c = let g = c.loop-k.invariant in let e = c.loop-k-test.true in let q = c.is_in_sup.ensures ∙ listed-own c.args.header c.args.rows.now c.args.letters.now c.args.islands.now c.args.points.now c.loop-k.d in let f = c.if-is_in_sup.true in ((raws-fits g e _ q f, raws-narrow g e _ q f), raws-room g e _ q f)
+put_raw-next-requires c = let g = c.loop-k.invariant in let e = c.loop-k-test.true in let q = c.is_in_sup.ensures ∙ listed-own c.args.header c.args.rows.now c.args.letters.now c.args.islands.now c.args.points.now c.loop-k.d in let f = c.if-is_in_sup.true in record { d_len_bound = (raws-fits g e _ q f, raws-narrow g e _ q f); d_in_bounds = raws-room g e _ q f }
 
 pub stand_next-d-requires : goal.stand_next-d-requires
 stand_next-d-requires c = tt

@@ -14,4 +14,4 @@ pub overflow_add-next : goal.overflow_add-next
 overflow_add-next c = let h = figure-end _ _ _ _ c.requires.2 c.requires.3 c.put_left-next.ensures in omega (arith, h)
 
 pub returns : goal.returns
-returns c = stored_last (line-ending _ _ _ _ c.requires.2 c.figure-1.given c.requires.3 c.put_left-next.ensures _ c.spell_figure.ensures.0 _ c.spell_figure.ensures.1) c.put_bytes.ensures
+returns c = stored_last (line-ending _ _ _ _ c.requires.2 c.figure-1.given c.requires.3 c.put_left-next.ensures _ c.spell_figure.ensures.value _ c.spell_figure.ensures.out_after) c.put_bytes.ensures

@@ -10,4 +10,4 @@ pub overflow_sub-figure : goal.overflow_sub-figure
 overflow_sub-figure c = lowered-asks _ _ c.requires _ c.number_from.ensures.0 c.number_from.ensures.1
 
 pub returns : goal.returns
-returns c = figured-stored _ _ c.requires _ c.number_from.ensures.0 c.number_from.ensures.1 _ c.spell_figure.ensures.0 _ c.spell_figure.ensures.1
+returns c = figured-stored _ _ c.requires _ c.number_from.ensures.0 c.number_from.ensures.1 _ c.spell_figure.ensures.value _ c.spell_figure.ensures.out_after

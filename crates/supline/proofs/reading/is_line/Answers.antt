@@ -7,4 +7,4 @@ use Rattle.supline.proofs.ReadingWays.{figure-spelt}
 use Rattle.supline.proofs.reading.is_line.Goals as goal
 
 pub returns : goal.returns
-returns c = c.is_fields.ensures ∙ ap (λ (o : List ℕ). is_fields c.args.name.now o c.args.s.now) (figure-spelt c.args.figure c.requires c.ranges.figure.sfits _ c.spell_figure.ensures.0 _ c.spell_figure.ensures.1)
+returns c = c.is_fields.ensures ∙ ap (λ (o : List ℕ). is_fields c.args.name.now o c.args.s.now) (figure-spelt c.args.figure c.requires c.ranges.figure.sfits _ c.spell_figure.ensures.value _ c.spell_figure.ensures.out_after)
