@@ -199,7 +199,7 @@ fn xor_edge(
     cell: usize,
 )
     requires { (length rows.old ≡ grid_side) × (2 * (v + 1) + 1 < length points.now) × (near-corner points.now cx cy v ≡ true) × (near-corner points.now cx cy (v + 1) ≡ true) × RowsTo cell (southward points.now cy v) at × RowsTo cell (southward points.now cy (v + 1)) next × (0 < cell) × (cell ≤ most_side) }
-    ensures* { λ r. ⌜ Xored rows.old rows.new (λ r c. edge-counts points.now v (centre-x cx cell c) (centre-y cy cell r)) ⌝ }
+    ensures { Xored rows.old rows.new (λ r c. edge-counts points.now v (centre-x cx cell c) (centre-y cy cell r)) }
 {
     if at < next {
         xor_down(rows, points, v, v + 1, at, next, cx, cy, cell);

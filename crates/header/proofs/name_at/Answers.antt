@@ -29,7 +29,8 @@ pub overflow_add-at : goal.overflow_add-at
 overflow_add-at c = search (line-ways, named-ways, rules)
 
 pub slice_bounds-copied-end : goal.slice_bounds-copied-end
-slice_bounds-copied-end c = slice_bounds-is_name-end c
+slice_bounds-copied-end c =
+    word-ends _ _ _ _ c.line_at.ensures c.requires _ _ c.in-Got.is _ c.word_of.ensures _ _ c.in-Is.is
 
 pub copied-requires : goal.copied-requires
 copied-requires c = name-held _ _ _ c.is_name.ensures (ap not c.if-not-is_name.false)

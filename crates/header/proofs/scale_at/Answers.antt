@@ -23,4 +23,4 @@ returns-in-Bad c = search (line-ways, scale-ways, rules)
 
 pub returns-else-scale-le0 : goal.returns-else-scale-le0
 returns-else-scale-le0 c =
-    scale-is _ _ _ _ _ _ c.line_at.ensures _ _ c.in-Got.is _ c.real.ensures _ c.in-Is.is (record { sfits = c.known_told-in-Is-1.given.0.1 }) c.if-scale-le0.false
+    scale-is _ _ _ _ _ _ c.line_at.ensures _ _ c.in-Got.is _ c.real.ensures _ c.in-Is.is (search rules) c.if-scale-le0.false

@@ -20,29 +20,21 @@ bounds-text-at c = placing-at _ _ _ _ _ _ c.loop-rest.invariant
 pub tens-requires : goal.tens-requires
 tens-requires c = omega arith
 
--- the last digit, and that there are two
-module _ (c : tie.After-tens invariant-loop decreases-loop) where
-  last : c.ones.result ≡ 48 + c.loop-rest.rest % 10
-  last = omega (arith, c.ones.ensures)
-
-  more : 10 ≤ c.loop-rest.rest
-  more = omega (arith, c.loop-rest-test.true)
-
 pub overflow_sub-text-in-loop-rest : goal.overflow_sub-text-in-loop-rest
-overflow_sub-text-in-loop-rest c = two-room _ _ _ _ _ _ c.loop-rest.invariant _ (last c) (more c)
+overflow_sub-text-in-loop-rest c = two-room _ _ _ _ _ _ c.loop-rest.invariant c.ones.result (omega (arith, c.ones.ensures)) (omega (arith, c.loop-rest-test.true))
 
 pub bounds-text-at-in-loop-rest : goal.bounds-text-at-in-loop-rest
-bounds-text-at-in-loop-rest c = two_at _ _ _ _ _ _ c.loop-rest.invariant _ (last c) (more c)
+bounds-text-at-in-loop-rest c = two_at _ _ _ _ _ _ c.loop-rest.invariant c.ones.result (omega (arith, c.ones.ensures)) (omega (arith, c.loop-rest-test.true))
 
 pub overflow_sub-at : goal.overflow_sub-at
-overflow_sub-at c = two-room _ _ _ _ _ _ c.loop-rest.invariant _ (last c) (more c)
+overflow_sub-at c = two-room _ _ _ _ _ _ c.loop-rest.invariant c.ones.result (omega (arith, c.ones.ensures)) (omega (arith, c.loop-rest-test.true))
 
 pub loop-rest-smaller : goal.loop-rest-smaller
 loop-rest-smaller c = omega arith
 
 pub loop-rest-preserved : goal.loop-rest-preserved
 loop-rest-preserved c =
-    placing-two _ _ _ _ _ _ c.loop-rest.invariant _ (last c) (more c) _ (omega (arith, c.tens.ensures))
+    placing-two _ _ _ _ _ _ c.loop-rest.invariant c.ones.result (omega (arith, c.ones.ensures)) (omega (arith, c.loop-rest-test.true)) _ (omega (arith, c.tens.ensures))
     c.loop-rest-test.true
 
 pub put_lead-requires : goal.put_lead-requires

@@ -1,23 +1,20 @@
 -- `put_lead` meets its contract: one step of `Placing`, or two.
 use native.Mathlib.Omega.{arith}
-use Rattle.spelling.proofs.Ways.{Placing, placing-start, placing-end, two-room, two_at, placing-both}
+use Rattle.spelling.proofs.Ways.{placing-start, placing-end, two-room, two_at, placing-both}
 use Rattle.spelling.proofs.put_lead.Goals as goal
 
-start : (s : tie.Start) → Placing s.args.text.now s.args.end s.args.n s.args.text.now s.args.end s.args.n
-start s = placing-start s.args.text.now s.args.end s.args.n s.requires.0 s.requires.1 s.requires.2
-
 pub returns-then-n-lt10 : goal.returns-then-n-lt10
-returns-then-n-lt10 c = placing-end _ _ _ _ _ _ (start c) _ c.glyph.ensures c.if-n-lt10.true
+returns-then-n-lt10 c = placing-end _ _ _ _ _ _ (placing-start c.args.text.now c.args.end c.args.n c.requires.0 c.requires.1 c.requires.2) _ c.glyph.ensures c.if-n-lt10.true
 
 pub overflow_sub-text-3 : goal.overflow_sub-text-3
-overflow_sub-text-3 c = two-room _ _ _ _ _ _ (start c) _ c.ones.ensures c.if-n-lt10.false
+overflow_sub-text-3 c = two-room _ _ _ _ _ _ (placing-start c.args.text.now c.args.end c.args.n c.requires.0 c.requires.1 c.requires.2) _ c.ones.ensures c.if-n-lt10.false
 
 pub bounds-text-end-3 : goal.bounds-text-end-3
-bounds-text-end-3 c = two_at _ _ _ _ _ _ (start c) _ c.ones.ensures c.if-n-lt10.false
+bounds-text-end-3 c = two_at _ _ _ _ _ _ (placing-start c.args.text.now c.args.end c.args.n c.requires.0 c.requires.1 c.requires.2) _ c.ones.ensures c.if-n-lt10.false
 
 pub overflow_sub-result-2 : goal.overflow_sub-result-2
-overflow_sub-result-2 c = two-room _ _ _ _ _ _ (start c) _ c.ones.ensures c.if-n-lt10.false
+overflow_sub-result-2 c = two-room _ _ _ _ _ _ (placing-start c.args.text.now c.args.end c.args.n c.requires.0 c.requires.1 c.requires.2) _ c.ones.ensures c.if-n-lt10.false
 
 pub returns : goal.returns
 returns c =
-    placing-both _ _ _ _ _ _ (start c) _ c.ones.ensures c.if-n-lt10.false _ (omega (arith, c.tens.ensures)) c.requires.3
+    placing-both _ _ _ _ _ _ (placing-start c.args.text.now c.args.end c.args.n c.requires.0 c.requires.1 c.requires.2) _ c.ones.ensures c.if-n-lt10.false _ (omega (arith, c.tens.ensures)) c.requires.3
