@@ -13,14 +13,8 @@ use Rattle.column.specs.contracts.Spot.{the_type}
 use Rattle.column.proofs.StepWays.{free-tail, free_other}
 use Rattle.column.proofs.is_free.Goals as goal
 
-abbrev others : List ℕ
-others = 0 ∷ 1 ∷ 2 ∷ 3 ∷ 4 ∷ 5 ∷ 6 ∷ 7 ∷ 8 ∷ 9 ∷ 10 ∷ 11 ∷ 12 ∷ 13 ∷ []
-
-other : (mode : Mode) (at : Spot) → OneOf others (tag_of the_type at) → false ≡ is_free mode at
-other mode at h = free_other mode at (λ e. miss others 14 tt (subst (λ (x : Spot). OneOf others (tag_of the_type x)) e h))
-
 pub returns-in-Tail : goal.returns-in-Tail
 returns-in-Tail c = search (free-tail, rules)
 
 pub returns-in_default : goal.returns-in_default
-returns-in_default c = other c.args.mode c.args.at c.in-Tail.keys2
+returns-in_default c = free_other c.args.mode c.args.at c.in_default.not-Tail

@@ -8,7 +8,7 @@ use Rattle.column.proofs.placed_real.Goals as goal
 
 pub returns-in-Is : goal.returns-in-Is
 returns-in-Is c =
-    ap PlacedReal.Is (back c.in-Is.z c.known_told-1.given.0.1)
+    ap PlacedReal.Is (back c.in-Is.z (search rules))
     ∙ real-is _ _ _ _ c.real.ensures c.in-Is.is
 
 pub returns-in-Malformed : goal.returns-in-Malformed
