@@ -2,8 +2,6 @@
 use Prim.Native.Nat.{◌+◌, ◌*◌, ◌-◌, ◌≤◌}
 use mathlib.Core.Path.{◌≡◌}
 use lib.ListN.{length, drop}
-use mir.Syntax.{w64}
-use mir.Val.{to_z}
 use Rattle.laws.specs.Whole.{Within}
 use Rattle.plane.specs.declared.Area.TheVariants.{Doubled}
 use Rattle.plane.specs.Rings.{most}
@@ -14,7 +12,7 @@ use Rattle.area.proofs.total_area.Given as goal
 
 abbrev pub invariant-loop-i : goal.invariant-loop-i
 invariant-loop-i l =
-    (l.i ≤ length l.sizes) × (total_from l.points l.from l.sizes ≡ areas_together (Doubled (to_z w64 l.total)) (total_from l.points l.at (drop l.i l.sizes))) × (l.at + sum (drop l.i l.sizes) ≤ most) × Within (l.at * edge-limit) (to_z w64 l.total)
+    (l.i ≤ length l.sizes) × (total_from l.points l.from l.sizes ≡ areas_together (Doubled l.total) (total_from l.points l.at (drop l.i l.sizes))) × (l.at + sum (drop l.i l.sizes) ≤ most) × Within (l.at * edge-limit) l.total
 
 abbrev pub decreases-loop-i : goal.decreases-loop-i
 decreases-loop-i l = length l.sizes - l.i

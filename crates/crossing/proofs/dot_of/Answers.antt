@@ -42,4 +42,4 @@ inner-requires c =
 pub returns : goal.returns
 unfolding dot
 returns c =
-    cc ((ux c).reads, (uy c).reads, (wx c).reads, (wy c).reads, back c.inner.result c.inner.type-inv)
+    cc ((ux c).reads, (uy c).reads, (wx c).reads, (wy c).reads, back c.inner.result c.inner.type_inv)

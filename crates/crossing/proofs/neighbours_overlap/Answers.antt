@@ -13,10 +13,10 @@ pub returns-then-side_of-eq0 : goal.returns-then-side_of-eq0
 unfolding neighbours-overlap
 returns-then-side_of-eq0 c =
     let z = c.side_of in
-    let t : eq_z z.result (pos 0) ≡ true = bits-yes z.result (pos 0) (back z.result z.type-inv) refl c.if-side_of-eq0.true in
+    let t : eq_z z.result (pos 0) ≡ true = bits-yes z.result (pos 0) (back z.result z.type_inv) refl c.if-side_of-eq0.true in
     and-on (eq_z (side c.args.b c.args.a c.args.c) (pos 0)) (lt_z (pos 0) (dot c.args.a c.args.b c.args.c))
     (rw (← z.ensures) t)
-    (cc (back c.dot_of.result c.dot_of.type-inv))
+    (cc (back c.dot_of.result c.dot_of.type_inv))
 
 pub returns : goal.returns
 unfolding neighbours-overlap

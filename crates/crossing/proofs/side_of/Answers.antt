@@ -42,4 +42,4 @@ cross-requires c =
 pub returns : goal.returns
 unfolding side
 returns c =
-    cc ((ux c).reads, (uy c).reads, (wx c).reads, (wy c).reads, back c.cross.result c.cross.type-inv)
+    cc ((ux c).reads, (uy c).reads, (wx c).reads, (wy c).reads, back c.cross.result c.cross.type_inv)

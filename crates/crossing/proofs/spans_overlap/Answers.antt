@@ -12,12 +12,12 @@ unfolding spans-overlap
 returns-then-lower-higher c =
     let a = c.args.a in let b = c.args.b in let cc' = c.args.c in let d = c.args.d in
     and-on (le_z (low_z a b) (high_z cc' d)) (le_z (low_z cc' d) (high_z a b))
-    (cc (to_z-of_z c.ranges.a, to_z-of_z c.ranges.b, to_z-of_z c.ranges.c, to_z-of_z c.ranges.d, back c.lower.result c.lower.type-inv, back c.higher.result c.higher.type-inv))
-    (cc (to_z-of_z c.ranges.a, to_z-of_z c.ranges.b, to_z-of_z c.ranges.c, to_z-of_z c.ranges.d, back c.lower-then-lower-higher.result c.lower-then-lower-higher.type-inv, back c.higher-then-lower-higher.result c.higher-then-lower-higher.type-inv))
+    (cc (to_z-of_z c.ranges.a, to_z-of_z c.ranges.b, to_z-of_z c.ranges.c, to_z-of_z c.ranges.d, back c.lower.result c.lower.type_inv, back c.higher.result c.higher.type_inv))
+    (cc (to_z-of_z c.ranges.a, to_z-of_z c.ranges.b, to_z-of_z c.ranges.c, to_z-of_z c.ranges.d, back c.lower-then-lower-higher.result c.lower-then-lower-higher.type_inv, back c.higher-then-lower-higher.result c.higher-then-lower-higher.type_inv))
 
 pub returns : goal.returns
 unfolding spans-overlap
 returns c =
     let a = c.args.a in let b = c.args.b in let cc' = c.args.c in let d = c.args.d in
     and-off (le_z (low_z a b) (high_z cc' d)) (le_z (low_z cc' d) (high_z a b))
-    (cc (to_z-of_z c.ranges.a, to_z-of_z c.ranges.b, to_z-of_z c.ranges.c, to_z-of_z c.ranges.d, back c.lower.result c.lower.type-inv, back c.higher.result c.higher.type-inv))
+    (cc (to_z-of_z c.ranges.a, to_z-of_z c.ranges.b, to_z-of_z c.ranges.c, to_z-of_z c.ranges.d, back c.lower.result c.lower.type_inv, back c.higher.result c.higher.type_inv))

@@ -15,7 +15,7 @@ pub moment-m-requires : goal.moment-m-requires
 moment-m-requires c = let p = c.requires in let f = c.ranges in crossing-moment-asks _ _ _ _ _ f.nx f.nv f.sx f.sv f.w p.0 p.1 p.2 p.3 p.4 p.5 p.6
 
 pub centres_before-requires : goal.centres_before-requires
-centres_before-requires c = let p = c.requires in let f = c.ranges in crossing-before-asks _ _ _ _ _ f.nx f.nv f.sx f.sv f.w p.0 p.1 p.2 p.3 p.4 p.5 p.6 _ _ _ c.step_of-step.ensures c.moment-m.ensures c.moment-m.type-inv p.7 p.8
+centres_before-requires c = let p = c.requires in let f = c.ranges in crossing-before-asks _ _ _ _ _ f.nx f.nv f.sx f.sv f.w p.0 p.1 p.2 p.3 p.4 p.5 p.6 _ _ _ c.step_of-step.ensures c.moment-m.ensures c.moment-m.type_inv p.7 p.8
 
 pub returns : goal.returns
-returns c = let p = c.requires in let f = c.ranges in crossing-returns _ _ _ _ _ f.nx f.nv f.sx f.sv f.w p.0 p.1 p.2 p.3 p.4 p.5 p.6 _ _ _ c.step_of-step.ensures c.moment-m.ensures c.moment-m.type-inv _ _ c.centres_before.ensures c.west_bits.ensures
+returns c = let p = c.requires in let f = c.ranges in crossing-returns _ _ _ _ _ f.nx f.nv f.sx f.sv f.w p.0 p.1 p.2 p.3 p.4 p.5 p.6 _ _ _ c.step_of-step.ensures c.moment-m.ensures c.moment-m.type_inv _ _ c.centres_before.ensures c.west_bits.ensures

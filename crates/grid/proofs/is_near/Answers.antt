@@ -3,7 +3,7 @@ use Rattle.grid.proofs.CheckWays.{corner-yes, corner-no}
 use Rattle.grid.proofs.is_near.Goals as goal
 
 pub returns-then-is_by : goal.returns-then-is_by
-returns-then-is_by c = corner-yes _ _ _ _ c.ranges.cx c.ranges.cy _ c.number_at.ensures c.number_at.type-inv _ c.is_by.ensures c.if-is_by.true _ c.number_at-then-is_by.ensures c.number_at-then-is_by.type-inv _ c.is_by-then-is_by.ensures
+returns-then-is_by c = corner-yes _ _ _ _ c.ranges.cx c.ranges.cy _ c.number_at.ensures c.number_at.type_inv _ c.is_by.ensures c.if-is_by.true _ c.number_at-then-is_by.ensures c.number_at-then-is_by.type_inv _ c.is_by-then-is_by.ensures
 
 pub returns : goal.returns
-returns c = corner-no _ _ _ _ c.ranges.cx c.ranges.cy _ c.number_at.ensures c.number_at.type-inv _ c.is_by.ensures c.if-is_by.false
+returns c = corner-no _ _ _ _ c.ranges.cx c.ranges.cy _ c.number_at.ensures c.number_at.type_inv _ c.is_by.ensures c.if-is_by.false

@@ -39,22 +39,22 @@ pub y_of-b-requires : goal.y_of-b-requires
 y_of-b-requires c = omega (arith, held-has (length c.args.points.now) c.args.from c.args.count c.requires)
 
 pub returns-then-not-within_reach : goal.returns-then-not-within_reach
-returns-then-not-within_reach c = summed-far-x c.args.points.now c.args.from c.args.count c.requires c.loop-k.invariant c.loop-k-test.true c.x_of-x.type-inv c.x_of-a.type-inv c.x_of-x.ensures c.x_of-a.ensures c.within_reach.ensures (ap not c.if-not-within_reach.true)
+returns-then-not-within_reach c = summed-far-x c.args.points.now c.args.from c.args.count c.requires c.loop-k.invariant c.loop-k-test.true c.x_of-x.type_inv c.x_of-a.type_inv c.x_of-x.ensures c.x_of-a.ensures c.within_reach.ensures (ap not c.if-not-within_reach.true)
 
 pub returns-then-not-within_reach-2 : goal.returns-then-not-within_reach-2
-returns-then-not-within_reach-2 c = summed-far-y c.args.points.now c.args.from c.args.count c.requires c.loop-k.invariant c.loop-k-test.true c.x_of-x.type-inv c.x_of-a.type-inv c.x_of-x.ensures c.x_of-a.ensures c.within_reach.ensures c.y_of-y.type-inv c.y_of-b.type-inv c.y_of-y.ensures c.y_of-b.ensures c.within_reach-in-loop-k.ensures (ap not c.if-not-within_reach-2.true)
+returns-then-not-within_reach-2 c = summed-far-y c.args.points.now c.args.from c.args.count c.requires c.loop-k.invariant c.loop-k-test.true c.x_of-x.type_inv c.x_of-a.type_inv c.x_of-x.ensures c.x_of-a.ensures c.within_reach.ensures c.y_of-y.type_inv c.y_of-b.type_inv c.y_of-y.ensures c.y_of-b.ensures c.within_reach-in-loop-k.ensures (ap not c.if-not-within_reach-2.true)
 
 pub away-x2-requires : goal.away-x2-requires
-away-x2-requires c = summed-near-x c.args.points.now c.args.from c.args.count c.requires c.loop-k.invariant c.loop-k-test.true c.x_of-x.type-inv c.x_of-a.type-inv c.x_of-x.ensures c.x_of-a.ensures c.within_reach.ensures (ap not c.if-not-within_reach.false)
+away-x2-requires c = summed-near-x c.args.points.now c.args.from c.args.count c.requires c.loop-k.invariant c.loop-k-test.true c.x_of-x.type_inv c.x_of-a.type_inv c.x_of-x.ensures c.x_of-a.ensures c.within_reach.ensures (ap not c.if-not-within_reach.false)
 
 pub away-y2-requires : goal.away-y2-requires
-away-y2-requires c = summed-near-y c.args.points.now c.args.from c.args.count c.requires c.loop-k.invariant c.loop-k-test.true c.x_of-x.type-inv c.x_of-a.type-inv c.x_of-x.ensures c.x_of-a.ensures c.within_reach.ensures c.y_of-y.type-inv c.y_of-b.type-inv c.y_of-y.ensures c.y_of-b.ensures c.within_reach-in-loop-k.ensures (ap not c.if-not-within_reach-2.false)
+away-y2-requires c = summed-near-y c.args.points.now c.args.from c.args.count c.requires c.loop-k.invariant c.loop-k-test.true c.x_of-x.type_inv c.x_of-a.type_inv c.x_of-x.ensures c.x_of-a.ensures c.within_reach.ensures c.y_of-y.type_inv c.y_of-b.type_inv c.y_of-y.ensures c.y_of-b.ensures c.within_reach-in-loop-k.ensures (ap not c.if-not-within_reach-2.false)
 
 pub edge-s-requires : goal.edge-s-requires
-edge-s-requires c = summed-edge c.args.points.now c.args.from c.args.count c.requires c.loop-k.invariant c.loop-k-test.true c.x_of-x.type-inv c.x_of-a.type-inv c.x_of-x.ensures c.x_of-a.ensures c.within_reach.ensures c.y_of-y.type-inv c.y_of-b.type-inv c.y_of-y.ensures c.y_of-b.ensures c.within_reach-in-loop-k.ensures (ap not c.if-not-within_reach.false) (ap not c.if-not-within_reach-2.false) c.away-x2.ensures c.away-y2.ensures
+edge-s-requires c = summed-edge c.args.points.now c.args.from c.args.count c.requires c.loop-k.invariant c.loop-k-test.true c.x_of-x.type_inv c.x_of-a.type_inv c.x_of-x.ensures c.x_of-a.ensures c.within_reach.ensures c.y_of-y.type_inv c.y_of-b.type_inv c.y_of-y.ensures c.y_of-b.ensures c.within_reach-in-loop-k.ensures (ap not c.if-not-within_reach.false) (ap not c.if-not-within_reach-2.false) c.away-x2.ensures c.away-y2.ensures
 
 pub overflow_add-s : goal.overflow_add-s
-overflow_add-s c = summed-add c.args.points.now c.args.from c.args.count c.requires c.loop-k.invariant c.loop-k-test.true c.x_of-x.type-inv c.x_of-a.type-inv c.x_of-x.ensures c.x_of-a.ensures c.within_reach.ensures c.y_of-y.type-inv c.y_of-b.type-inv c.y_of-y.ensures c.y_of-b.ensures c.within_reach-in-loop-k.ensures (ap not c.if-not-within_reach.false) (ap not c.if-not-within_reach-2.false) c.away-x2.ensures c.away-y2.ensures c.edge-s.ensures
+overflow_add-s c = summed-add c.args.points.now c.args.from c.args.count c.requires c.loop-k.invariant c.loop-k-test.true c.x_of-x.type_inv c.x_of-a.type_inv c.x_of-x.ensures c.x_of-a.ensures c.within_reach.ensures c.y_of-y.type_inv c.y_of-b.type_inv c.y_of-y.ensures c.y_of-b.ensures c.within_reach-in-loop-k.ensures (ap not c.if-not-within_reach.false) (ap not c.if-not-within_reach-2.false) c.away-x2.ensures c.away-y2.ensures c.edge-s.ensures
 
 pub overflow_add-k-in-loop-k-3 : goal.overflow_add-k-in-loop-k-3
 overflow_add-k-in-loop-k-3 c = omega arith
@@ -63,10 +63,10 @@ pub loop-k-smaller : goal.loop-k-smaller
 loop-k-smaller c = omega arith
 
 pub loop-k-preserved : goal.loop-k-preserved
-loop-k-preserved c = summed-on c.args.points.now c.args.from c.args.count c.requires c.loop-k.invariant c.loop-k-test.true c.x_of-x.type-inv c.x_of-a.type-inv c.x_of-x.ensures c.x_of-a.ensures c.within_reach.ensures c.y_of-y.type-inv c.y_of-b.type-inv c.y_of-y.ensures c.y_of-b.ensures c.within_reach-in-loop-k.ensures (ap not c.if-not-within_reach.false) (ap not c.if-not-within_reach-2.false) c.away-x2.ensures c.away-y2.ensures c.edge-s.ensures
+loop-k-preserved c = summed-on c.args.points.now c.args.from c.args.count c.requires c.loop-k.invariant c.loop-k-test.true c.x_of-x.type_inv c.x_of-a.type_inv c.x_of-x.ensures c.x_of-a.ensures c.within_reach.ensures c.y_of-y.type_inv c.y_of-b.type_inv c.y_of-y.ensures c.y_of-b.ensures c.within_reach-in-loop-k.ensures (ap not c.if-not-within_reach.false) (ap not c.if-not-within_reach-2.false) c.away-x2.ensures c.away-y2.ensures c.edge-s.ensures
 
 pub absolute-requires : goal.absolute-requires
 absolute-requires c = summed-small c.args.points.now c.args.from c.args.count c.requires c.loop-k.invariant
 
 pub returns : goal.returns
-returns c = summed-end c.args.points.now c.args.from c.args.count c.requires c.loop-k.invariant c.loop-k-test.false c.absolute.type-inv c.absolute.ensures
+returns c = summed-end c.args.points.now c.args.from c.args.count c.requires c.loop-k.invariant c.loop-k-test.false c.absolute.type_inv c.absolute.ensures

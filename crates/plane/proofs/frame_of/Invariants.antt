@@ -8,7 +8,7 @@ use Rattle.plane.specs.Frames.{Least, Greatest}
 use Rattle.plane.proofs.frame_of.Given as goal
 
 abbrev pub invariant-loop-k : goal.invariant-loop-k
-invariant-loop-k l = (l.k ≤ l.count) × (2 * (l.from + l.count) ≤ length l.points) × Least (λ j. x-at l.points (l.from + j)) l.k (to_z w64 l.west) × Greatest (λ j. x-at l.points (l.from + j)) l.k (to_z w64 l.east) × Least (λ j. y-at l.points (l.from + j)) l.k (to_z w64 l.south) × Greatest (λ j. y-at l.points (l.from + j)) l.k (to_z w64 l.north)
+invariant-loop-k l = (l.k ≤ l.count) × (2 * (l.from + l.count) ≤ length l.points) × Least (λ j. x-at l.points (l.from + j)) l.k l.west × Greatest (λ j. x-at l.points (l.from + j)) l.k l.east × Least (λ j. y-at l.points (l.from + j)) l.k l.south × Greatest (λ j. y-at l.points (l.from + j)) l.k l.north
 
 abbrev pub decreases-loop-k : goal.decreases-loop-k
 decreases-loop-k l = l.count - l.k

@@ -15,7 +15,7 @@ pub number_at-z-requires : goal.number_at-z-requires
 number_at-z-requires c = (c.requires.0, omega arith)
 
 pub loop-v-init : goal.loop-v-init
-loop-v-init c = (c.requires.1, floor-first (λ k. along c.args.points.now c.args.axis (c.args.from + k)) c.args.first c.number_at-z.result c.number_at-z.ensures c.number_at-z.type-inv)
+loop-v-init c = (c.requires.1, floor-first (λ k. along c.args.points.now c.args.axis (c.args.from + k)) c.args.first c.number_at-z.result c.number_at-z.ensures c.number_at-z.type_inv)
 
 pub overflow_add-v : goal.overflow_add-v
 overflow_add-v c = omega arith
@@ -37,7 +37,7 @@ loop-v-preserved c =
     let l = c.loop-v in
     let y = c.number_at-y in (
       omega arith,
-      floor-next (λ k. along c.args.points.now c.args.axis (c.args.from + k)) c.args.first l.v (to_z w64 l.z) y.result c.lower-z.result l.invariant.1 y.ensures y.type-inv c.lower-z.ensures c.lower-z.type-inv,
+      floor-next (λ k. along c.args.points.now c.args.axis (c.args.from + k)) c.args.first l.v (to_z w64 l.z) y.result c.lower-z.result l.invariant.1 y.ensures y.type_inv c.lower-z.ensures c.lower-z.type_inv,
     )
 
 pub returns : goal.returns

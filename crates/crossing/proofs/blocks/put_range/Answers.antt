@@ -21,4 +21,4 @@ returns c =
     let l = c.lowest-low in
     let h = c.highest-high in
     range-put c.args.points.now c.args.from c.args.axis c.args.first c.args.last _ _ _ c.args.at l.result h.result c.requires.3 l.ensures h.ensures
-    (rw (back l.result l.type-inv) at c.put_number.ensures) (rw (back h.result h.type-inv) at c.put_number-2.ensures)
+    (rw (back l.result l.type_inv) at c.put_number.ensures) (rw (back h.result h.type_inv) at c.put_number-2.ensures)

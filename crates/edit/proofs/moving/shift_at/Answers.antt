@@ -13,4 +13,4 @@ pub bounds-s-at : goal.bounds-s-at
 bounds-s-at c = c.requires.0
 
 pub returns : goal.returns
-returns c = rw (back c.shifted.result c.shifted.type-inv, c.shifted.ensures, back _ c.shifted-arg-1.given, to_z-of_z c.ranges.by)
+returns c = rw (back c.shifted.result c.shifted.type_inv, c.shifted.ensures, back _ c.shifted-arg-1.given, to_z-of_z c.ranges.by)

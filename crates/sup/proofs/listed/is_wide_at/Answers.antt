@@ -8,4 +8,4 @@ pub returns-then-not-is_in_sup : goal.returns-then-not-is_in_sup
 returns-then-not-is_in_sup c = wide-unlisted _ c.args.rows.now c.args.letters.now c.args.islands.now c.args.points.now c.args.d _ c.is_in_sup.ensures (ap not c.if-not-is_in_sup.true)
 
 pub returns : goal.returns
-returns c = wide-listed _ c.args.rows.now c.args.letters.now c.args.islands.now c.args.points.now c.args.d _ c.is_in_sup.ensures (ap not c.if-not-is_in_sup.false) _ c.metres_at.ensures c.metres_at.type-inv _ c.is_narrow.ensures
+returns c = wide-listed _ c.args.rows.now c.args.letters.now c.args.islands.now c.args.points.now c.args.d _ c.is_in_sup.ensures (ap not c.if-not-is_in_sup.false) _ c.metres_at.ensures c.metres_at.type_inv _ c.is_narrow.ensures

@@ -31,7 +31,7 @@ pub overflow_add-result : goal.overflow_add-result
 overflow_add-result c = omega (arith, widening-small c.loop-j.invariant c.loop-j-test.true)
 
 pub returns-then-not-is_narrow : goal.returns-then-not-is_narrow
-returns-then-not-is_narrow c = let k = narrow-known c.args.rows.now c.args.letters.now c.args.islands.now c.args.points.now (get_or c.loop-j.w.items c.loop-j.j first_stand) _ c.metres_at.ensures c.metres_at.type-inv _ c.is_narrow.ensures in
+returns-then-not-is_narrow c = let k = narrow-known c.args.rows.now c.args.letters.now c.args.islands.now c.args.points.now (get_or c.loop-j.w.items c.loop-j.j first_stand) _ c.metres_at.ensures c.metres_at.type_inv _ c.is_narrow.ensures in
     widening-found c.loop-j.invariant c.loop-j-test.true first_stand _ k (ap not c.if-not-is_narrow.true)
 
 pub overflow_add-i : goal.overflow_add-i
@@ -47,14 +47,14 @@ pub loop-j-smaller-then-j-eq-WIDTH : goal.loop-j-smaller-then-j-eq-WIDTH
 loop-j-smaller-then-j-eq-WIDTH c = let h = turning-more c.loop-j.invariant.turns c.loop-j-test.true in omega arith
 
 pub loop-j-preserved-then-j-eq-WIDTH : goal.loop-j-preserved-then-j-eq-WIDTH
-loop-j-preserved-then-j-eq-WIDTH c = let k = narrow-known c.args.rows.now c.args.letters.now c.args.islands.now c.args.points.now (get_or c.loop-j.w.items c.loop-j.j first_stand) _ c.metres_at.ensures c.metres_at.type-inv _ c.is_narrow.ensures in
+loop-j-preserved-then-j-eq-WIDTH c = let k = narrow-known c.args.rows.now c.args.letters.now c.args.islands.now c.args.points.now (get_or c.loop-j.w.items c.loop-j.j first_stand) _ c.metres_at.ensures c.metres_at.type_inv _ c.is_narrow.ensures in
     widening-next c.loop-j.invariant c.loop-j-test.true first_stand _ k (ap not c.if-not-is_narrow.false) c.next_window-w-then-j-eq-WIDTH.result c.next_window-w-then-j-eq-WIDTH.ensures
 
 pub loop-j-smaller : goal.loop-j-smaller
 loop-j-smaller c = let h = turning-more c.loop-j.invariant.turns c.loop-j-test.true in omega arith
 
 pub loop-j-preserved : goal.loop-j-preserved
-loop-j-preserved c = let k = narrow-known c.args.rows.now c.args.letters.now c.args.islands.now c.args.points.now (get_or c.loop-j.w.items c.loop-j.j first_stand) _ c.metres_at.ensures c.metres_at.type-inv _ c.is_narrow.ensures in
+loop-j-preserved c = let k = narrow-known c.args.rows.now c.args.letters.now c.args.islands.now c.args.points.now (get_or c.loop-j.w.items c.loop-j.j first_stand) _ c.metres_at.ensures c.metres_at.type_inv _ c.is_narrow.ensures in
     widening-on c.loop-j.invariant c.loop-j-test.true first_stand _ k (ap not c.if-not-is_narrow.false) c.if-j-eq-WIDTH.false
 
 pub returns : goal.returns

@@ -3,22 +3,22 @@ use Rattle.sup.proofs.TotalWays.{high-over, high-under, product-asks, total-asks
 use Rattle.sup.proofs.totalling.total_of.Goals as goal
 
 pub returns-then-high-gt-HIGH_MOST : goal.returns-then-high-gt-HIGH_MOST
-returns-then-high-gt-HIGH_MOST c = high-over _ _ _ _ c.ranges.a c.ranges.b c.ranges.c c.ranges.d _ c.high_sum-high.ensures c.high_sum-high.type-inv c.if-high-gt-HIGH_MOST.true
+returns-then-high-gt-HIGH_MOST c = high-over _ _ _ _ c.ranges.a c.ranges.b c.ranges.c c.ranges.d _ c.high_sum-high.ensures c.high_sum-high.type_inv c.if-high-gt-HIGH_MOST.true
 
 pub returns-then-high : goal.returns-then-high
-returns-then-high c = high-under _ _ _ _ c.ranges.a c.ranges.b c.ranges.c c.ranges.d _ c.high_sum-high.ensures c.high_sum-high.type-inv c.if-high.true
+returns-then-high c = high-under _ _ _ _ c.ranges.a c.ranges.b c.ranges.c c.ranges.d _ c.high_sum-high.ensures c.high_sum-high.type_inv c.if-high.true
 
 pub overflow_mul-total : goal.overflow_mul-total
-overflow_mul-total c = product-asks _ _ _ _ c.ranges.a c.ranges.b c.ranges.c c.ranges.d _ c.high_sum-high.ensures c.high_sum-high.type-inv c.if-high-gt-HIGH_MOST.false c.if-high.false
+overflow_mul-total c = product-asks _ _ _ _ c.ranges.a c.ranges.b c.ranges.c c.ranges.d _ c.high_sum-high.ensures c.high_sum-high.type_inv c.if-high-gt-HIGH_MOST.false c.if-high.false
 
 pub overflow_add-total : goal.overflow_add-total
-overflow_add-total c = total-asks _ _ _ _ c.ranges.a c.ranges.b c.ranges.c c.ranges.d _ c.high_sum-high.ensures c.high_sum-high.type-inv c.if-high-gt-HIGH_MOST.false c.if-high.false _ c.low_sum.ensures
+overflow_add-total c = total-asks _ _ _ _ c.ranges.a c.ranges.b c.ranges.c c.ranges.d _ c.high_sum-high.ensures c.high_sum-high.type_inv c.if-high-gt-HIGH_MOST.false c.if-high.false _ c.low_sum.ensures
 
 pub returns-then-total-gt-LIMIT : goal.returns-then-total-gt-LIMIT
-returns-then-total-gt-LIMIT c = found-over _ _ _ _ c.ranges.a c.ranges.b c.ranges.c c.ranges.d _ c.high_sum-high.ensures c.high_sum-high.type-inv c.if-high-gt-HIGH_MOST.false c.if-high.false _ c.low_sum.ensures c.if-total-gt-LIMIT.true
+returns-then-total-gt-LIMIT c = found-over _ _ _ _ c.ranges.a c.ranges.b c.ranges.c c.ranges.d _ c.high_sum-high.ensures c.high_sum-high.type_inv c.if-high-gt-HIGH_MOST.false c.if-high.false _ c.low_sum.ensures c.if-total-gt-LIMIT.true
 
 pub returns-then-total : goal.returns-then-total
-returns-then-total c = found-under _ _ _ _ c.ranges.a c.ranges.b c.ranges.c c.ranges.d _ c.high_sum-high.ensures c.high_sum-high.type-inv c.if-high-gt-HIGH_MOST.false c.if-high.false _ c.low_sum.ensures c.if-total-gt-LIMIT.false c.if-total.true
+returns-then-total c = found-under _ _ _ _ c.ranges.a c.ranges.b c.ranges.c c.ranges.d _ c.high_sum-high.ensures c.high_sum-high.type_inv c.if-high-gt-HIGH_MOST.false c.if-high.false _ c.low_sum.ensures c.if-total-gt-LIMIT.false c.if-total.true
 
 pub returns : goal.returns
-returns c = found_within _ _ _ _ c.ranges.a c.ranges.b c.ranges.c c.ranges.d _ c.high_sum-high.ensures c.high_sum-high.type-inv c.if-high-gt-HIGH_MOST.false c.if-high.false _ c.low_sum.ensures c.if-total-gt-LIMIT.false c.if-total.false
+returns c = found_within _ _ _ _ c.ranges.a c.ranges.b c.ranges.c c.ranges.d _ c.high_sum-high.ensures c.high_sum-high.type_inv c.if-high-gt-HIGH_MOST.false c.if-high.false _ c.low_sum.ensures c.if-total-gt-LIMIT.false c.if-total.false

@@ -18,4 +18,4 @@ pub count_exact-insets-requires : goal.count_exact-insets-requires
 count_exact-insets-requires c = count-asks c.args.figures.now c.requires.0 2 c.count_exact-arg-5-1.given
 
 pub returns : goal.returns
-returns c = head-exact-is c.args.figures.now c.count_exact-arg-1.given c.count_exact-arg-2-1.given c.count_exact-arg-3-1.given c.count_exact-arg-4-1.given c.count_exact-arg-5-1.given _ c.count_exact-buildings.ensures c.count_exact-buildings.type-inv _ c.count_exact-parcels.ensures c.count_exact-parcels.type-inv _ c.count_exact-roads.ensures c.count_exact-roads.type-inv _ c.count_exact-waters.ensures c.count_exact-waters.type-inv _ c.count_exact-insets.ensures c.count_exact-insets.type-inv c.args.areas.now c.area-1.given
+returns c = head-exact-is c.args.figures.now c.count_exact-arg-1.given c.count_exact-arg-2-1.given c.count_exact-arg-3-1.given c.count_exact-arg-4-1.given c.count_exact-arg-5-1.given _ c.count_exact-buildings.ensures c.count_exact-buildings.type_inv _ c.count_exact-parcels.ensures c.count_exact-parcels.type_inv _ c.count_exact-roads.ensures c.count_exact-roads.type_inv _ c.count_exact-waters.ensures c.count_exact-waters.type_inv _ c.count_exact-insets.ensures c.count_exact-insets.type_inv c.args.areas.now c.area-1.given

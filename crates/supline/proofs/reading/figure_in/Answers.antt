@@ -7,4 +7,4 @@ pub figure_said-requires : goal.figure_said-requires
 figure_said-requires c = search (reading-ways, rules)
 
 pub returns : goal.returns
-returns c = figure-known c.args.s.now _ c.right_field.ensures _ c.figure_said.ensures c.figure_said.type-inv
+returns c = figure-known c.args.s.now _ c.right_field.ensures _ c.figure_said.ensures c.figure_said.type_inv

@@ -26,7 +26,7 @@ pub loop-i-smaller : goal.loop-i-smaller
 loop-i-smaller c = search (figure-ways, rules)
 
 pub loop-i-preserved : goal.loop-i-preserved
-loop-i-preserved c = let e = back c.figure_at.result c.figure_at.type-inv in search (figure-ways, rules)
+loop-i-preserved c = let e = back c.figure_at.result c.figure_at.type_inv in search (figure-ways, rules)
 
 pub returns : goal.returns
 returns c = a-tally-in c.args.s.now c.loop-i.figures c.if-s-ne-FIGURES.false (search (figure-ways, rules))
