@@ -145,14 +145,23 @@ module _ {mode : Mode} {s : List ℕ} {target : Sections} {rows₀ : List ℤ} {
 pub kept-rows : (st : State) (t : ℕ) (a : Needs) (l : List ℤ) → AtVertex st → l ≡ rows_put st t a l
 kept-rows (X r) t a l h = refl
 kept-rows (Y r x) t a l h = refl
+kept-rows Due t a l h = elim h [ ]
+kept-rows (Field _ _ _) t a l h = elim h [ ]
+kept-rows (Island _ _ _) t a l h = elim h [ ]
 
 pub kept-letters : (st : State) (c : List ℕ) (a : Needs) (l : List ℕ) → AtVertex st → l ≡ letters_put st c a l
 kept-letters (X r) c a l h = refl
 kept-letters (Y r x) c a l h = refl
+kept-letters Due c a l h = elim h [ ]
+kept-letters (Field _ _ _) c a l h = elim h [ ]
+kept-letters (Island _ _ _) c a l h = elim h [ ]
 
 pub kept-islands : (st : State) (t : ℕ) (a : Needs) (l : List ℕ) → AtVertex st → l ≡ islands_put st t a l
 kept-islands (X r) t a l h = refl
 kept-islands (Y r x) t a l h = refl
+kept-islands Due t a l h = elim h [ ]
+kept-islands (Field _ _ _) t a l h = elim h [ ]
+kept-islands (Island _ _ _) t a l h = elim h [ ]
 
 pub record Onward (mode : Mode) (s : List ℕ) (target : Sections) (rows₀ : List ℤ) (letters₀ islands₀ : List ℕ) (points₀ : List ℤ) (rows : List ℤ) (letters islands : List ℕ) (points : List ℤ) (from : ℕ) (d : ReadStand) : Type 0 where
   pub filled : Filled mode s target rows₀ letters₀ islands₀ points₀ rows letters islands points d
@@ -160,9 +169,21 @@ pub record Onward (mode : Mode) (s : List ℕ) (target : Sections) (rows₀ : Li
 
 pub kept-letters' : (st : State) (c : List ℕ) (a : Needs) (l : List ℕ) → AtNumber st → l ≡ letters_put st c a l
 kept-letters' (Field k p i) c a l h = rw h
+kept-letters' Due c a l h = elim h [ ]
+kept-letters' (Island _ _ _) c a l h = elim h [ ]
+kept-letters' (X _) c a l h = elim h [ ]
+kept-letters' (Y _ _) c a l h = elim h [ ]
 
 pub kept-islands' : (st : State) (t : ℕ) (a : Needs) (l : List ℕ) → AtNumber st → l ≡ islands_put st t a l
 kept-islands' (Field k p i) t a l h = refl
+kept-islands' Due t a l h = elim h [ ]
+kept-islands' (Island _ _ _) t a l h = elim h [ ]
+kept-islands' (X _) t a l h = elim h [ ]
+kept-islands' (Y _ _) t a l h = elim h [ ]
 
 pub kept-points : (st : State) (t : ℕ) (a : Needs) (l : List ℤ) → AtNumber st → l ≡ points_put st t a l
 kept-points (Field k p i) t a l h = refl
+kept-points Due t a l h = elim h [ ]
+kept-points (Island _ _ _) t a l h = elim h [ ]
+kept-points (X _) t a l h = elim h [ ]
+kept-points (Y _ _) t a l h = elim h [ ]

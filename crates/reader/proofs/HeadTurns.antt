@@ -36,7 +36,7 @@ use Rattle.reader.specs.declared.Turn.{Turn}
 use Rattle.reader.proofs.Fields.{field-turn, apart-real, apart-int}
 
 -- turns, with their tables forgotten
-pub puts-turns : {mode : Mode} {s : List ℕ} {d e : ReadStand} {r r' p p' : List ℤ} {l l' i i' : List ℕ} → Puts mode s d r l i p e r' l' i' p' → Turns mode s d e
+pub puts-turns : {mode : Mode} {s : List ℕ} {d : ReadStand} {r p : List ℤ} {l i : List ℕ} {e : ReadStand} {r' p' : List ℤ} {l' i' : List ℕ} → Puts mode s d r l i p e r' l' i' p' → Turns mode s d e
 puts-turns no-turn = still
 puts-turns (turned q e) = on (puts-turns q) e
 

@@ -42,13 +42,13 @@ skimmed-less h e p l = omega (arith, (turns-inside h.within p).here)
 
 -- ---- the second pass
 
-pub puts-join : {mode : Mode} {s : List ℕ} {d e f : ReadStand} {r r' r'' p p' p'' : List ℤ} {l l' l'' i i' i'' : List ℕ}
+pub puts-join : {mode : Mode} {s : List ℕ} {d e : ReadStand} {r r' p p' : List ℤ} {l l' i i' : List ℕ} {f : ReadStand} {r'' p'' : List ℤ} {l'' i'' : List ℕ}
     → Puts mode s d r l i p e r' l' i' p' → Puts mode s e r' l' i' p' f r'' l'' i'' p'' → Puts mode s d r l i p f r'' l'' i'' p''
 puts-join a no-turn = a
 puts-join a (turned b t) = turned (puts-join a b) t
 
 -- turns at numbers of a row, and at vertices
-pub enters-puts : {mode : Mode} {s : List ℕ} {d e : ReadStand} {r r' : List ℤ} (l i : List ℕ) (p : List ℤ) → Store.Enters mode s d r e r' → Puts mode s d r l i p e r' l i p
+pub enters-puts : {mode : Mode} {s : List ℕ} {d : ReadStand} {r : List ℤ} {e : ReadStand} {r' : List ℤ} (l i : List ℕ) (p : List ℤ) → Store.Enters mode s d r e r' → Puts mode s d r l i p e r' l i p
 enters-puts l i p Store.at_rest = no-turn
 enters-puts {mode} {s} {d} {r = r} l i p (Store.entered {e} {f} {m} {t} {len} q v h) =
     subst (λ (x : List ℤ). Puts mode s d r l i p f (rows_put e.state t e.needs m) l i x) (sym (kept-points e.state t e.needs p v))
@@ -57,7 +57,7 @@ enters-puts {mode} {s} {d} {r = r} l i p (Store.entered {e} {f} {m} {t} {len} q 
     (sym (kept-letters' e.state (take len (drop e.at s)) e.needs l v))
     (turned (enters-puts l i p q) h)))
 
-pub stores-puts : {mode : Mode} {s : List ℕ} {d e : ReadStand} {p p' : List ℤ} (r : List ℤ) (l i : List ℕ) → Store.Stores mode s d p e p' → Puts mode s d r l i p e r l i p'
+pub stores-puts : {mode : Mode} {s : List ℕ} {d : ReadStand} {p : List ℤ} {e : ReadStand} {p' : List ℤ} (r : List ℤ) (l i : List ℕ) → Store.Stores mode s d p e p' → Puts mode s d r l i p e r l i p'
 stores-puts r l i Store.still = no-turn
 stores-puts {mode} {s} {d} {p = p} r l i (Store.on {e} {f} {m} {t} {len} q v h) =
     subst (λ (x : List ℤ). Puts mode s d r l i p f x l i (points_put e.state t e.needs m)) (sym (kept-rows e.state t e.needs r v))
@@ -93,8 +93,8 @@ module _ {mode : Mode} {s : List ℕ} {d₀ d : ReadStand} {r₀ r p₀ p : List
   putting-less l = omega (arith, putting-on.within.here)
 
 -- what turns store, over what was read so far
-pub puts-filled : {mode : Mode} {s : List ℕ} {target : Sections} {rows₀ : List ℤ} {letters₀ islands₀ : List ℕ} {points₀ : List ℤ} {rows rows' : List ℤ} {letters letters' islands islands' : List ℕ} {points points' : List ℤ}
-    {d e : ReadStand} → Room target (length rows₀) (length letters₀) (length islands₀) (length points₀)
+pub puts-filled : {mode : Mode} {s : List ℕ} {target : Sections} {rows₀ : List ℤ} {letters₀ islands₀ : List ℕ} {points₀ : List ℤ} {rows : List ℤ} {letters islands : List ℕ} {points : List ℤ}
+    {d e : ReadStand} {rows' : List ℤ} {letters' islands' : List ℕ} {points' : List ℤ} → Room target (length rows₀) (length letters₀) (length islands₀) (length points₀)
     → Filled mode s target rows₀ letters₀ islands₀ points₀ rows letters islands points d → Puts mode s d rows letters islands points e rows' letters' islands' points'
     → Onward mode s target rows₀ letters₀ islands₀ points₀ rows' letters' islands' points' d.at e
 puts-filled room h no-turn = record { filled = h; past-it = omega arith }

@@ -234,11 +234,11 @@ module _ {mode : Mode} {s : List ℕ} {at : ℕ} where
       rw u (subst (λ (n : ℕ). Store.Stores mode s e l₀ (past_vertices d r n (a + w + w')) m₁) z
       (Store.on (Store.on g tt (x-turn mode s d r (j + k) a w x p)) tt (y-turn mode s d r (j + k) (a + w) w' x y q (omega arith))))
 
-pub stores-join : {mode : Mode} {s : List ℕ} {d e f : ReadStand} {l m n : List ℤ} → Store.Stores mode s d l e m → Store.Stores mode s e m f n → Store.Stores mode s d l f n
+pub stores-join : {mode : Mode} {s : List ℕ} {d e : ReadStand} {l m : List ℤ} {f : ReadStand} {n : List ℤ} → Store.Stores mode s d l e m → Store.Stores mode s e m f n → Store.Stores mode s d l f n
 stores-join p Store.still = p
 stores-join p (Store.on q v t) = Store.on (stores-join p q) v t
 
-pub stores-turns : {mode : Mode} {s : List ℕ} {d e : ReadStand} {l m : List ℤ} → Store.Stores mode s d l e m → Turns mode s d e
+pub stores-turns : {mode : Mode} {s : List ℕ} {d : ReadStand} {l : List ℤ} {e : ReadStand} {m : List ℤ} → Store.Stores mode s d l e m → Turns mode s d e
 stores-turns Store.still = still
 stores-turns (Store.on q v t) = on (stores-turns q) t
 

@@ -44,19 +44,19 @@ pub put_real-requires-in-Y : goal.put_real-requires-in-Y
 put_real-requires-in-Y c = omega (arith, rw c.in-Y.is at c.requires.put_room, c.requires.t_le_token_most.0)
 
 pub returns-in-Due : goal.returns-in-Due
-returns-in-Due c = rw c.in-Due.is (c.put_row.ensures, (refl, (refl, refl)))
+returns-in-Due c = rw c.in-Due.is (record { rows_after = c.put_row.ensures; letters_after = refl; islands_after = refl; points_after = refl })
 
 pub returns-then-place-eq-LETTERS_PLACE : goal.returns-then-place-eq-LETTERS_PLACE
-returns-then-place-eq-LETTERS_PLACE c = rw (c.in-Field.is, eq-eqb _ _ c.if-place-eq-LETTERS_PLACE.true) (c.put_field.ensures, (c.put_word.ensures, (refl, refl)))
+returns-then-place-eq-LETTERS_PLACE c = rw (c.in-Field.is, eq-eqb _ _ c.if-place-eq-LETTERS_PLACE.true) (record { rows_after = c.put_field.ensures; letters_after = c.put_word.ensures; islands_after = refl; points_after = refl })
 
 pub returns-else-place-eq-LETTERS_PLACE : goal.returns-else-place-eq-LETTERS_PLACE
-returns-else-place-eq-LETTERS_PLACE c = rw (c.in-Field.is, ne_eqb _ _ c.if-place-eq-LETTERS_PLACE.false) (c.put_field.ensures, (refl, (refl, refl)))
+returns-else-place-eq-LETTERS_PLACE c = rw (c.in-Field.is, ne_eqb _ _ c.if-place-eq-LETTERS_PLACE.false) (record { rows_after = c.put_field.ensures; letters_after = refl; islands_after = refl; points_after = refl })
 
 pub returns-in-Island : goal.returns-in-Island
-returns-in-Island c = rw c.in-Island.is (refl, (refl, (c.put_island.ensures, refl)))
+returns-in-Island c = rw c.in-Island.is (record { rows_after = refl; letters_after = refl; islands_after = c.put_island.ensures; points_after = refl })
 
 pub returns-in-X : goal.returns-in-X
-returns-in-X c = rw c.in-X.is (refl, (refl, (refl, c.put_real.ensures)))
+returns-in-X c = rw c.in-X.is (record { rows_after = refl; letters_after = refl; islands_after = refl; points_after = c.put_real.ensures })
 
 pub returns-in-Y : goal.returns-in-Y
-returns-in-Y c = rw c.in-Y.is (refl, (refl, (refl, c.put_real-in-Y.ensures)))
+returns-in-Y c = rw c.in-Y.is (record { rows_after = refl; letters_after = refl; islands_after = refl; points_after = c.put_real-in-Y.ensures })

@@ -10,7 +10,7 @@ pub returns-in-Real : goal.returns-in-Real
 returns-in-Real c = said-real c.args.mode c.args.src.now c.args.at c.args.place c.if-place-ge-ROW_WIDTH.false c.want_at.result c.want_at.ensures c.real_at-q.result c.in-Real.is c.real_at-q.ensures
 
 pub returns-in-Int : goal.returns-in-Int
-returns-in-Int c = said-int c.args.mode c.args.src.now c.args.at c.args.place c.if-place-ge-ROW_WIDTH.false c.want_at.result c.want_at.ensures c.type_size.result c.in-Int.is c.type_size.ensures
+returns-in-Int c = said-int c.args.mode c.args.src.now c.args.at c.args.place c.if-place-ge-ROW_WIDTH.false c.want_at.result c.want_at.ensures c.size_of-size.result c.in-Int.is c.size_of-size.ensures
 
 pub returns-in-Text : goal.returns-in-Text
 returns-in-Text c = λ h. never h

@@ -12,28 +12,28 @@ put_piece-e-requires c = (c.loop-mode.invariant.within, c.loop-mode.invariant.su
 
 -- src/pieces.rt:132:13
 pub shape_of-rows-then-e-at : goal.shape_of-rows-then-e-at
-shape_of-rows-then-e-at c = (putting-on c.loop-mode.invariant _ c.put_piece-e.ensures (record { rows-kept = c.put_piece-e.auto.1.1.1.0; letters-kept = c.put_piece-e.auto.1.1.1.1.0; islands-kept = c.put_piece-e.auto.1.1.1.1.1.0; points_kept = c.put_piece-e.auto.1.1.1.1.1.1.0 })).kept.rows-kept
+shape_of-rows-then-e-at c = (putting-on c.loop-mode.invariant _ c.put_piece-e.ensures (record { rows-kept = c.put_piece-e.auto.rows; letters-kept = c.put_piece-e.auto.letters; islands-kept = c.put_piece-e.auto.islands; points_kept = c.put_piece-e.auto.points })).kept.rows-kept
 
 -- src/pieces.rt:132:13
 pub shape_of-letters-then-e-at : goal.shape_of-letters-then-e-at
-shape_of-letters-then-e-at c = (putting-on c.loop-mode.invariant _ c.put_piece-e.ensures (record { rows-kept = c.put_piece-e.auto.1.1.1.0; letters-kept = c.put_piece-e.auto.1.1.1.1.0; islands-kept = c.put_piece-e.auto.1.1.1.1.1.0; points_kept = c.put_piece-e.auto.1.1.1.1.1.1.0 })).kept.letters-kept
+shape_of-letters-then-e-at c = (putting-on c.loop-mode.invariant _ c.put_piece-e.ensures (record { rows-kept = c.put_piece-e.auto.rows; letters-kept = c.put_piece-e.auto.letters; islands-kept = c.put_piece-e.auto.islands; points_kept = c.put_piece-e.auto.points })).kept.letters-kept
 
 -- src/pieces.rt:132:13
 pub shape_of-islands-then-e-at : goal.shape_of-islands-then-e-at
-shape_of-islands-then-e-at c = (putting-on c.loop-mode.invariant _ c.put_piece-e.ensures (record { rows-kept = c.put_piece-e.auto.1.1.1.0; letters-kept = c.put_piece-e.auto.1.1.1.1.0; islands-kept = c.put_piece-e.auto.1.1.1.1.1.0; points_kept = c.put_piece-e.auto.1.1.1.1.1.1.0 })).kept.islands-kept
+shape_of-islands-then-e-at c = (putting-on c.loop-mode.invariant _ c.put_piece-e.ensures (record { rows-kept = c.put_piece-e.auto.rows; letters-kept = c.put_piece-e.auto.letters; islands-kept = c.put_piece-e.auto.islands; points_kept = c.put_piece-e.auto.points })).kept.islands-kept
 
 -- src/pieces.rt:132:13
 pub shape_of-points-then-e-at : goal.shape_of-points-then-e-at
-shape_of-points-then-e-at c = (putting-on c.loop-mode.invariant _ c.put_piece-e.ensures (record { rows-kept = c.put_piece-e.auto.1.1.1.0; letters-kept = c.put_piece-e.auto.1.1.1.1.0; islands-kept = c.put_piece-e.auto.1.1.1.1.1.0; points_kept = c.put_piece-e.auto.1.1.1.1.1.1.0 })).kept.points_kept
+shape_of-points-then-e-at c = (putting-on c.loop-mode.invariant _ c.put_piece-e.ensures (record { rows-kept = c.put_piece-e.auto.rows; letters-kept = c.put_piece-e.auto.letters; islands-kept = c.put_piece-e.auto.islands; points_kept = c.put_piece-e.auto.points })).kept.points_kept
 
 -- src/pieces.rt:132:13
 pub returns-then-e-at : goal.returns-then-e-at
-returns-then-e-at c = (putting-on c.loop-mode.invariant _ c.put_piece-e.ensures (record { rows-kept = c.put_piece-e.auto.1.1.1.0; letters-kept = c.put_piece-e.auto.1.1.1.1.0; islands-kept = c.put_piece-e.auto.1.1.1.1.1.0; points_kept = c.put_piece-e.auto.1.1.1.1.1.1.0 })).puts
+returns-then-e-at c = (putting-on c.loop-mode.invariant _ c.put_piece-e.ensures (record { rows-kept = c.put_piece-e.auto.rows; letters-kept = c.put_piece-e.auto.letters; islands-kept = c.put_piece-e.auto.islands; points_kept = c.put_piece-e.auto.points })).puts
 
 -- src/pieces.rt:128:5
 pub loop-mode-smaller : goal.loop-mode-smaller
-loop-mode-smaller c = putting-less c.loop-mode.invariant _ c.put_piece-e.ensures (record { rows-kept = c.put_piece-e.auto.1.1.1.0; letters-kept = c.put_piece-e.auto.1.1.1.1.0; islands-kept = c.put_piece-e.auto.1.1.1.1.1.0; points_kept = c.put_piece-e.auto.1.1.1.1.1.1.0 }) c.if-e-at.false
+loop-mode-smaller c = putting-less c.loop-mode.invariant _ c.put_piece-e.ensures (record { rows-kept = c.put_piece-e.auto.rows; letters-kept = c.put_piece-e.auto.letters; islands-kept = c.put_piece-e.auto.islands; points_kept = c.put_piece-e.auto.points }) c.if-e-at.false
 
 -- src/pieces.rt:128:5
 pub loop-mode-preserved : goal.loop-mode-preserved
-loop-mode-preserved c = putting-on c.loop-mode.invariant _ c.put_piece-e.ensures (record { rows-kept = c.put_piece-e.auto.1.1.1.0; letters-kept = c.put_piece-e.auto.1.1.1.1.0; islands-kept = c.put_piece-e.auto.1.1.1.1.1.0; points_kept = c.put_piece-e.auto.1.1.1.1.1.1.0 })
+loop-mode-preserved c = putting-on c.loop-mode.invariant _ c.put_piece-e.ensures (record { rows-kept = c.put_piece-e.auto.rows; letters-kept = c.put_piece-e.auto.letters; islands-kept = c.put_piece-e.auto.islands; points_kept = c.put_piece-e.auto.points })

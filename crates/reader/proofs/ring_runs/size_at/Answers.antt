@@ -6,4 +6,4 @@ pub returns-then-q-gt0 : goal.returns-then-q-gt0
 returns-then-q-gt0 c = size-quick c.args.mode c.args.src.now c.args.at c.integer_at-q.result c.integer_at-q.ensures c.if-q-gt0.true
 
 pub returns : goal.returns
-returns c = size-slow c.args.mode c.args.src.now c.args.at c.type_size.result c.type_size.ensures
+returns c = size-slow c.args.mode c.args.src.now c.args.at c.size_of.result c.size_of.ensures

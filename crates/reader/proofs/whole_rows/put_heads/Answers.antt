@@ -66,19 +66,19 @@ overflow_add-nth c = omega (arith, nth-asks (c.loop-mode.invariant []).within c.
 
 -- src/whole_rows.rt:238:13
 pub shape_of-rows-then-end-eq0 : goal.shape_of-rows-then-end-eq0
-shape_of-rows-then-end-eq0 c = c.head_into.auto.1.1.1.0 ∙ (c.loop-mode.invariant []).kept.rows-kept
+shape_of-rows-then-end-eq0 c = c.head_into.auto.rows ∙ (c.loop-mode.invariant []).kept.rows-kept
 
 -- src/whole_rows.rt:238:13
 pub shape_of-letters-then-end-eq0 : goal.shape_of-letters-then-end-eq0
-shape_of-letters-then-end-eq0 c = c.head_into.auto.1.1.1.1.0 ∙ (c.loop-mode.invariant []).kept.letters-kept
+shape_of-letters-then-end-eq0 c = c.head_into.auto.letters ∙ (c.loop-mode.invariant []).kept.letters-kept
 
 -- src/whole_rows.rt:238:13
 pub shape_of-points-then-end-eq0 : goal.shape_of-points-then-end-eq0
-shape_of-points-then-end-eq0 c = c.only_into-end.auto.1.1.1.1.1.0 ∙ (c.loop-mode.invariant []).kept.points_kept
+shape_of-points-then-end-eq0 c = c.only_into-end.auto.points ∙ (c.loop-mode.invariant []).kept.points_kept
 
 -- src/whole_rows.rt:238:13
 pub returns-then-end-eq0 : goal.returns-then-end-eq0
-returns-then-end-eq0 c = rowing-puts c.args.d c.requires.2 (put-behind c.loop-mode.invariant c.head_at-h.result c.head_at-h.ensures c.if-next-eq0.false _ _ c.head_into.ensures.rows_after c.head_into.ensures.letters_after _ _ c.only_into-end.ensures c.head_into.auto.1.1.1.0 c.head_into.auto.1.1.1.1.0 c.only_into-end.auto.1.1.1.1.1.0 c.if-end-eq0.true _ c.opened-state.ensures _ c.row_more-behind.ensures) _ c.stand_of-then-end-eq0.ensures
+returns-then-end-eq0 c = rowing-puts c.args.d c.requires.2 (put-behind c.loop-mode.invariant c.head_at-h.result c.head_at-h.ensures c.if-next-eq0.false _ _ c.head_into.ensures.rows_after c.head_into.ensures.letters_after _ _ c.only_into-end.ensures c.head_into.auto.rows c.head_into.auto.letters c.only_into-end.auto.points c.if-end-eq0.true _ c.opened-state.ensures _ c.row_more-behind.ensures) _ c.stand_of-then-end-eq0.ensures
 
 -- src/whole_rows.rt:241:15
 pub overflow_add-nth-in-loop-mode : goal.overflow_add-nth-in-loop-mode
@@ -102,4 +102,4 @@ loop-mode-smaller c = end-less (c.loop-mode.invariant []).within c.head_at-h.res
 
 -- src/whole_rows.rt:216:5
 pub loop-mode-preserved : goal.loop-mode-preserved
-loop-mode-preserved c = put-again c.loop-mode.invariant c.head_at-h.result c.head_at-h.ensures c.if-next-eq0.false _ _ c.head_into.ensures.rows_after c.head_into.ensures.letters_after _ _ c.only_into-end.ensures c.head_into.auto.1.1.1.0 c.head_into.auto.1.1.1.1.0 c.only_into-end.auto.1.1.1.1.1.0 c.if-end-eq0.false _ _ c.row_more-behind.ensures c.points_more-needs.ensures
+loop-mode-preserved c = put-again c.loop-mode.invariant c.head_at-h.result c.head_at-h.ensures c.if-next-eq0.false _ _ c.head_into.ensures.rows_after c.head_into.ensures.letters_after _ _ c.only_into-end.ensures c.head_into.auto.rows c.head_into.auto.letters c.only_into-end.auto.points c.if-end-eq0.false _ _ c.row_more-behind.ensures c.points_more-needs.ensures

@@ -1,5 +1,4 @@
 -- `reader::skim_heads` meets its contract. Assumes nothing.
-use borrow.Author.Rules.{rules}
 use Prim.Native.Nat.{◌-◌}
 use lib.ListN.{length}
 use Rattle.machine.specs.declared.State.TheVariants.{Due}
@@ -8,7 +7,7 @@ use Rattle.reader.proofs.Rows.{Skimmed}
 use Rattle.reader.proofs.whole_rows.skim_heads.Given as goal
 
 abbrev pub invariant-loop-mode : goal.invariant-loop-mode
-invariant-loop-mode l = Skimmed l.mode l.src (stand_of Due l.initial.at l.initial.nth l.initial.ring l.initial.needs) (stand_of Due l.at l.nth l.ring rules)
+invariant-loop-mode l = Skimmed l.mode l.src (stand_of Due l.initial.at l.initial.nth l.initial.ring l.initial.needs) (stand_of Due l.at l.nth l.ring l.needs)
 
 abbrev pub decreases-loop-mode : goal.decreases-loop-mode
 decreases-loop-mode l = length l.src - l.at
