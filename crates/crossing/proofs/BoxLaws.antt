@@ -1,4 +1,4 @@
--- Bounds of a ring's vertices, found one by one; the table of boxes; and that no edge of a block whose box lies apart is met. Assumes nothing.
+-- The table of boxes, and that no edge of a block whose box lies apart is met. Assumes nothing.
 use mathlib.Core.Path.{◌≡◌, refl, sym, ap, ◌∙◌, subst}
 use mathlib.Core.List.{List}
 use mathlib.Core.Logic.{⊎_elim}
@@ -24,64 +24,6 @@ use Rattle.crossing.specs.declared.Point.{Point}
 use Rattle.crossing.specs.Edges.{point_at, spans-overlap, boxes-overlap}
 use Rattle.crossing.specs.Boxes.{Skip, meets_at, along, span-meets, Floor, Ceiling, Ranged, beyond, box-most, BlockLength, BlockEnd, Boxed, Boxes, box-apart, Kept}
 use Rattle.crossing.proofs.EdgeLaws.{meet-not-boxes}
-
--- ---- bounds, number by number
-
-le_same : (a : ℤ) → le_z a a ≡ true
-le_same a = le-true a a (omega arith)
-
-module _ (a b : ℤ) where
-  low_first : le_z (low_z a b) a ≡ true
-  low_first = cond-elim (λ (z : ℤ). le_z z a ≡ true) (lt_z a b) a b (λ e. le_same a) (λ e. le-true b a (omega (arith, lt_no a b e)))
-
-  low_second : le_z (low_z a b) b ≡ true
-  low_second = cond-elim (λ (z : ℤ). le_z z b ≡ true) (lt_z a b) a b (λ e. le-true a b (omega (arith, lt_yes a b e))) (λ e. le_same b)
-
-  high-first : le_z a (high_z a b) ≡ true
-  high-first = cond-elim (λ (z : ℤ). le_z a z ≡ true) (lt_z a b) b a (λ e. le-true a b (omega (arith, lt_yes a b e))) (λ e. le_same a)
-
-  high-second : le_z b (high_z a b) ≡ true
-  high-second = cond-elim (λ (z : ℤ). le_z b z ≡ true) (lt_z a b) b a (λ e. le_same b) (λ e. le-true b a (omega (arith, lt_no a b e)))
-
-  le_on : (c : ℤ) → le_z a b ≡ true → le_z b c ≡ true → le_z a c ≡ true
-  le_on c p q = le-true a c (omega (arith, le_yes a b p, le_yes b c q))
-
--- a number of the table, read back from a local
-abbrev bits : ℤ → ℤ
-bits z = to_z w64 (of_z w64 z)
-
-module _ (f : ℕ → ℤ) (first : ℕ) where
-  pub floor-first : (z : ℤ) → z ≡ f first → mag z < 2 ^ 63 → Floor f first first (bits z)
-  floor-first z e ok = record { under = λ v x y. let q : v ≡ first = omega arith in rw (back z ok, q, e) (le_same (f first)) }
-
-  pub ceiling-first : (z : ℤ) → z ≡ f first → mag z < 2 ^ 63 → Ceiling f first first (bits z)
-  ceiling-first z e ok = record { over = λ v x y. let q : v ≡ first = omega arith in rw (back z ok, q, e) (le_same (f first)) }
-
-  floor-on : (last : ℕ) (z : ℤ) → Floor f first last z → Floor f first (last + 1) (low_z z (f (last + 1)))
-  floor-on last z l =
-      let w = f (last + 1) in
-      record {
-        under = λ v x y.
-            ⊎_elim (λ (q : v ≡ last + 1). subst (λ (u : ℕ). le_z (low_z z w) (f u) ≡ true) (sym q) (low_second z w))
-            (λ (h : v < last + 1). le_on (low_z z w) z (f v) (low_first z w) (l.under v x (omega arith)))
-            (eq-or-lt_of_le y);
-      }
-
-  ceiling-on : (last : ℕ) (z : ℤ) → Ceiling f first last z → Ceiling f first (last + 1) (high_z z (f (last + 1)))
-  ceiling-on last z l =
-      let w = f (last + 1) in
-      record {
-        over = λ v x y.
-            ⊎_elim (λ (q : v ≡ last + 1). subst (λ (u : ℕ). le_z (f u) (high_z z w) ≡ true) (sym q) (high-second z w))
-            (λ (h : v < last + 1). le_on (f v) z (high_z z w) (l.over v x (omega arith)) (high-first z w))
-            (eq-or-lt_of_le y);
-      }
-
-  pub floor-next : (last : ℕ) (low x z : ℤ) → Floor f first last low → x ≡ f (last + 1) → mag x < 2 ^ 63 → z ≡ low_z low (bits x) → mag z < 2 ^ 63 → Floor f first (last + 1) (bits z)
-  floor-next last low x z l e ox q oz = rw (back z oz, q, back x ox, e) (floor-on last low l)
-
-  pub ceiling-next : (last : ℕ) (high x z : ℤ) → Ceiling f first last high → x ≡ f (last + 1) → mag x < 2 ^ 63 → z ≡ high_z high (bits x) → mag z < 2 ^ 63 → Ceiling f first (last + 1) (bits z)
-  ceiling-next last high x z l e ox q oz = rw (back z oz, q, back x ox, e) (ceiling-on last high l)
 
 -- ---- the table
 

@@ -1,6 +1,6 @@
 -- The laws of `least`, and the first faulty pair by them. Assumes nothing.
 use mathlib.Core.Path.{◌≡◌, refl, sym, subst, subst₂}
-use mathlib.Core.Logic.{◌⊎◌, ⊎_elim}
+use mathlib.Core.Logic.{⊎_elim}
 use mathlib.Core.List.{List}
 use mathlib.Core.Bool.{Bool, true, false}
 use Prim.Native.Nat.{ℕ, zero, suc, ◌+◌, ◌-◌, ◌≤◌, ◌<◌}

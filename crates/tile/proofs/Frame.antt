@@ -3,12 +3,15 @@ use mathlib.Core.Path.{◌≡◌, refl}
 use mathlib.Core.Bool.{Bool, true, false}
 use Prim.Native.Nat.{ℕ, ◌≤◌, ◌^◌}
 use native.Mathlib.Omega.{arith}
-use lib.Dec.{T, le→leb}
+use lib.Dec.{T, le→leb, lit<}
 use lib.Count.{count_trailing_zeros}
 use lib.IntN.{ℤ, pos, negsuc, ◌-ℤ◌}
 use lib.Signed.{le_z}
 use lib.Ieee.{Float, binary32, in_float, of_bits, of_fields, odd}
+use mir.Syntax.{w64}
+use mir.Val.{SFits}
 use Rattle.laws.specs.Whole.{Within}
+use Rattle.laws.proofs.Bounds.{within-sub, within-fits}
 use Rattle.laws.proofs.Choice.{and_left, and_right}
 use Rattle.laws.proofs.Parts.{P, N, num, ints}
 use Rattle.number.specs.Number.{is_real, real_least, real_most}
@@ -22,6 +25,9 @@ real-within z e =
     let a = and_left (le_z real_least z) (le_z z real_most) e in
     let b = and_right (le_z real_least z) (le_z z real_most) e in
     record { within = omega (arith, ints, num z) }
+
+pub difference-fits : (from to : ℤ) → is_real from ≡ true → is_real to ≡ true → SFits w64 (to -ℤ from)
+difference-fits from to a b = within-fits (lit< tt) (within-sub (real-within to b) (real-within from a))
 
 in-float : (d : ℤ) → N d ≡ 0 → P d ≤ 2 ^ 24 → T (in_float binary32 d)
 unfolding in_float

@@ -8,10 +8,10 @@ pub returns-then-spans_overlap : goal.returns-then-spans_overlap
 unfolding boxes-overlap
 returns-then-spans_overlap c =
     let a = c.args.a in let b = c.args.b in let e = c.args.c in let d = c.args.d in
-    and-on (spans-overlap a.x b.x e.x d.x) (spans-overlap a.y b.y e.y d.y) (cc (back c.args.a.x c.well-formed.0.1.1.0.1, back c.args.b.x c.well-formed.1.0.1.1.0.1, back c.args.c.x c.well-formed.1.1.0.1.1.0.1, back c.args.d.x c.well-formed.1.1.1.0.1.1.0.1)) (cc (back c.args.a.y c.well-formed.0.1.1.1.0.1, back c.args.b.y c.well-formed.1.0.1.1.1.0.1, back c.args.c.y c.well-formed.1.1.0.1.1.1.0.1, back c.args.d.y c.well-formed.1.1.1.0.1.1.1.0.1))
+    and-on (spans-overlap a.x b.x e.x d.x) (spans-overlap a.y b.y e.y d.y) (cc (back c.args.a.x c.well_formed.0.1.1.0.1, back c.args.b.x c.well_formed.1.0.1.1.0.1, back c.args.c.x c.well_formed.1.1.0.1.1.0.1, back c.args.d.x c.well_formed.1.1.1.0.1.1.0.1)) (cc (back c.args.a.y c.well_formed.0.1.1.1.0.1, back c.args.b.y c.well_formed.1.0.1.1.1.0.1, back c.args.c.y c.well_formed.1.1.0.1.1.1.0.1, back c.args.d.y c.well_formed.1.1.1.0.1.1.1.0.1))
 
 pub returns : goal.returns
 unfolding boxes-overlap
 returns c =
     let a = c.args.a in let b = c.args.b in let e = c.args.c in let d = c.args.d in
-    and-off (spans-overlap a.x b.x e.x d.x) (spans-overlap a.y b.y e.y d.y) (cc (back c.args.a.x c.well-formed.0.1.1.0.1, back c.args.b.x c.well-formed.1.0.1.1.0.1, back c.args.c.x c.well-formed.1.1.0.1.1.0.1, back c.args.d.x c.well-formed.1.1.1.0.1.1.0.1))
+    and-off (spans-overlap a.x b.x e.x d.x) (spans-overlap a.y b.y e.y d.y) (cc (back c.args.a.x c.well_formed.0.1.1.0.1, back c.args.b.x c.well_formed.1.0.1.1.0.1, back c.args.c.x c.well_formed.1.1.0.1.1.0.1, back c.args.d.x c.well_formed.1.1.1.0.1.1.0.1))

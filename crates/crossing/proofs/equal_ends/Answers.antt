@@ -11,8 +11,8 @@ returns-then-a-b c =
     let a = c.args.a in
     let b = c.args.b in
     and-on (eq_z a.x b.x) (eq_z a.y b.y)
-    (bits-yes a.x b.x (back a.x c.well-formed.0.1.1.0.1) (back b.x c.well-formed.1.0.1.1.0.1) c.if-a-b.true)
-    (bits-eqb a.y b.y (back a.y c.well-formed.0.1.1.1.0.1) (back b.y c.well-formed.1.0.1.1.1.0.1))
+    (bits-yes a.x b.x (back a.x c.well_formed.0.1.1.0.1) (back b.x c.well_formed.1.0.1.1.0.1) c.if-a-b.true)
+    (bits-eqb a.y b.y (back a.y c.well_formed.0.1.1.1.0.1) (back b.y c.well_formed.1.0.1.1.1.0.1))
 
 pub returns : goal.returns
 unfolding equal-ends

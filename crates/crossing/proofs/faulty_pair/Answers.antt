@@ -1,16 +1,9 @@
 -- `crossing::faulty_pair` meets its contract: one lemma of EdgeLaws for each answer; the vertices are close, since the ring is narrow.
-use mathlib.Core.Path.{◌≡◌}
-use mathlib.Core.Logic.{⊎_elim}
-use Prim.Native.Nat.{ℕ, ◌+◌, ◌<◌}
+use Prim.Native.Nat.{◌+◌}
 use native.Mathlib.Omega.{arith}
-use Rattle.crossing.specs.declared.Point.{Point}
-use Rattle.crossing.specs.Edges.{Close, point_at}
 use Rattle.crossing.proofs.EdgeLaws.{close-as, faulty-itself, faulty-next, faulty-ends, faulty-other, not_first, not_last}
 use Rattle.crossing.proofs.faulty_pair.Goals as goal
-
--- two vertices of the ring, as the locals have them
-near : (s : tie.Start) (k l : ℕ) → k < s.args.edges + 1 → l < s.args.edges + 1 → (p q : Point) → p ≡ point_at s.args.points.now (s.args.from + k) → q ≡ point_at s.args.points.now (s.args.from + l) → Close p q
-near s = close-as s.args.points.now s.args.from (s.args.edges + 1) s.requires.3
+use Rattle.crossing.proofs.faulty_pair.Goals.{then-i-eq0+else-j-edges, else-i-eq0}
 
 pub returns-then-i-j : goal.returns-then-i-j
 returns-then-i-j c =
@@ -20,8 +13,8 @@ returns-then-i-j c =
 pub neighbours_overlap-requires : goal.neighbours_overlap-requires
 neighbours_overlap-requires c =
     let i = c.args.i in (
-      near c (i + 1) i (omega arith) (omega arith) _ _ c.requires.5 c.requires.4,
-      near c (i + 1) (c.args.j + 1) (omega arith) (omega arith) _ _ c.requires.5 c.vertex-d.ensures,
+      close-as c.args.points.now c.args.from (c.args.edges + 1) c.requires.3 (i + 1) i (omega arith) (omega arith) _ _ c.requires.5 c.requires.4,
+      close-as c.args.points.now c.args.from (c.args.edges + 1) c.requires.3 (i + 1) (c.args.j + 1) (omega arith) (omega arith) _ _ c.requires.5 c.vertex-d.ensures,
     )
 
 pub returns-then-i-j-2 : goal.returns-then-i-j-2
@@ -33,8 +26,8 @@ pub neighbours_overlap-requires-then-j-edges : goal.neighbours_overlap-requires-
 neighbours_overlap-requires-then-j-edges c =
     let j = c.args.j in
     let d = c.vertex-d.ensures in (
-      near c (j + 1) j (omega arith) (omega arith) _ _ d c.vertex-c.ensures,
-      near c (j + 1) (c.args.i + 1) (omega arith) (omega arith) _ _ d c.requires.5,
+      close-as c.args.points.now c.args.from (c.args.edges + 1) c.requires.3 (j + 1) j (omega arith) (omega arith) _ _ d c.vertex-c.ensures,
+      close-as c.args.points.now c.args.from (c.args.edges + 1) c.requires.3 (j + 1) (c.args.i + 1) (omega arith) (omega arith) _ _ d c.requires.5,
     )
 
 pub returns-then-j-edges : goal.returns-then-j-edges
@@ -51,12 +44,12 @@ edges_meet-requires c =
     let j = c.args.j in
     let r = c.vertex-c.ensures in
     let t = c.vertex-d.ensures in (
-      near c i (i + 1) (omega arith) (omega arith) _ _ c.requires.4 c.requires.5,
-      near c i j (omega arith) (omega arith) _ _ c.requires.4 r,
-      near c i (j + 1) (omega arith) (omega arith) _ _ c.requires.4 t,
-      near c j (j + 1) (omega arith) (omega arith) _ _ r t,
-      near c j i (omega arith) (omega arith) _ _ r c.requires.4,
-      near c j (i + 1) (omega arith) (omega arith) _ _ r c.requires.5,
+      close-as c.args.points.now c.args.from (c.args.edges + 1) c.requires.3 i (i + 1) (omega arith) (omega arith) _ _ c.requires.4 c.requires.5,
+      close-as c.args.points.now c.args.from (c.args.edges + 1) c.requires.3 i j (omega arith) (omega arith) _ _ c.requires.4 r,
+      close-as c.args.points.now c.args.from (c.args.edges + 1) c.requires.3 i (j + 1) (omega arith) (omega arith) _ _ c.requires.4 t,
+      close-as c.args.points.now c.args.from (c.args.edges + 1) c.requires.3 j (j + 1) (omega arith) (omega arith) _ _ r t,
+      close-as c.args.points.now c.args.from (c.args.edges + 1) c.requires.3 j i (omega arith) (omega arith) _ _ r c.requires.4,
+      close-as c.args.points.now c.args.from (c.args.edges + 1) c.requires.3 j (i + 1) (omega arith) (omega arith) _ _ r c.requires.5,
     )
 
 pub returns : goal.returns
@@ -66,6 +59,8 @@ returns c =
     let e =
     faulty-other c.args.points.now c.args.from c.args.edges i j
     c.if-i-j.false c.if-i-j-2.false
-    (⊎_elim (λ w. not_last c.args.points.now c.args.from c.args.edges i j w.1.left)
-    (λ w. not_first c.args.points.now c.args.from c.args.edges i j w.left) c.if-i-eq0.branch) in
+    (elim c.if-i-eq0.branch [
+      | then-i-eq0+else-j-edges w ↦ not_last c.args.points.now c.args.from c.args.edges i j w.if-j-edges.false
+      | else-i-eq0 w ↦ not_first c.args.points.now c.args.from c.args.edges i j w.if-i-eq0.false
+    ]) in
     cc

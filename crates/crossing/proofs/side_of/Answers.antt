@@ -1,45 +1,14 @@
--- `crossing::side_of` meets its contract: each difference fits and is within `span`, since the points are close. What a struct's numbers fit is in `.good`.
+-- `crossing::side_of` meets its contract: each difference is within `span`, since the points are close, and so reads back. What a struct's numbers fit is in `.well_formed`.
 use lib.Dec.{lit<}
-use lib.IntN.{◌-ℤ◌}
-use Rattle.laws.proofs.Bits.{Holds, ask-diff, holds-diff, diff-bits, read-within, back}
-use Rattle.crossing.specs.Edges.{span, side}
+use Rattle.laws.proofs.Bits.{holds-diff, back}
+use Rattle.crossing.specs.Edges.{side}
 use Rattle.crossing.proofs.side_of.Goals as goal
-
-module _ (s : tie.Start) where
-  ux : Holds span (s.args.b.x -ℤ s.args.a.x) (diff-bits s.args.b.x s.args.a.x)
-  ux = holds-diff s.args.b.x s.args.a.x s.well-formed.1.0.1.1.0.1 s.well-formed.0.1.1.0.1 (lit< tt) s.requires.0.wide
-
-  uy : Holds span (s.args.b.y -ℤ s.args.a.y) (diff-bits s.args.b.y s.args.a.y)
-  uy = holds-diff s.args.b.y s.args.a.y s.good.1.0.1.1.1.0.1 s.good.0.1.1.1.0.1 (lit< tt) s.pre.0.high
-
-  wx : Holds span (s.args.c.x -ℤ s.args.a.x) (diff-bits s.args.c.x s.args.a.x)
-  wx = holds-diff s.args.c.x s.args.a.x s.good.1.1.0.1.1.0.1 s.good.0.1.1.0.1 (lit< tt) s.pre.1.wide
-
-  wy : Holds span (s.args.c.y -ℤ s.args.a.y) (diff-bits s.args.c.y s.args.a.y)
-  wy = holds-diff s.args.c.y s.args.a.y s.good.1.1.0.1.1.1.0.1 s.good.0.1.1.1.0.1 (lit< tt) s.pre.1.high
-
--- a bound of what was read back is that the difference fits
-pub overflow_sub-b : goal.overflow_sub-b
-overflow_sub-b c =
-    ask-diff c.args.b.x c.args.a.x c.well-formed.1.0.1.1.0.1 c.well-formed.0.1.1.0.1 (lit< tt) c.requires.0.wide
-
-pub overflow_sub-b-2 : goal.overflow_sub-b-2
-overflow_sub-b-2 c =
-    ask-diff c.args.b.y c.args.a.y c.well-formed.1.0.1.1.1.0.1 c.well-formed.0.1.1.1.0.1 (lit< tt) c.requires.0.high
-
-pub overflow_sub-c : goal.overflow_sub-c
-overflow_sub-c c =
-    ask-diff c.args.c.x c.args.a.x c.well-formed.1.1.0.1.1.0.1 c.well-formed.0.1.1.0.1 (lit< tt) c.requires.1.wide
-
-pub overflow_sub-c-2 : goal.overflow_sub-c-2
-overflow_sub-c-2 c =
-    ask-diff c.args.c.y c.args.a.y c.well-formed.1.1.0.1.1.1.0.1 c.well-formed.0.1.1.1.0.1 (lit< tt) c.requires.1.high
-
-pub cross-requires : goal.cross-requires
-cross-requires c =
-    (read-within (ux c), read-within (uy c), read-within (wx c), read-within (wy c))
 
 pub returns : goal.returns
 unfolding side
 returns c =
-    cc ((ux c).reads, (uy c).reads, (wx c).reads, (wy c).reads, back c.cross.result c.cross.type_inv)
+    let ux = (holds-diff c.args.b.x c.args.a.x c.well_formed.1.0.1.1.0.1 c.well_formed.0.1.1.0.1 (lit< tt) c.requires.0.wide).reads in
+    let uy = (holds-diff c.args.b.y c.args.a.y c.well_formed.1.0.1.1.1.0.1 c.well_formed.0.1.1.1.0.1 (lit< tt) c.requires.0.high).reads in
+    let wx = (holds-diff c.args.c.x c.args.a.x c.well_formed.1.1.0.1.1.0.1 c.well_formed.0.1.1.0.1 (lit< tt) c.requires.1.wide).reads in
+    let wy = (holds-diff c.args.c.y c.args.a.y c.well_formed.1.1.0.1.1.1.0.1 c.well_formed.0.1.1.1.0.1 (lit< tt) c.requires.1.high).reads in
+    cc (ux, uy, wx, wy, back c.cross.result c.cross.type_inv)

@@ -1,52 +1,40 @@
 -- `mask::mask_of` meets its contract: a row that was found stands within its tables. Assumes nothing.
-use Rattle.sheet.specs.Tables.{Tables}
 use Rattle.made.specs.Made.{tables_of}
-use Rattle.row.proofs.SeekLaws.{Stood, stood}
+use Rattle.row.proofs.SeekLaws.{stood}
 use Rattle.area.proofs.QuestionWays.{stood-islands}
 use Rattle.mask.proofs.MaskWays.{at-refused, at-no-row, at-found}
 use borrow.Author.Rules.{rules}
 use Rattle.mask.proofs.mask_of.Goals as goal
 
--- the row was found
-module _ (c : tie.After-known-told2) where
-  abbrev s : tie.Start
-  s = c
-
-  abbrev tables : Tables
-  tables = tables_of s.args.rows.now s.args.letters.now s.args.islands.now s.args.points.now
-
-  found : Stood s.args.header s.args.count tables s.args.row c.in-At.s
-  found = stood s.args.header s.args.count tables s.args.row c.in-At.s c.seek.result c.seek.ensures c.in-At.is
-
 pub offset_bounds-rows-r : goal.offset_bounds-rows-r
-offset_bounds-rows-r c = let h = (found c).stands.row_in in search rules
+offset_bounds-rows-r c = let h = (stood _ _ (tables_of c.args.rows.now c.args.letters.now c.args.islands.now c.args.points.now) _ _ _ c.seek.ensures c.in-At.is).stands.row_in in search rules
 
 pub slice_bounds-mask_of_row-count : goal.slice_bounds-mask_of_row-count
-slice_bounds-mask_of_row-count c = (found c).stands.row_in
+slice_bounds-mask_of_row-count c = (stood _ _ (tables_of c.args.rows.now c.args.letters.now c.args.islands.now c.args.points.now) _ _ _ c.seek.ensures c.in-At.is).stands.row_in
 
 pub slice_bounds-mask_of_row-start : goal.slice_bounds-mask_of_row-start
-slice_bounds-mask_of_row-start c = (found c).stands.row_in
+slice_bounds-mask_of_row-start c = (stood _ _ (tables_of c.args.rows.now c.args.letters.now c.args.islands.now c.args.points.now) _ _ _ c.seek.ensures c.in-At.is).stands.row_in
 
 pub offset_bounds-islands-i : goal.offset_bounds-islands-i
-offset_bounds-islands-i c = let h = (found c).stands.islands-in in search rules
+offset_bounds-islands-i c = let h = (stood _ _ (tables_of c.args.rows.now c.args.letters.now c.args.islands.now c.args.points.now) _ _ _ c.seek.ensures c.in-At.is).stands.islands-in in search rules
 
 pub slice_bounds-mask_of_row-count-in-At : goal.slice_bounds-mask_of_row-count-in-At
-slice_bounds-mask_of_row-count-in-At c = (found c).stands.islands-in
+slice_bounds-mask_of_row-count-in-At c = (stood _ _ (tables_of c.args.rows.now c.args.letters.now c.args.islands.now c.args.points.now) _ _ _ c.seek.ensures c.in-At.is).stands.islands-in
 
 pub slice_bounds-mask_of_row-start-in-At : goal.slice_bounds-mask_of_row-start-in-At
-slice_bounds-mask_of_row-start-in-At c = (found c).stands.islands-in
+slice_bounds-mask_of_row-start-in-At c = (stood _ _ (tables_of c.args.rows.now c.args.letters.now c.args.islands.now c.args.points.now) _ _ _ c.seek.ensures c.in-At.is).stands.islands-in
 
 pub offset_bounds-points-p : goal.offset_bounds-points-p
-offset_bounds-points-p c = let h = (found c).stands.points-in in search rules
+offset_bounds-points-p c = let h = (stood _ _ (tables_of c.args.rows.now c.args.letters.now c.args.islands.now c.args.points.now) _ _ _ c.seek.ensures c.in-At.is).stands.points-in in search rules
 
 pub slice_bounds-mask_of_row-count-in-At-2 : goal.slice_bounds-mask_of_row-count-in-At-2
-slice_bounds-mask_of_row-count-in-At-2 c = (found c).stands.points-in
+slice_bounds-mask_of_row-count-in-At-2 c = (stood _ _ (tables_of c.args.rows.now c.args.letters.now c.args.islands.now c.args.points.now) _ _ _ c.seek.ensures c.in-At.is).stands.points-in
 
 pub slice_bounds-mask_of_row-start-in-At-2 : goal.slice_bounds-mask_of_row-start-in-At-2
-slice_bounds-mask_of_row-start-in-At-2 c = (found c).stands.points-in
+slice_bounds-mask_of_row-start-in-At-2 c = (stood _ _ (tables_of c.args.rows.now c.args.letters.now c.args.islands.now c.args.points.now) _ _ _ c.seek.ensures c.in-At.is).stands.points-in
 
 pub mask_of_row-requires : goal.mask_of_row-requires
-mask_of_row-requires c = stood-islands _ _ _ _ _ (found c)
+mask_of_row-requires c = stood-islands _ _ _ _ _ (stood _ _ (tables_of c.args.rows.now c.args.letters.now c.args.islands.now c.args.points.now) _ _ _ c.seek.ensures c.in-At.is)
 
 pub returns-in-Refused : goal.returns-in-Refused
 returns-in-Refused c = at-refused _ _ (tables_of c.args.rows.now c.args.letters.now c.args.islands.now c.args.points.now) _ _ _ _ _ c.seek.ensures _ c.in-Refused.is _ c.blank_of.ensures

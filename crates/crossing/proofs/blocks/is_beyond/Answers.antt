@@ -2,6 +2,8 @@
 use Prim.Native.Nat.{◌+◌}
 use lib.ListN.{get_or}
 use lib.IntN.{pos}
+use mir.Syntax.{w64}
+use borrow.Author.Rules.{rules}
 use mir.Facts.{to_z-of_z}
 use Rattle.laws.proofs.Bits.{back}
 use Rattle.crossing.proofs.BoxLaws.{beyond-above, beyond-below}
@@ -12,7 +14,7 @@ returns-then-boxes-at c =
     let w = c.lower in
     let high = get_or c.args.boxes.now (c.args.at + 1) (pos 0) in
     beyond-above (get_or c.args.boxes.now c.args.at (pos 0)) high c.args.a c.args.b
-    (rw (back high c.t8-1.given, back w.result w.type_inv, w.ensures, to_z-of_z c.ranges.a, to_z-of_z c.ranges.b) at c.if-boxes-at.true)
+    (rw (to_z-of_z {w = w64} {z = high} (search rules), back w.result w.type_inv, w.ensures, to_z-of_z c.ranges.a, to_z-of_z c.ranges.b) at c.if-boxes-at.true)
 
 pub returns : goal.returns
 returns c =
@@ -21,5 +23,5 @@ returns c =
     let low = get_or c.args.boxes.now c.args.at (pos 0) in
     let high = get_or c.args.boxes.now (c.args.at + 1) (pos 0) in
     let e = beyond-below low high c.args.a c.args.b
-    (rw (back high c.t8-1.given, back w.result w.type_inv, w.ensures, to_z-of_z c.ranges.a, to_z-of_z c.ranges.b) at c.if-boxes-at.false) in
-    rw (back v.result v.type_inv, v.ensures, to_z-of_z c.ranges.a, to_z-of_z c.ranges.b, back low c.result-1.given) e
+    (rw (to_z-of_z {w = w64} {z = high} (search rules), back w.result w.type_inv, w.ensures, to_z-of_z c.ranges.a, to_z-of_z c.ranges.b) at c.if-boxes-at.false) in
+    rw (back v.result v.type_inv, v.ensures, to_z-of_z c.ranges.a, to_z-of_z c.ranges.b, to_z-of_z {w = w64} {z = low} (search rules)) e

@@ -1,15 +1,8 @@
 -- `crossing::blocks::meets` meets its contract: the vertices are close, since the ring is narrow. Assumes nothing.
-use mathlib.Core.Path.{◌≡◌}
-use Prim.Native.Nat.{ℕ, ◌+◌, ◌<◌}
+use Prim.Native.Nat.{◌+◌}
 use native.Mathlib.Omega.{arith}
-use Rattle.crossing.specs.declared.Point.{Point}
-use Rattle.crossing.specs.Edges.{Close, point_at}
 use Rattle.crossing.proofs.EdgeLaws.{close-as}
 use Rattle.crossing.proofs.blocks.meets.Goals as goal
-
--- two vertices of the ring, as the locals have them
-near : (s : tie.Start) (k l : ℕ) → k < s.args.edges + 1 → l < s.args.edges + 1 → (p q : Point) → p ≡ point_at s.args.points.now (s.args.from + k) → q ≡ point_at s.args.points.now (s.args.from + l) → Close p q
-near s = close-as s.args.points.now s.args.from (s.args.edges + 1) s.requires.0.narrow
 
 pub overflow_add-from : goal.overflow_add-from
 overflow_add-from c = omega (arith, c.requires.0.held)
@@ -34,12 +27,12 @@ edges_meet-requires c =
     let k = c.args.k in
     let r = c.vertex-c.ensures in
     let t = c.vertex-d.ensures in (
-      near c i (i + 1) (omega arith) (omega arith) _ _ w.start w.end,
-      near c i k (omega arith) (omega arith) _ _ w.start r,
-      near c i (k + 1) (omega arith) (omega arith) _ _ w.start t,
-      near c k (k + 1) (omega arith) (omega arith) _ _ r t,
-      near c k i (omega arith) (omega arith) _ _ r w.start,
-      near c k (i + 1) (omega arith) (omega arith) _ _ r w.end,
+      close-as c.args.points.now c.args.from (c.args.edges + 1) w.narrow i (i + 1) (omega arith) (omega arith) _ _ w.start w.end,
+      close-as c.args.points.now c.args.from (c.args.edges + 1) w.narrow i k (omega arith) (omega arith) _ _ w.start r,
+      close-as c.args.points.now c.args.from (c.args.edges + 1) w.narrow i (k + 1) (omega arith) (omega arith) _ _ w.start t,
+      close-as c.args.points.now c.args.from (c.args.edges + 1) w.narrow k (k + 1) (omega arith) (omega arith) _ _ r t,
+      close-as c.args.points.now c.args.from (c.args.edges + 1) w.narrow k i (omega arith) (omega arith) _ _ r w.start,
+      close-as c.args.points.now c.args.from (c.args.edges + 1) w.narrow k (i + 1) (omega arith) (omega arith) _ _ r w.end,
     )
 
 pub returns : goal.returns

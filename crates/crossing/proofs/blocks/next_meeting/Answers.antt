@@ -18,7 +18,6 @@ loop-e-init c = (
   skip-none (meets_at c.args.points.now c.args.from c.args.a c.args.b) c.args.j (c.args.edges - 1) (omega arith),
   λ h. div-mul-le_self c.args.j c.args.size,
   lt-div-mul-add c.requires.2.some,
-
 )
 
 pub overflow_mul-k : goal.overflow_mul-k

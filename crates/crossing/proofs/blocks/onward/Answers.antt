@@ -24,7 +24,6 @@ next_meeting-requires c = (
   omega arith,
   c.requires.6,
   c.requires.7,
-
 )
 
 pub returns : goal.returns
