@@ -119,7 +119,7 @@ module _ {A : Type 0} (lt : A → A → Bool) where
   take-sorted zero sorted-nil = sorted-nil
   take-sorted zero (sorted-on e o) = sorted-nil
   take-sorted (suc n) sorted-nil = sorted-nil
-  take-sorted (suc n) (sorted-on e o) = sorted-on (each_take n e) (take-sorted n o)
+  take-sorted (suc n) (sorted-on {x = x} {s = s} e o) = sorted-on (each_take n e) (take-sorted {s = s} n o)
 
   pub each-insert : (P : A → Type 0) (x : A) (s : List A) → P x → EachOf P s → EachOf P (insert lt x s)
   unfolding insert

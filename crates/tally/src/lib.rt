@@ -285,7 +285,7 @@ pub fn take(
     }
 }
 
-// A running tally, lent by its owner, takes one border: thin over `take`, and proved by hand.
+// A running tally, lent by its owner, takes one border: thin over `take`.
 pub fn take_in(
     t: &mut Tally,
     header: Header,

@@ -14,19 +14,20 @@ returns-in-Missing c = search (total-ways, rules)
 pub returns-in-Wide : goal.returns-in-Wide
 returns-in-Wide c = search (total-ways, rules)
 
-passed : (c : tie.After-known-told invariant-loop decreases-loop)
-    → Passed c.args.points.now c.args.from c.args.sizes.now c.loop-i.total c.loop-i.at c.loop-i.i c.wide-n.result c.in-Doubled.d
-passed c =
-    total-passed c.args.points.now c.args.from c.args.sizes.now c.loop-i.total c.loop-i.at c.loop-i.i c.loop-i.invariant.1 c.loop-i-test.true _ c.wide-n.ensures _ c.doubled_area.ensures _ c.in-Doubled.is c.loop-i.invariant.2 c.loop-i.invariant.3
-
 pub overflow_add-total : goal.overflow_add-total
-overflow_add-total c = (passed c).ranges
+overflow_add-total c =
+    (total-passed c.args.points.now c.args.from c.args.sizes.now c.loop-i.total-bits c.loop-i.at c.loop-i.i c.loop-i.invariant.1 c.loop-i-test.true _ c.wide-n.ensures _ c.doubled_area.ensures _ c.in-Doubled.is c.loop-i.invariant.2 c.loop-i.invariant.3).fits
 
 pub overflow_add-at : goal.overflow_add-at
-overflow_add-at c = record { fits = omega (arith, (passed c).left) }
+overflow_add-at c =
+    let passed = total-passed c.args.points.now c.args.from c.args.sizes.now c.loop-i.total-bits c.loop-i.at c.loop-i.i c.loop-i.invariant.1 c.loop-i-test.true _ c.wide-n.ensures _ c.doubled_area.ensures _ c.in-Doubled.is c.loop-i.invariant.2 c.loop-i.invariant.3 in
+    let left = passed.left in
+    record { fits = omega (arith, left) }
 
 pub loop-i-preserved : goal.loop-i-preserved
-loop-i-preserved c = (search rules, (passed c).on, (passed c).left, (passed c).bound)
+loop-i-preserved c =
+    let passed = total-passed c.args.points.now c.args.from c.args.sizes.now c.loop-i.total-bits c.loop-i.at c.loop-i.i c.loop-i.invariant.1 c.loop-i-test.true _ c.wide-n.ensures _ c.doubled_area.ensures _ c.in-Doubled.is c.loop-i.invariant.2 c.loop-i.invariant.3 in
+    (omega arith, passed.on, passed.left, passed.bound)
 
 pub returns : goal.returns
 returns c = search (total-ways, rules)

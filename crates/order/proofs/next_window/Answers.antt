@@ -2,7 +2,6 @@
 -- made once more, unguided. The first inner loop finds the place, the second carries each item one place on. Assumes nothing.
 use mathlib.Core.Bool.{not}
 use mathlib.Core.Path.{◌∙◌, ap}
-use mathlib.Core.Logic.{⊎_elim}
 use native.Mathlib.Omega.{arith}
 use borrow.Author.Tests.{not-true, not-false}
 use Rattle.made.specs.Made.{tables_of}
@@ -11,6 +10,7 @@ use Rattle.order.proofs.PlaceWays.{halving-down, halving-up, halving-end, middle
 use Rattle.order.proofs.ShiftWays.{shift_in, shift-more}
 use Rattle.order.proofs.WindowWays.{filling-start, filling-halves, filling-past, filling-by, filling-shift, filling-in, filling-end}
 use Rattle.order.proofs.next_window.Goals as goal
+use Rattle.order.proofs.next_window.Goals.{then-is_within+then-joins_window+else-loop-low-test+else-loop-i-test, then-is_within+else-joins_window, else-is_within}
 
 pub since_letters-from-requires : goal.since_letters-from-requires
 since_letters-from-requires c = tt
@@ -112,7 +112,15 @@ pub loop-k-smaller : goal.loop-k-smaller
 loop-k-smaller c = omega (arith, c.loop-k-test.true)
 
 pub loop-k-preserved : goal.loop-k-preserved
-loop-k-preserved c = let f = c.loop-k.invariant in let l = c.loop-k-test.true in let u = within-up _ _ c.args.islands.now c.args.points.now c.loop-k.d _ _ _ _ _ c.since_letters-from.ensures c.letters_at.ensures _ c.is_within.ensures in ⊎_elim (λ x. filling-in f l (u x.0.taken) _ _ x.2.ensures _ (halving-end x.4.inv x.5.left) x.3.taken x.6.inv x.7.left c.if-is_within.n (x.10 ∙ x.8.ensures) c.if-is_within.items x.9 c.stand_next-d.result c.stand_next-d.ensures) (⊎_elim (λ x. filling-by f l (u x.0.taken) _ _ x.2.ensures x.3.left c.if-is_within.items x.4 c.if-is_within.n x.5 c.stand_next-d.result c.stand_next-d.ensures) (λ x. filling-past f l (passed-by _ _ c.args.islands.now c.args.points.now c.loop-k.d _ _ _ _ _ c.since_letters-from.ensures c.letters_at.ensures _ c.is_within.ensures x.0.left) c.if-is_within.items x.1 c.if-is_within.n x.2 c.stand_next-d.result c.stand_next-d.ensures)) c.if-is_within.branch
+loop-k-preserved c =
+    let f = c.loop-k.invariant in
+    let l = c.loop-k-test.true in
+    let u = within-up _ _ c.args.islands.now c.args.points.now c.loop-k.d _ _ _ _ _ c.since_letters-from.ensures c.letters_at.ensures _ c.is_within.ensures in
+    elim c.if-is_within.branch [
+      | then-is_within+then-joins_window+else-loop-low-test+else-loop-i-test x ↦ filling-in f l (u x.if-is_within.true) _ _ x.joins_window.ensures _ (halving-end x.loop-low.invariant x.loop-low-test.false) x.if-joins_window.true x.loop-i.invariant x.loop-i-test.false c.if-is_within.n (x.n-is ∙ x.clip-n.ensures) c.if-is_within.items x.items-is c.stand_next-d.result c.stand_next-d.ensures
+      | then-is_within+else-joins_window x ↦ filling-by f l (u x.if-is_within.true) _ _ x.joins_window.ensures x.if-joins_window.false c.if-is_within.items x.items-is c.if-is_within.n x.n-is c.stand_next-d.result c.stand_next-d.ensures
+      | else-is_within x ↦ filling-past f l (passed-by _ _ c.args.islands.now c.args.points.now c.loop-k.d _ _ _ _ _ c.since_letters-from.ensures c.letters_at.ensures _ c.is_within.ensures x.if-is_within.false) c.if-is_within.items x.items-is c.if-is_within.n x.n-is c.stand_next-d.result c.stand_next-d.ensures
+    ]
 
 pub returns-then-n-eq-WIDTH : goal.returns-then-n-eq-WIDTH
 returns-then-n-eq-WIDTH c = guided-full (tables_of c.args.rows.now c.args.letters.now c.args.islands.now c.args.points.now) c.args.guide.now c.loop-d.guided _ _ _ _ (filling-end c.loop-k.invariant c.loop-k-test.false) c.if-n-eq-WIDTH.true

@@ -1,10 +1,10 @@
 -- `order::sup_count` meets its contract: those behind are counted, the others are to come. Assumes nothing.
 use mathlib.Core.List.{[]}
-use mathlib.Core.Logic.{⊎_elim}
 use native.Mathlib.Omega.{arith}
 use Rattle.made.specs.Made.{tables_of}
 use Rattle.order.proofs.CountWays.{counting-start, counting-one, counting-none, counting-end}
 use Rattle.order.proofs.sup_count.Goals as goal
+use Rattle.order.proofs.sup_count.Goals.{then-is_in_sup, else-is_in_sup}
 
 pub first_stand-d-requires : goal.first_stand-d-requires
 first_stand-d-requires c = tt
@@ -29,8 +29,10 @@ loop-k-preserved c =
     let f = c.loop-k.invariant in
     let l = c.loop-k-test.true in
     let e = c.is_in_sup.ensures in
-    ⊎_elim (λ x. counting-one f l _ e c.stand_next-d.result c.stand_next-d.ensures x.0.taken c.if-is_in_sup.n x.1)
-    (λ x. counting-none f l _ e c.stand_next-d.result c.stand_next-d.ensures x.0.left c.if-is_in_sup.n x.1) c.if-is_in_sup.branch
+    elim c.if-is_in_sup.branch [
+      | then-is_in_sup x ↦ counting-one f l _ e c.stand_next-d.result c.stand_next-d.ensures x.if-is_in_sup.true c.if-is_in_sup.n x.n-is
+      | else-is_in_sup x ↦ counting-none f l _ e c.stand_next-d.result c.stand_next-d.ensures x.if-is_in_sup.false c.if-is_in_sup.n x.n-is
+    ]
 
 pub returns : goal.returns
 returns c = counting-end c.loop-k.invariant c.loop-k-test.false

@@ -2,6 +2,7 @@
 use mathlib.Core.Path.{refl}
 use native.Mathlib.Omega.{arith}
 use native.Mathlib.Nat.{div-le_self}
+use Rattle.sorting.specs.Exchanges.{Exchanges.none_yet}
 use Rattle.sorting.proofs.SortedLaws.{exchanges-length, lines-few, sorted-is}
 use Rattle.sorting.proofs.SinkLaws.{passes-more, next-gap}
 use Rattle.sorting.proofs.sort_lines.Goals as goal

@@ -2,7 +2,8 @@
 use mathlib.Core.Path.{◌∙◌, ap}
 use native.Mathlib.Omega.{arith}
 use lib.ListN.{length}
-use borrow.Author.Rules.{rules, scaled__fits}
+use Prim.Native.Nat.{◌<◌}
+use borrow.Author.Rules.{rules}
 use Rattle.made.specs.Made.{tables_of}
 use Rattle.edit.proofs.CloseWays.{length-closed}
 use Rattle.edit.proofs.RemoveWays.{own-there, end-asks, letters-asks, islands-asks, points-asks, rows-asks, behind-in, lower-asks, rows-length, rows-done, letters-done, islands-done, points-done}
@@ -51,7 +52,10 @@ pub overflow_sub-count-2 : goal.overflow_sub-count-2
 overflow_sub-count-2 c = let h = c.requires.1 in omega arith
 
 pub offset_bounds-rows-r : goal.offset_bounds-rows-r
-offset_bounds-rows-r c = let g = c.well-formed in let h = own-there c.args.count c.args.row (tables_of c.args.rows.now c.args.letters.now c.args.islands.now c.args.points.now) c.requires.0 c.requires.1 c.args.d c.requires.2 14 (omega arith) in scaled__fits c.args.d.row (length c.args.rows.now) 8 (omega (arith, h)) (search (g, rules))
+offset_bounds-rows-r c =
+    let h = own-there c.args.count c.args.row (tables_of c.args.rows.now c.args.letters.now c.args.islands.now c.args.points.now) c.requires.0 c.requires.1 c.args.d c.requires.2 14 (omega arith) in
+    let k : c.args.d.row < length c.args.rows.now = omega (arith, h) in
+    search rules
 
 pub slice_bounds-lower_rows-count : goal.slice_bounds-lower_rows-count
 slice_bounds-lower_rows-count c = behind-in c.args.count c.args.row (tables_of c.args.rows.now c.args.letters.now c.args.islands.now c.args.points.now) c.requires.0 c.requires.1 c.args.d c.requires.2 c.end_of-end.result c.end_of-end.ensures _ c.close_numbers-2.ensures
