@@ -10,4 +10,6 @@ pub slice_bounds-put_text-end : goal.slice_bounds-put_text-end
 slice_bounds-put_text-end c = part_count _ _ (text_in _ _ _ _ c.put_listing-size.ensures)
 
 pub returns : goal.returns
-returns c = text-handed _ _ _ _ c.put_listing-size.ensures _ _ _ c.put_text.ensures.value c.put_text.ensures.out_after
+returns c =
+    let said = text-handed _ _ _ _ c.put_listing-size.ensures _ _ _ c.put_text.ensures.value c.put_text.ensures.out_after
+    in record { value = said.0; out_after = said.1 }
