@@ -2,21 +2,20 @@
 #![tactic(auto)]
 
 use conversion::{CLEAN_MOST, convert_text};
-use libc::{STDIN_FILENO, STDOUT_FILENO};
 use listing::{INPUT_MOST, Listed};
+use std::io;
+use std::io::{Read, Write};
 
 // One byte more than the limit, so that more input is seen.
 const INPUT_ROOM: usize = INPUT_MOST + 1;
 
-fn main() {
-    let mut src = [0u8; INPUT_ROOM];
-    let n = io::read_full(STDIN_FILENO, &mut src);
+fn main(rt: HostRuntime) -> io::Result<()> {
+    let mut src = Vec::new(rt.alloc());
+    rt.stdin().take(INPUT_ROOM as u64).read_to_end(&mut src)?;
     let mut text = [0u8; CLEAN_MOST];
-    match convert_text(&src[..n], &mut text) {
-        Listed::Wrote(size) => {
-            io::write_all(STDOUT_FILENO, &text[..size]);
-        }
+    match convert_text(&src, &mut text) {
+        Listed::Wrote(size) => rt.stdout().write_all(&text[..size]),
         // The array holds any conversion.
-        Listed::NoRoom(_) => {}
+        Listed::NoRoom(_) => Ok(()),
     }
 }

@@ -5,8 +5,12 @@
 
 ghost use Rattle.std.specs.Prelude.{◌≤◌, length};
 
-use libc::{STDIN_FILENO, STDOUT_FILENO};
 use listing::{Listed, list_text};
+use std::io;
+use std::io::{Print, Read};
+
+// How much of standard input is looked at.
+const INPUT_ROOM: u64 = 65536;
 
 // Where the input ends that begins at `at`: before the next byte 0, or at the end.
 fn end_of(src: &[u8], at: usize) -> usize
@@ -23,27 +27,26 @@ fn end_of(src: &[u8], at: usize) -> usize
     end
 }
 
-fn print_listing(src: &[u8]) {
+fn print_listing(rt: &impl Print, src: &[u8]) -> io::Result<()> {
     let mut text = [0u8; 640];
     match list_text(src, &mut text) {
-        Listed::Wrote(size) => {
-            io::write_all(STDOUT_FILENO, &text[..size]);
-        }
-        Listed::NoRoom(_) => {}
+        Listed::Wrote(size) => rt.write_all(&text[..size]),
+        Listed::NoRoom(_) => Ok(()),
     }
 }
 
-fn print_listings(src: &[u8]) {
+fn print_listings(rt: &impl Print, src: &[u8]) -> io::Result<()> {
     let mut at = 0;
     while at < src.len() {
         let end = end_of(src, at);
-        print_listing(&src[at..end]);
+        print_listing(rt, &src[at..end])?;
         at = end + 1;
     }
+    Ok(())
 }
 
-fn main() {
-    let mut src = io::large_buffer();
-    let n = io::read_full(STDIN_FILENO, &mut src);
-    print_listings(&src[..n]);
+fn main(rt: HostRuntime) -> io::Result<()> {
+    let mut src = Vec::new(rt.alloc());
+    rt.stdin().take(INPUT_ROOM).read_to_end(&mut src)?;
+    print_listings(&rt, &src)
 }

@@ -9,11 +9,15 @@
 ghost use Rattle.std.specs.Prelude.{◌≤◌, length};
 
 use heading::Header;
-use libc::{STDIN_FILENO, STDOUT_FILENO};
 use reader::{Answer, read_as};
 use record::{Mode, is_same};
+use std::io;
+use std::io::{Print, Read};
 use tile::{Tile, tile_point};
 use writer::{Written, write};
+
+// How much of standard input is looked at.
+const INPUT_ROOM: u64 = 65536;
 
 // How many bytes of `out` hold the sheet's text; 0 where it is refused.
 fn store(
@@ -65,36 +69,35 @@ fn pad(mode: Mode, src: &[u8], out: &mut [u8]) -> usize
     }
 }
 
-fn print_sheet(src: &[u8], text: &mut [u8], again: &mut [u8]) {
+fn print_sheet(rt: &impl Print, src: &[u8], text: &mut [u8], again: &mut [u8]) -> io::Result<()> {
     let n = pad(Mode::Former, src, text);
-    io::write_all(STDOUT_FILENO, &text[..n]);
+    rt.write_all(&text[..n])?;
     let m = pad(Mode::Exact, &text[..n], again);
     if is_same(&text[..n], &again[..m]) {
-        io::write_all(
-            STDOUT_FILENO,
-            b"read again in exact mode, written again: the same bytes\n",
-        );
+        rt.write_all(b"read again in exact mode, written again: the same bytes\n")?;
     }
+    Ok(())
 }
 
-fn print_tile() {
+fn print_tile(rt: &impl Print) -> io::Result<()> {
     match tile_point(0, 512, 1000, 0) {
         Tile::Outside => {}
         Tile::At(o) => {
             if o.east == 3.90625 {
                 if o.south == 2.0 {
-                    io::write_all(STDOUT_FILENO, b"3.90625 2.0\n");
+                    rt.write_all(b"3.90625 2.0\n")?;
                 }
             }
         }
     }
+    Ok(())
 }
 
-fn main() {
-    let mut src = io::large_buffer();
-    let n = io::read_full(STDIN_FILENO, &mut src);
+fn main(rt: HostRuntime) -> io::Result<()> {
+    let mut src = Vec::new(rt.alloc());
+    rt.stdin().take(INPUT_ROOM).read_to_end(&mut src)?;
     let mut text = [0u8; 32768];
     let mut again = [0u8; 32768];
-    print_sheet(&src[..n], &mut text, &mut again);
-    print_tile();
+    print_sheet(&rt, &src, &mut text, &mut again)?;
+    print_tile(&rt)
 }
