@@ -6,7 +6,7 @@ use Rattle.listing.specs.Listing.{figures}
 use Rattle.listing.proofs.put_figures.Given as goal
 
 abbrev pub invariant-loop-i : goal.invariant-loop-i
-invariant-loop-i l = Putting l.initial.out l.at (figures l.s) l.next l.i (figures (drop i l.s))
+invariant-loop-i l = Putting l.initial.out l.at (figures l.s) l.out l.next (figures (drop l.i l.s))
 
 abbrev pub decreases-loop-i : goal.decreases-loop-i
-decreases-loop-i l = length l.s - i
+decreases-loop-i l = length l.s - l.i
