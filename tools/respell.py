@@ -20,7 +20,7 @@ MET = {
     "made/proofs/OwnLaws.antt": ("made_by", "made_by_lem"),
     "order/specs/Examples.antt": ("by_bytes", "by_bytes_lem"),
 }
-WORD = re.compile(r"(\"(?:[^\"\\\n]|\\.)*\"|\bb'(?:\\.|[^'\\])')|[^\W\d][\w']*")
+WORD = re.compile(r"(\"(?:[^\"\\\n]|\\.)*\"|\bb'(?:\\.|[^'\\])')|(?<!\w)[^\W\d][\w']*")
 
 
 def snake(name):

@@ -51,7 +51,7 @@ fn nexts(kind: usize) -> usize
     ensures { are_nexts kind result ≡ true }
 {
     if kind == 1 {
-        return 0x0_b3_a87654009;
+        return 0x0B3A87654009;
     }
     if kind == 2 {
         return 0x003000654009;
@@ -63,13 +63,13 @@ fn nexts(kind: usize) -> usize
         return 0x002087600509;
     }
     if kind == 5 {
-        return 0x000000000_b02;
+        return 0x000000000B02;
     }
     if kind == 6 {
         return 0x000000000009;
     }
     if kind == 7 {
-        return 0x002000000_b09;
+        return 0x002000000B09;
     }
     0
 }
@@ -114,13 +114,13 @@ fn codes(kind: usize) -> usize
     ensures { are_codes kind result ≡ true }
 {
     if kind == 3 {
-        return 0x00011_effe;
+        return 0x00011EFFE;
     }
     if kind == 4 {
         return 0x000100100;
     }
     if kind == 5 {
-        return 0x_fe0001862;
+        return 0xFE0001862;
     }
     if kind == 7 {
         return 0x000000002;

@@ -26,14 +26,14 @@ lane b w k m h l =
     rw e (and_block 8 w m b k h l ∙ omega arith)
 
 -- the first byte, and the first halves of the others
-fixed : (a b c d : ℕ) → a < 256 → b < 256 → c < 256 → d < 256 → bit_and (four a b c d) 0x_f0_f0_f0_ff ≡ four a (16 * (b / 16)) (16 * (c / 16)) (16 * (d / 16))
+fixed : (a b c d : ℕ) → a < 256 → b < 256 → c < 256 → d < 256 → bit_and (four a b c d) 0xF0F0F0FF ≡ four a (16 * (b / 16)) (16 * (c / 16)) (16 * (d / 16))
 fixed a b c d ha hb hc hd =
     let whole : bit_and a 255 ≡ a = and_mask a 8 ∙ omega arith in
-    lane a (b + 256 * (c + 256 * d)) 255 0x_f0_f0_f0 ha (omega arith)
-    ∙ rw (lane b (c + 256 * d) 240 0x_f0_f0 hb (omega arith), lane c d 240 240 hc (omega arith), whole, high b hb, high c hc, high d hd)
+    lane a (b + 256 * (c + 256 * d)) 255 0xF0F0F0 ha (omega arith)
+    ∙ rw (lane b (c + 256 * d) 240 0xF0F0 hb (omega arith), lane c d 240 240 hc (omega arith), whole, high b hb, high c hc, high d hd)
 
 -- lane by lane
-alike : (a b c d : ℕ) → a < 256 → b < 16 → c < 16 → d < 16 → four a (16 * b) (16 * c) (16 * d) ≡ 0x3030302_e → (a ≡ 46) × (b ≡ 3) × (c ≡ 3) × (d ≡ 3)
+alike : (a b c d : ℕ) → a < 256 → b < 16 → c < 16 → d < 16 → four a (16 * b) (16 * c) (16 * d) ≡ 0x3030302E → (a ≡ 46) × (b ≡ 3) × (c ≡ 3) × (d ≡ 3)
 alike a b c d ha hb hc hd e = (omega arith, omega arith, omega arith, omega arith)
 
 -- the two tests of one lane: 48 .. 63, and not past 57
@@ -42,7 +42,7 @@ nine-most b e f = digit-is b (omega arith) (omega arith)
 
 -- what the two tests tell
 module _ (a b c d : ℕ) (ha : a < 256) (hb : b < 256) (hc : c < 256) (hd : d < 256)
-    (t : bit_and (four a b c d) 0x_f0_f0_f0_ff ≡ 0x3030302_e) (u : bit_and (four a b c d + 0x06060600) 0x_f0_f0_f0_ff ≡ 0x3030302_e) where
+    (t : bit_and (four a b c d) 0xF0F0F0FF ≡ 0x3030302E) (u : bit_and (four a b c d + 0x06060600) 0xF0F0F0FF ≡ 0x3030302E) where
   point-places : (a ≡ 46) × (digit b ≡ true) × (digit c ≡ true) × (digit d ≡ true)
   point-places =
       let x = alike a (b / 16) (c / 16) (d / 16) ha (omega arith) (omega arith) (omega arith) (sym (fixed a b c d ha hb hc hd) ∙ t) in
@@ -50,7 +50,7 @@ module _ (a b c d : ℕ) (ha : a < 256) (hb : b < 256) (hc : c < 256) (hd : d < 
       let lc : c + 6 < 256 = omega (arith, x.2) in
       let ld : d + 6 < 256 = omega (arith, x.3) in
       let e : four a b c d + 0x06060600 ≡ four a (b + 6) (c + 6) (d + 6) = omega arith in
-      let v : bit_and (four a (b + 6) (c + 6) (d + 6)) 0x_f0_f0_f0_ff ≡ 0x3030302_e = rw e at u in
+      let v : bit_and (four a (b + 6) (c + 6) (d + 6)) 0xF0F0F0FF ≡ 0x3030302E = rw e at u in
       let y = alike a ((b + 6) / 16) ((c + 6) / 16) ((d + 6) / 16) ha (omega arith) (omega arith) (omega arith) (sym (fixed a (b + 6) (c + 6) (d + 6) ha lb lc ld) ∙ v) in
       (x.0, nine-most b x.1 y.1, nine-most c x.2 y.2, nine-most d x.3 y.3)
 
@@ -61,7 +61,7 @@ twelve s at i h = get_or-take 12 (drop at s) i 0 h ∙ get_or-drop at s i 0
 -- the way of `is_tailed`
 module _ (s : List ℕ) (at width end y : ℕ) (h : at + 14 ≤ length s) (bytes : (i : ℕ) → get_or s i 0 < 256)
     (w : y ≡ four (get_or s (at + 8) 0) (get_or s (at + 9) 0) (get_or s (at + 10) 0) (get_or s (at + 11) 0))
-    (t : bit_and y 0x_f0_f0_f0_ff ≡ 0x3030302_e) (u : bit_and (y + 0x06060600) 0x_f0_f0_f0_ff ≡ 0x3030302_e) where
+    (t : bit_and y 0xF0F0F0FF ≡ 0x3030302E) (u : bit_and (y + 0x06060600) 0xF0F0F0FF ≡ 0x3030302E) where
   at_places : (get_or s (at + 8) 0 ≡ 46) × (digit (get_or s (at + 9) 0) ≡ true) × (digit (get_or s (at + 10) 0) ≡ true) × (digit (get_or s (at + 11) 0) ≡ true)
   at_places = point-places (get_or s (at + 8) 0) (get_or s (at + 9) 0) (get_or s (at + 10) 0) (get_or s (at + 11) 0) (bytes (at + 8)) (bytes (at + 9)) (bytes (at + 10)) (bytes (at + 11)) (rw w at t) (rw w at u)
 

@@ -8,9 +8,9 @@ ghost use Rattle.quick.specs.Neighbours.{follows, pair_at, Tailed, Judged};
 use crate::by_word::four;
 
 // Of four bytes in one number: all of the first, and the first half of each other.
-const POINT_AND_HALVES: usize = 0x_f0_f0_f0_ff;
+const POINT_AND_HALVES: usize = 0xF0F0F0FF;
 // So a point and three bytes of 48 to 63 stand there.
-const POINT_AND_PLACES: usize = 0x3030302_e;
+const POINT_AND_PLACES: usize = 0x3030302E;
 // Added to those, it leaves the first half of a digit alone, and of no other.
 const PAST_NINE: usize = 0x06060600;
 

@@ -8,7 +8,7 @@ pub put_refused-requires : goal.put_refused-requires
 put_refused-requires c = refused-fits _ _ _ _ _ c.requires.1
 
 pub put_used-requires : goal.put_used-requires
-put_used-requires c = record { used_fits = read_fits c.args.src.now _ c.requires.0 enough-tables _ c.read_as-outcome.ensures.value _ c.in-Read.is (replicate 4380 (pos 0)) _ (replicate 8192 0) _ (replicate 4096 0) _ (replicate 1365 (pos 0)) _ c.read_as-outcome.ensures.rows_after.0 c.read_as-outcome.ensures.rows_after.1.0 c.read_as-outcome.ensures.rows_after.1.1.0 c.read_as-outcome.ensures.rows_after.1.1.1; points_in_bounds = room-same (read-sheet c.args.src.now _ c.requires.0 enough-tables _ c.read_as-outcome.ensures.value _ c.in-Read.is (replicate 4380 (pos 0)) _ (replicate 8192 0) _ (replicate 4096 0) _ (replicate 1365 (pos 0)) _ c.read_as-outcome.ensures.rows_after.0 c.read_as-outcome.ensures.rows_after.1.0 c.read_as-outcome.ensures.rows_after.1.1.0 c.read_as-outcome.ensures.rows_after.1.1.1) _ (read-fits-in c.args.src.now _ c.requires.1) }
+put_used-requires c = record { used_fits = read_fits c.args.src.now _ c.requires.0 enough-tables _ c.read_as-outcome.ensures.value _ c.in-Read.is (replicate 4380 (pos 0)) _ (replicate 8192 0) _ (replicate 4096 0) _ (replicate 1365 (pos 0)) _ c.read_as-outcome.ensures.rows_after c.read_as-outcome.ensures.letters_after c.read_as-outcome.ensures.islands_after c.read_as-outcome.ensures.points_after; points_in_bounds = room-same (read-sheet c.args.src.now _ c.requires.0 enough-tables _ c.read_as-outcome.ensures.value _ c.in-Read.is (replicate 4380 (pos 0)) _ (replicate 8192 0) _ (replicate 4096 0) _ (replicate 1365 (pos 0)) _ c.read_as-outcome.ensures.rows_after c.read_as-outcome.ensures.letters_after c.read_as-outcome.ensures.islands_after c.read_as-outcome.ensures.points_after) _ (read-fits-in c.args.src.now _ c.requires.1) }
 
 pub returns-in-Refused : goal.returns-in-Refused
 returns-in-Refused c = put_same (read-refused c.args.src.now _ c.requires.0 enough-tables _ c.read_as-outcome.ensures.value _ _ _ c.in-Refused.is) c.put_refused.ensures
@@ -17,4 +17,4 @@ pub returns-in-NoRoom : goal.returns-in-NoRoom
 returns-in-NoRoom c = absurd (read_short c.args.src.now _ c.requires.0 enough-tables _ c.read_as-outcome.ensures.value _ c.in-NoRoom.is)
 
 pub returns-in-Read : goal.returns-in-Read
-returns-in-Read c = put_same (read-sheet c.args.src.now _ c.requires.0 enough-tables _ c.read_as-outcome.ensures.value _ c.in-Read.is (replicate 4380 (pos 0)) _ (replicate 8192 0) _ (replicate 4096 0) _ (replicate 1365 (pos 0)) _ c.read_as-outcome.ensures.rows_after.0 c.read_as-outcome.ensures.rows_after.1.0 c.read_as-outcome.ensures.rows_after.1.1.0 c.read_as-outcome.ensures.rows_after.1.1.1) c.put_used.ensures
+returns-in-Read c = put_same (read-sheet c.args.src.now _ c.requires.0 enough-tables _ c.read_as-outcome.ensures.value _ c.in-Read.is (replicate 4380 (pos 0)) _ (replicate 8192 0) _ (replicate 4096 0) _ (replicate 1365 (pos 0)) _ c.read_as-outcome.ensures.rows_after c.read_as-outcome.ensures.letters_after c.read_as-outcome.ensures.islands_after c.read_as-outcome.ensures.points_after) c.put_used.ensures

@@ -40,40 +40,20 @@ returns-in-Wrong c = search (judged-wrong, rules)
 pub returns-in-Strange : goal.returns-in-Strange
 returns-in-Strange c = search (judged-strange, rules)
 
--- the row is passed: what is judged after it
-module _ (c : tie.After-known-told invariant-loop decreases-loop) where
-  abbrev at : tie.At-loop invariant-loop decreases-loop
-  at = c
-
-  abbrev letters : ℕ
-  letters = c.in-On.a
-
-  abbrev islands : ℕ
-  islands = c.in-On.b
-
-  abbrev points : ℕ
-  points = c.in-On.c
-
-  next : Judged at.before.before.before.args.mode at.before.before.before.args.count
-      (tables_of at.before.before.before.args.rows.now at.before.before.before.args.letters.now at.before.before.before.args.islands.now at.before.before.before.args.points.now)
-      (at.loop.k + 1) (at.loop.r + row_width) (at.loop.l + letters) (at.loop.i + islands) (at.loop.p + points)
-  next =
-      judged-on _ _ _ _ _ _ _ _ at.loop.inv c.loop-k-test.true _ c.judge_row.ensures _ _ _ c.in-On.is
-
 pub overflow_add-r : goal.overflow_add-r
-overflow_add-r c = record { fits = omega (arith, (next c).rows_in) }
+overflow_add-r c = record { fits = omega (arith, (judged-on _ _ _ _ _ _ _ _ c.loop-k.invariant c.loop-k-test.true _ c.judge_row.ensures _ _ _ c.in-On.is).rows_in) }
 
 pub overflow_add-l : goal.overflow_add-l
-overflow_add-l c = record { fits = omega (arith, (next c).letters-in) }
+overflow_add-l c = record { fits = omega (arith, (judged-on _ _ _ _ _ _ _ _ c.loop-k.invariant c.loop-k-test.true _ c.judge_row.ensures _ _ _ c.in-On.is).letters-in) }
 
 pub overflow_add-i : goal.overflow_add-i
-overflow_add-i c = record { fits = omega (arith, (next c).islands-in) }
+overflow_add-i c = record { fits = omega (arith, (judged-on _ _ _ _ _ _ _ _ c.loop-k.invariant c.loop-k-test.true _ c.judge_row.ensures _ _ _ c.in-On.is).islands-in) }
 
 pub overflow_add-p : goal.overflow_add-p
-overflow_add-p c = record { fits = omega (arith, (next c).points-in) }
+overflow_add-p c = record { fits = omega (arith, (judged-on _ _ _ _ _ _ _ _ c.loop-k.invariant c.loop-k-test.true _ c.judge_row.ensures _ _ _ c.in-On.is).points-in) }
 
 pub loop-k-preserved : goal.loop-k-preserved
-loop-k-preserved c = next c
+loop-k-preserved c = judged-on _ _ _ _ _ _ _ _ c.loop-k.invariant c.loop-k-test.true _ c.judge_row.ensures _ _ _ c.in-On.is
 
 pub returns : goal.returns
 returns c = search (judged-all, rules)

@@ -25,4 +25,4 @@ pub returns-in-Refused-judge : goal.returns-in-Refused-judge
 returns-in-Refused-judge c = said-refused _ _ _ _ _ _ _ _ _ _ _ _ c.without-in-Refused-judge.ensures (answer-refused _ c.args.src.now _ c.if-src-gt-FILE_MOST.false c.header_at-headed.result c.header_at-headed.ensures _ c.in-Sections.is _ c.judge.ensures _ _ _ _ c.in-Refused-judge.is)
 
 pub returns-else-not-has_room : goal.returns-else-not-has_room
-returns-else-not-has_room c = said_read _ _ _ _ _ _ _ _ _ _ _ _ _ _ (answer-read _ c.args.src.now _ c.if-src-gt-FILE_MOST.false c.header_at-headed.result c.header_at-headed.ensures _ c.in-Sections.is _ c.judge.ensures _ c.in-Fine.is _ c.has_room.ensures (not-false _ (ap not c.if-not-has_room.false))) (tables-are _ c.args.src.now (rooms_of 0 0 0 0) c.if-src-gt-FILE_MOST.false c.header_at-headed.result c.header_at-headed.ensures _ c.in-Sections.is) c.fill.ensures.rows_after c.fill.ensures.letters_after.0 c.fill.ensures.letters_after.1.0 c.fill.ensures.letters_after.1.1
+returns-else-not-has_room c = said_read _ _ _ _ _ _ _ _ _ _ _ _ _ _ (answer-read _ c.args.src.now _ c.if-src-gt-FILE_MOST.false c.header_at-headed.result c.header_at-headed.ensures _ c.in-Sections.is _ c.judge.ensures _ c.in-Fine.is _ c.has_room.ensures (not-false _ (ap not c.if-not-has_room.false))) (tables-are _ c.args.src.now (rooms_of 0 0 0 0) c.if-src-gt-FILE_MOST.false c.header_at-headed.result c.header_at-headed.ensures _ c.in-Sections.is) c.fill.ensures.rows_after c.fill.ensures.letters_after c.fill.ensures.islands_after c.fill.ensures.points_after

@@ -9,5 +9,5 @@ pub returns : goal.returns
 returns c =
     after_is c.args.rows.now c.args.d c.if-row-rows.false _ _ _ _ _ _ _ _
     c.count_at.ensures c.count_at-2.ensures c.count_at-vertices.ensures
-    c.wrapping_add_usize.ensures c.wrapping_add_usize-2.ensures c.wrapping_add_usize-3.ensures
-    c.wrapping_add_usize-4.ensures c.wrapping_add_usize-5.ensures
+    c.wrapping_add_usize.ensures.value c.wrapping_add_usize-2.ensures.value c.wrapping_add_usize-3.ensures.value
+    c.wrapping_add_usize-4.ensures.value c.wrapping_add_usize-5.ensures.value

@@ -8,10 +8,10 @@ pub move_judged-requires : goal.move_judged-requires
 move_judged-requires c = judged-long c.args.header c.args.count (tables_of c.args.rows.now c.args.letters.now c.args.islands.now c.args.points.now) c.args.dx c.args.dy _ c.judge.ensures c.in-Fine.is
 
 pub returns-then-move_judged : goal.returns-then-move_judged
-returns-then-move_judged c = sheet-moved c.args.header c.args.count (tables_of c.args.rows.now c.args.letters.now c.args.islands.now c.args.points.now) c.args.dx c.args.dy _ c.judge.ensures c.in-Fine.is c.ranges.dx c.ranges.dy _ c.move_judged.ensures.value _ _ c.move_judged.ensures.rows_after.0 c.move_judged.ensures.rows_after.1 c.if-move_judged.true
+returns-then-move_judged c = sheet-moved c.args.header c.args.count (tables_of c.args.rows.now c.args.letters.now c.args.islands.now c.args.points.now) c.args.dx c.args.dy _ c.judge.ensures c.in-Fine.is c.ranges.dx c.ranges.dy _ c.move_judged.ensures.value _ _ c.move_judged.ensures.rows_after c.move_judged.ensures.points_after c.if-move_judged.true
 
 pub returns-else-move_judged : goal.returns-else-move_judged
-returns-else-move_judged c = sheet-off c.args.header c.args.count (tables_of c.args.rows.now c.args.letters.now c.args.islands.now c.args.points.now) c.args.dx c.args.dy _ c.judge.ensures c.in-Fine.is c.ranges.dx c.ranges.dy _ c.move_judged.ensures.value _ _ c.move_judged.ensures.rows_after.0 c.move_judged.ensures.rows_after.1 c.if-move_judged.false
+returns-else-move_judged c = sheet-off c.args.header c.args.count (tables_of c.args.rows.now c.args.letters.now c.args.islands.now c.args.points.now) c.args.dx c.args.dy _ c.judge.ensures c.in-Fine.is c.ranges.dx c.ranges.dy _ c.move_judged.ensures.value _ _ c.move_judged.ensures.rows_after c.move_judged.ensures.points_after c.if-move_judged.false
 
 pub returns-in-BadHeader : goal.returns-in-BadHeader
 returns-in-BadHeader c = record { value = move-after c.args.header c.args.count (tables_of c.args.rows.now c.args.letters.now c.args.islands.now c.args.points.now) c.args.dx c.args.dy _ c.judge.ensures _ c.in-BadHeader.is; rows_after = refl; points_after = refl }

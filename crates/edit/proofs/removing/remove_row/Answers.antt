@@ -12,7 +12,7 @@ pub overflow_sub-result : goal.overflow_sub-result
 overflow_sub-result c = let h = (remove-asks c.args.header c.args.count (tables_of c.args.rows.now c.args.letters.now c.args.islands.now c.args.points.now) c.args.row c.seek.result c.seek.ensures _ c.in-At.is).1 in omega arith
 
 pub returns-in-At : goal.returns-in-At
-returns-in-At c = record { value = remove-after c.args.header c.args.count (tables_of c.args.rows.now c.args.letters.now c.args.islands.now c.args.points.now) c.args.row c.seek.result c.seek.ensures _ c.in-At.is; rows_after = c.remove_at.ensures.rows_after; letters_after = c.remove_at.ensures.letters_after.0; islands_after = c.remove_at.ensures.letters_after.1.0; points_after = c.remove_at.ensures.letters_after.1.1 }
+returns-in-At c = record { value = remove-after c.args.header c.args.count (tables_of c.args.rows.now c.args.letters.now c.args.islands.now c.args.points.now) c.args.row c.seek.result c.seek.ensures _ c.in-At.is; rows_after = c.remove_at.ensures.rows_after; letters_after = c.remove_at.ensures.letters_after; islands_after = c.remove_at.ensures.islands_after; points_after = c.remove_at.ensures.points_after }
 
 pub returns-in-Missing : goal.returns-in-Missing
 returns-in-Missing c = record { value = remove-after c.args.header c.args.count (tables_of c.args.rows.now c.args.letters.now c.args.islands.now c.args.points.now) c.args.row c.seek.result c.seek.ensures _ c.in-Missing.is; rows_after = refl; letters_after = refl; islands_after = refl; points_after = refl }

@@ -7,7 +7,7 @@ use lib.Dec.{eqb, ltb}
 use Rattle.laws.specs.Lists.{below, holds}
 use Rattle.kinds.specs.Kinds.{schedule}
 use Rattle.made.specs.Made.{has_field}
-use Rattle.made.proofs.FieldWays.{has-at, has-none, less}
+use Rattle.made.proofs.FieldWays.{has-at, has-none}
 use Rattle.made.proofs.numbers.has.Goals as goal
 
 pub returns-in-2 : goal.returns-in-2
@@ -51,7 +51,4 @@ unfolding below has_field holds schedule
 returns-in-11 c = rw (c.is_among-in-11.ensures, c.in-11.is) (has-at (λ (k : ℕ). eqb k 1 || (eqb k 5 || eqb k 7)) 11 refl c.args.kind c.requires.0 c.requires.1)
 
 pub returns-in_default : goal.returns-in_default
-returns-in_default c =
-    let r = c.in-2.rest in
-    let h : c.args.place ≤ 11 = omega (arith, c.requires.2) in
-    has-none c.args.place (less (less (less (less (less (less (less (less (less (less h r.1) r.0.1) r.0.0.1) r.0.0.0.1) r.0.0.0.0.1) r.0.0.0.0.0.1) r.0.0.0.0.0.0.1) r.0.0.0.0.0.0.0.1) r.0.0.0.0.0.0.0.0.1) r.0.0.0.0.0.0.0.0.0.1) c.args.kind c.requires.0 c.requires.1
+returns-in_default c = has-none c.args.place (omega (arith, c.requires.2)) c.args.kind c.requires.0 c.requires.1

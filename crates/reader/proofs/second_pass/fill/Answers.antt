@@ -26,13 +26,13 @@ pub store-requires : goal.store-requires
 store-requires c = record { t_le_token_most = fill-token c.requires.room c.loop-stand.invariant c.turn_at.result c.turn_at.ensures _ _ _ c.in-On.is; put_room = fill-room c.requires.room c.loop-stand.invariant c.turn_at.result c.turn_at.ensures _ _ _ c.in-On.is }
 
 pub put_rows-d-requires : goal.put_rows-d-requires
-put_rows-d-requires c = fill-asks c.requires.room c.loop-stand.invariant c.turn_at.result c.turn_at.ensures _ _ _ c.in-On.is _ _ _ _ c.store.ensures.rows_after c.store.ensures.letters_after.0 c.store.ensures.letters_after.1.0 c.store.ensures.letters_after.1.1
+put_rows-d-requires c = fill-asks c.requires.room c.loop-stand.invariant c.turn_at.result c.turn_at.ensures _ _ _ c.in-On.is _ _ _ _ c.store.ensures.rows_after c.store.ensures.letters_after c.store.ensures.islands_after c.store.ensures.points_after
 
 pub loop-stand-smaller : goal.loop-stand-smaller
-loop-stand-smaller c = fill-less c.requires.room c.loop-stand.invariant c.turn_at.result c.turn_at.ensures _ _ _ c.in-On.is _ _ _ _ c.store.ensures.rows_after c.store.ensures.letters_after.0 c.store.ensures.letters_after.1.0 c.store.ensures.letters_after.1.1 _ c.put_rows-d.ensures
+loop-stand-smaller c = fill-less c.requires.room c.loop-stand.invariant c.turn_at.result c.turn_at.ensures _ _ _ c.in-On.is _ _ _ _ c.store.ensures.rows_after c.store.ensures.letters_after c.store.ensures.islands_after c.store.ensures.points_after _ c.put_rows-d.ensures
 
 pub loop-stand-preserved : goal.loop-stand-preserved
-loop-stand-preserved c = (fill-past c.requires.room c.loop-stand.invariant c.turn_at.result c.turn_at.ensures _ _ _ c.in-On.is _ _ _ _ c.store.ensures.rows_after c.store.ensures.letters_after.0 c.store.ensures.letters_after.1.0 c.store.ensures.letters_after.1.1 _ c.put_rows-d.ensures).filled
+loop-stand-preserved c = (fill-past c.requires.room c.loop-stand.invariant c.turn_at.result c.turn_at.ensures _ _ _ c.in-On.is _ _ _ _ c.store.ensures.rows_after c.store.ensures.letters_after c.store.ensures.islands_after c.store.ensures.points_after _ c.put_rows-d.ensures).filled
 
 pub shape_of-rows-in-Refused : goal.shape_of-rows-in-Refused
 shape_of-rows-in-Refused c = (filled-kept c.requires.room c.loop-stand.invariant).rows-kept

@@ -8,7 +8,7 @@ use Rattle.sup.proofs.RawPuts.{raws-start, raws-end, raws-fits, raws-narrow, raw
 use Rattle.sup.proofs.listed.put_raws.Goals as goal
 
 pub loop-k-init : goal.loop-k-init
-loop-k-init c = raws-start c.args.header c.args.count (tables_of c.args.rows.now c.args.letters.now c.args.islands.now c.args.points.now) c.args.out.now c.args.at c.requires.points_value c.requires.points_value_2.0 c.requires.points_value_2.1
+loop-k-init c = raws-start c.args.header c.args.count (tables_of c.args.rows.now c.args.letters.now c.args.islands.now c.args.points.now) c.args.out.now c.args.at c.requires.points_value c.requires.points_value_2 c.requires.points_in_bounds
 
 pub is_in_sup-requires : goal.is_in_sup-requires
 is_in_sup-requires c = tt
