@@ -2,7 +2,6 @@
 use mathlib.Core.Path.{refl}
 use Prim.Native.Nat.{zero-le}
 use native.Mathlib.Omega.{arith}
-use Rattle.mask.specs.Width.{width_of}
 use Rattle.mask.proofs.WidthWays.{widths-over, widths-missing, widths-wide, widths-on, widths-room}
 use Rattle.mask.proofs.widths_from.Goals as goal
 
