@@ -3,22 +3,19 @@ use mathlib.Core.Path.{◌≡◌, refl, sym, ap, ◌∙◌, subst}
 use mathlib.Core.List.{List}
 use mathlib.Core.Logic.{⊎_elim}
 use mathlib.Core.Bool.{Bool, true, false, ◌&&◌}
-use Prim.Native.Nat.{ℕ, ◌+◌, ◌*◌, ◌^◌, ◌≤◌, ◌<◌}
+use Prim.Native.Nat.{ℕ, ◌+◌, ◌*◌, ◌≤◌, ◌<◌}
 use native.Mathlib.Nat.{le_refl, eq-or-lt_of_le, add-mul, lt_of_mul-lt-mul_right}
 use native.Mathlib.Omega.{arith}
 use lib.Dec.{leb}
 use lib.ListN.{length, get_or, set, length-set}
 use lib.Seq.{get_or-set_same, get_or-set_other}
 use lib.IntN.{ℤ, pos}
-use lib.Signed.{lt_z, le_z, mag}
-use mir.Syntax.{w64}
-use mir.Val.{to_z, of_z}
+use lib.Signed.{lt_z, le_z}
 use borrow.Author.Tests.{leb-true, leb-false}
 use Rattle.laws.specs.Whole.{low_z, high_z}
 use Rattle.laws.proofs.Choice.{cond-elim}
 use Rattle.laws.proofs.Chains.{and-off, and-off-second}
-use Rattle.laws.proofs.Parts.{lt_yes, lt_no, le_yes, le-true, lt-true, le_not_lt}
-use Rattle.laws.proofs.Bits.{back}
+use Rattle.laws.proofs.Parts.{lt_yes, le_yes, lt-true, le_not_lt}
 use Rattle.plane.specs.Rings.{x-at, y-at}
 use Rattle.crossing.specs.declared.Point.{Point}
 use Rattle.crossing.specs.Edges.{point_at, spans-overlap, boxes-overlap}

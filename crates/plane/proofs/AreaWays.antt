@@ -155,6 +155,6 @@ module _ (ps : List ℤ) (from n : ℕ) (h : held (length ps) from n ≡ true) w
                     easts = is-held next-east;
                     norths = is-held next-north;
                     sums =
-                      rw (sum_more ps from k)
-                      (record { near = within-le (omega arith) (within-add w.sums.near term.near); reads = to_z-of_z summed-add ∙ ap₂ (λ (a b : ℤ). a +ℤ b) w.sums.reads term.reads });
+                        rw (sum_more ps from k)
+                        (record { near = within-le (omega arith) (within-add w.sums.near term.near); reads = to_z-of_z summed-add ∙ ap₂ (λ (a b : ℤ). a +ℤ b) w.sums.reads term.reads });
                   }

@@ -5,7 +5,6 @@ use Rattle.record.specs.Refusals.{too_wide, no_such}
 use Rattle.heading.specs.declared.Header.{Header}
 use Rattle.sheet.specs.Tables.{Tables}
 use Rattle.crossing.specs.declared.RingVerdict.{RingVerdict}
-use Rattle.crossing.specs.declared.RingVerdict.TheVariants as RingVerdict
 use Rattle.crossing.specs.Search.{verdict_of}
 use Rattle.area.specs.declared.RingAnswer.{RingAnswer}
 use Rattle.area.specs.declared.RingAnswer.TheVariants as Ring

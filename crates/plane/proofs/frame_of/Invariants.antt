@@ -1,8 +1,6 @@
 -- `plane::frame_of` meets its contract: the loop keeps the least and the greatest so far. Assumes nothing.
 use Prim.Native.Nat.{◌+◌, ◌*◌, ◌-◌, ◌≤◌}
 use lib.ListN.{length}
-use mir.Syntax.{w64}
-use mir.Val.{to_z}
 use Rattle.plane.specs.Rings.{x-at, y-at}
 use Rattle.plane.specs.Frames.{Least, Greatest}
 use Rattle.plane.proofs.frame_of.Given as goal

@@ -1,12 +1,5 @@
 -- `plane::within_reach` meets its contract: the lemmas are in proofs/Apart.antt. A local holds bits, which `to_z-of_z` reads back.
-use mathlib.Core.Path.{◌≡◌}
-use mathlib.Core.Bool.{true, false}
-use lib.IntN.{pos, ◌+ℤ◌, ◌-ℤ◌}
-use lib.Signed.{lt_z}
-use mir.Syntax.{w64}
-use mir.Val.{SFits}
 use mir.Facts.{to_z-of_z}
-use Rattle.plane.specs.Rings.{reach}
 use Rattle.plane.proofs.Apart.{up_fits, down_fits, below-fits, above-fits, far-above, far-below, not-above, not-below}
 use Rattle.plane.proofs.within_reach.Goals as goal
 
