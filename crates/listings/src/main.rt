@@ -27,7 +27,7 @@ fn end_of(src: &[u8], at: usize) -> usize
     end
 }
 
-fn print_listing(rt: &impl Print, src: &[u8]) -> io::Result<()> {
+fn print_listing(rt: &HostRuntime, src: &[u8]) -> io::Result<()> {
     let mut text = [0u8; 640];
     match list_text(src, &mut text) {
         Listed::Wrote(size) => rt.write_all(&text[..size]),
@@ -35,7 +35,7 @@ fn print_listing(rt: &impl Print, src: &[u8]) -> io::Result<()> {
     }
 }
 
-fn print_listings(rt: &impl Print, src: &[u8]) -> io::Result<()> {
+fn print_listings(rt: &HostRuntime, src: &[u8]) -> io::Result<()> {
     let mut at = 0;
     while at < src.len() {
         let end = end_of(src, at);

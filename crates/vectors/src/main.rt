@@ -69,7 +69,7 @@ fn pad(mode: Mode, src: &[u8], out: &mut [u8]) -> usize
     }
 }
 
-fn print_sheet(rt: &impl Print, src: &[u8], text: &mut [u8], again: &mut [u8]) -> io::Result<()> {
+fn print_sheet(rt: &HostRuntime, src: &[u8], text: &mut [u8], again: &mut [u8]) -> io::Result<()> {
     let n = pad(Mode::Former, src, text);
     rt.write_all(&text[..n])?;
     let m = pad(Mode::Exact, &text[..n], again);
@@ -79,7 +79,7 @@ fn print_sheet(rt: &impl Print, src: &[u8], text: &mut [u8], again: &mut [u8]) -
     Ok(())
 }
 
-fn print_tile(rt: &impl Print) -> io::Result<()> {
+fn print_tile(rt: &HostRuntime) -> io::Result<()> {
     match tile_point(0, 512, 1000, 0) {
         Tile::Outside => {}
         Tile::At(o) => {
