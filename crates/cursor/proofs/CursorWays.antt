@@ -21,16 +21,16 @@ module _ (s : List ℕ) (mode : Mode) (due : Bool) (n : ℕ) where
     turn h = let e : n - i ≡ suc (n - (i + 1)) = omega arith in inv.1 ∙ ap (λ (k : ℕ). nth_from s mode due k at) e
 
     module _ (h : i < n) (q : st ≡ step_at s at mode false) where
-      pub nth_on : (x : ℕ × (ℕ × (ℕ × Unit {0}))) × (st.found ≡ Record x.0 x.1.0 x.1.1.0)
+      pub nth_on : {start len next : ℕ} → st.found ≡ Record start len next
           → (i + 1 ≤ n) × (nth_record s mode n due ≡ nth_from s mode due (n - (i + 1)) st.at)
       nth_on f =
-          let e = sym (ap (λ (t : Served). t.found) q) ∙ f.1 in
+          let e = sym (ap (λ (t : Served). t.found) q) ∙ f in
           let on = ap (λ (t : Served). t.at) q ∙ ap (λ (r : Found). place_after r at) e in
           (omega arith, turn h ∙ ap (λ (r : Found). passing r (nth_from s mode due (n - (i + 1)))) e ∙ sym (ap (nth_from s mode due (n - (i + 1))) on))
 
-      pub nth-refused : (f : (x : ℕ × Unit {0}) × (st.found ≡ Refused x.0)) → Refused f.0.0 ≡ nth_record s mode n due
+      pub nth-refused : {number : ℕ} → st.found ≡ Refused number → Refused number ≡ nth_record s mode n due
       nth-refused f =
-          let e = sym (ap (λ (t : Served). t.found) q) ∙ f.1 in
+          let e = sym (ap (λ (t : Served). t.found) q) ∙ f in
           sym (turn h ∙ ap (λ (r : Found). passing r (nth_from s mode due (n - (i + 1)))) e)
 
     pub nth_last : n ≤ i → st ≡ step_at s at mode due → st.found ≡ nth_record s mode n due

@@ -20,10 +20,10 @@ computed s mode n due = nth_record s mode n due
 abbrev file : List ℕ
 file = text "AB\r\nEOF"
 
-module _ (block : ℕ × ℕ) (name : ℕ) where
+module _ (block : ℕ × ℕ) where
   -- the file, wherever it lies
   abbrev src : Bor (List ℕ)
-  src = record { ref_ptr = block; ghost_name = name; now = file }
+  src = record { ref_ptr = block; now = file }
 
   abbrev start : Mode → Cursor
   start mode = at_start src mode

@@ -6,10 +6,10 @@ pub loop-i-init : goal.loop-i-init
 loop-i-init c = nth-start _ _ _ _
 
 pub returns-in-Refused : goal.returns-in-Refused
-returns-in-Refused c = nth-refused _ _ _ _ _ _ c.loop-i.invariant _ c.loop-i-test.true c.next_at-step.ensures c.found-1.given
+returns-in-Refused c = nth-refused _ _ _ _ _ _ c.loop-i.invariant _ c.loop-i-test.true c.next_at-step.ensures c.in-Refused.is
 
 pub loop-i-preserved : goal.loop-i-preserved
-loop-i-preserved c = nth_on _ _ _ _ _ _ c.loop-i.invariant _ c.loop-i-test.true c.next_at-step.ensures c.enum_told-1.given
+loop-i-preserved c = nth_on _ _ _ _ _ _ c.loop-i.invariant _ c.loop-i-test.true c.next_at-step.ensures c.in-Record.is
 
 pub returns : goal.returns
 returns c = nth_last _ _ _ _ _ _ c.loop-i.invariant _ c.loop-i-test.false c.next_at-last.ensures
