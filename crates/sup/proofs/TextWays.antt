@@ -150,6 +150,10 @@ module _ (h : Header) (count : ℕ) (t : Tables) (f : List ℤ) where
 
 -- ---- the text, part by part
 
+-- a name's eleven places, by way of a map of it
+pub name-fits : {A : Type 0} (B : Type 0) (g : A → B) (s : List A) → length (map g s) ≡ 11 → length s ≤ 11
+name-fits B g s e = omega (arith, length-map s g)
+
 lines-append : (a b : List FigureLine) → lines_text (a ++ b) ≡ lines_text a ++ lines_text b
 unfolding lines_text
 lines-append [] b = refl
