@@ -4,13 +4,10 @@ use mathlib.Core.Path.{◌≡◌, refl}
 use Rattle.heading.specs.declared.Header.{Header}
 use Rattle.sheet.specs.Tables.{Tables}
 use Rattle.row.specs.declared.Sought.{Sought}
-use Rattle.row.specs.declared.Sought.TheVariants as Sought
 use Rattle.row.specs.Seek.{sought_of}
 use Rattle.row.specs.Seek as Seek
 use Rattle.area.specs.declared.Areas.{Areas}
-use Rattle.area.specs.declared.Areas.TheVariants as Areas
 use Rattle.area.specs.declared.RingPlace.{RingPlace}
-use Rattle.area.specs.declared.RingPlace.TheVariants as RingPlace
 use Rattle.area.specs.declared.RingAnswer.{RingAnswer}
 use Rattle.area.specs.declared.RingAnswer.TheVariants as Found
 use Rattle.area.specs.BorderRings.{net_of, areas_number, ring_number}

@@ -1,4 +1,4 @@
-// The library for programs in C, Rust and Python: each entry point of documents 01 and 02, exported as `include/cxf.h` declares it.
+// The library for programs in C, Rust and Python: each entry point of documents 01 and 02, as `include/cxf.h` declares it; `cabi_c` exports them.
 // All of it is proved, and no public function has a `requires`. Each is thin: it calls the library's own, and `told` lays the answer
 // out in a struct.
 #![tactic(auto)]

@@ -7,12 +7,12 @@ use native.Mathlib.Omega.{arith}
 use lib.Dec.{leb, eqb}
 use lib.ListN.{length, get_or, take, drop, take-append-drop, length-drop, get_or-append}
 use lib.Seq.{length-take-le, take_at, drop_at, drop-append_seam}
-use lib.IntN.{ℤ, pos, neg_ℤ, nat_abs, ◌+ℤ◌, ◌-ℤ◌}
+use lib.IntN.{ℤ, pos, neg_ℤ, nat_abs, ◌+ℤ◌}
 use borrow.Author.Tests.{leb-true, le-leb, ne_eqb}
 use Rattle.laws.specs.Lists.{below, over}
 use Rattle.laws.proofs.Choice.{and_left, and_right, and_both}
 use Rattle.laws.proofs.ListLaws.{below_at, below_all}
-use Rattle.laws.proofs.Parts.{num, sum, diff, neg-P, neg-N, abs-parts, eq-parts}
+use Rattle.laws.proofs.Parts.{num, sum, neg-P, neg-N, eq-parts}
 use Rattle.record.specs.declared.Mode.TheVariants.{Loose}
 use Rattle.number.specs.Number.{is_real}
 use Rattle.kinds.specs.Kinds.{row_width, own_width, vertices_place, want_at}
@@ -26,10 +26,10 @@ use Rattle.made.specs.Made.{nat_of, cell_at, count_at, kind_of, islands_of, poin
 use Rattle.made.proofs.RowWays.{made_held}
 use Rattle.made.proofs.UsedLaws.{fine-on}
 use Rattle.row.proofs.SeekLaws.{fine-rows}
-use Rattle.edit.specs.declared.Edited.TheVariants.{Done, MovedOff}
+use Rattle.edit.specs.declared.Edited.TheVariants.{Done}
 use Rattle.edit.specs.Rows.{every_row, each_row}
 use Rattle.edit.specs.Moves.{move_most, is_part, is_moved, part_at, moved_cell, moved_cells, moved_row, moved_rows, cell_stays, row_stays, rows_stay, moved_tables, is_move, moved_after, move_of}
-use Rattle.edit.specs.Used.{vertex_count, points_used}
+use Rattle.edit.specs.Used.{vertex_count}
 use Rattle.edit.proofs.RowMoves.{length-row}
 use Rattle.edit.proofs.SheetMoves.{used-points, judged-long}
 use Rattle.edit.proofs.MoveLaws.{row-cell, still, still-late, reals-append, moved-fine}

@@ -1,10 +1,10 @@
 -- A table that is closed up: the loop that copies down. Assumes nothing.
-use mathlib.Core.Path.{◌≡◌, refl, sym, ◌∙◌, ap}
-use mathlib.Core.List.{List, ◌++◌, append_assoc}
+use mathlib.Core.Path.{◌≡◌, sym, ◌∙◌, ap}
+use mathlib.Core.List.{List, ◌++◌}
 use Prim.Native.Nat.{ℕ, ◌+◌, ◌-◌, ◌≤◌, ◌<◌}
 use native.Mathlib.Omega.{arith}
-use lib.ListN.{length, get_or, set, take, drop, length-append, length-drop, take-append-drop, get_or-append}
-use lib.Seq.{length-take-le, take-append-le, take_at, take-take, drop-drop, get_or-drop, get_or-append-add}
+use lib.ListN.{length, get_or, set, take, drop, length-append, length-drop, take-append-drop}
+use lib.Seq.{length-take-le, take_at, get_or-drop, get_or-append-add}
 use Rattle.laws.specs.Lists.{over}
 use Rattle.laws.proofs.TableLaws.{over-next, length_over}
 use Rattle.edit.specs.Closing.{closed_up}

@@ -3,7 +3,7 @@ use mathlib.Core.Path.{◌≡◌, refl, sym, ◌∙◌, ap, ap₂}
 use mathlib.Core.List.{List, ◌++◌, append_assoc}
 use Prim.Native.Nat.{ℕ, zero, suc, ◌+◌, ◌-◌, ◌*◌, ◌≤◌, ◌<◌}
 use native.Mathlib.Omega.{arith}
-use lib.ListN.{length, get_or, take, drop}
+use lib.ListN.{get_or, take, drop}
 use lib.Seq.{take-add, drop-drop}
 use lib.IntN.{ℤ, pos}
 use Rattle.laws.specs.Lists.{over}
@@ -11,7 +11,7 @@ use Rattle.record.specs.declared.Mode.{Mode}
 use Rattle.kinds.specs.Kinds.{row_width, letters_place, islands_place, vertices_place}
 use Rattle.sheet.specs.Tables.{Tables, ◌then◌, Starts}
 use Rattle.made.specs.declared.Verdict.TheVariants.{Fine}
-use Rattle.made.specs.Made.{nat_of, cell_at, count_at, first_of, rest_of, counts_of, Before, past_row, judge_rows, used_of}
+use Rattle.made.specs.Made.{nat_of, count_at, first_of, rest_of, counts_of, Before, past_row, judge_rows, used_of}
 use Rattle.made.proofs.RowWays.{Held, made_held}
 use Rattle.made.proofs.OwnLaws.{cell-alike, first-own, rest-own}
 use Rattle.made.proofs.UsedLaws.{total, used-front, fine-on}

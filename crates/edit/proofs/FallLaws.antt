@@ -13,7 +13,7 @@ use Rattle.kinds.specs.Kinds.{row_width, code_place, letters_place, islands_plac
 use Rattle.sheet.specs.Tables.{Tables, Starts, ◌plus◌, move_at, move_from, moved_on, starting_at}
 use Rattle.sheet.proofs.StartLaws.{moved-own, moved_at}
 use Rattle.made.specs.declared.Verdict.TheVariants.{Fine}
-use Rattle.made.specs.Made.{nat_of, count_at, kind_of, own_of, rest_of, is_made, are_starts, counts_of, Before, past_row, is_coded, judge_rows}
+use Rattle.made.specs.Made.{nat_of, count_at, kind_of, own_of, rest_of, is_made, are_starts, Before, past_row, is_coded, judge_rows}
 use Rattle.made.proofs.RowWays.{made_held}
 use Rattle.made.proofs.UsedLaws.{fine-on, fine_before}
 use Rattle.made.proofs.StartLaws.{Starting, starts-are, are-starts, own-moved, made-moved, rest-moved}

@@ -1,6 +1,6 @@
 -- Starts that fall: a number, a row, and where the last row ends. Assumes nothing.
-use mathlib.Core.Path.{◌≡◌, refl, sym, ◌∙◌, ap}
-use mathlib.Core.List.{List, [], ◌∷◌, ◌++◌}
+use mathlib.Core.Path.{◌≡◌, refl, ◌∙◌, ap}
+use mathlib.Core.List.{List, [], ◌∷◌}
 use mathlib.Core.Bool.{Bool, true, ◌&&◌}
 use Prim.Native.Nat.{ℕ, suc, ◌+◌, ◌-◌, ◌*◌, ◌≤◌, ◌<◌, ◌^◌}
 use native.Mathlib.Omega.{arith}
@@ -9,7 +9,7 @@ use lib.Seq.{get_or-set_other, length-take-le}
 use lib.IntN.{ℤ, pos, ◌-ℤ◌}
 use lib.Signed.{mag, le_z}
 use mir.Syntax.{w64}
-use mir.Val.{Fits, SFits, to_z, of_z}
+use mir.Val.{SFits, to_z, of_z}
 use mir.Facts.{to_z-of_z, to_z_pos}
 use Rattle.laws.specs.Lists.{tail}
 use Rattle.laws.proofs.ListLaws.{rest-is}
@@ -19,7 +19,6 @@ use Rattle.laws.proofs.Bits.{back}
 use Rattle.kinds.specs.Kinds.{row_width, first_letter_place, first_island_place, first_point_place}
 use Rattle.sheet.specs.Tables.{Starts, move_at}
 use Rattle.made.specs.Made.{nat_of, starts_at}
-use Rattle.row.specs.declared.Stand.{Stand}
 use Rattle.row.specs.Walk.{word_most, cell_in, Stands}
 use Rattle.edit.specs.Rows.{each_row}
 use Rattle.edit.specs.Removals.{fall_from}

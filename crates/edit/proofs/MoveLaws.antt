@@ -2,14 +2,14 @@
 use mathlib.Core.Path.{◌≡◌, refl, sym, ◌∙◌, ap, ap₂}
 use mathlib.Core.List.{List, [], ◌∷◌, ◌++◌, append_assoc}
 use mathlib.Core.Bool.{Bool, true, false, cond, not, ◌&&◌, ◌||◌}
-use Prim.Native.Nat.{ℕ, zero, suc, ◌+◌, ◌-◌, ◌*◌, ◌≤◌, ◌<◌, zero-le}
+use Prim.Native.Nat.{ℕ, zero, suc, ◌+◌, ◌-◌, ◌*◌, ◌≤◌, ◌<◌}
 use native.Mathlib.Omega.{arith}
 use lib.Dec.{leb, eqb}
 use lib.ListN.{length, get_or, take, drop, length-append, length-drop, take-append-drop}
 use lib.Seq.{length-take-le, get_or-take, take_all, drop-drop}
 use lib.IntN.{ℤ, pos, ◌+ℤ◌, ◌-ℤ◌}
 use borrow.Author.Tests.{leb-true, le-leb, lt-leb, ne_eqb, eqb-true}
-use Rattle.laws.specs.Lists.{below, over}
+use Rattle.laws.specs.Lists.{below}
 use Rattle.laws.specs.Whole.{eq_z}
 use Rattle.laws.proofs.Choice.{true≢false, and_left, and_right, and_both, and-false, cond-first}
 use Rattle.laws.proofs.ListLaws.{left-none, below_at, below_all}
@@ -17,7 +17,6 @@ use Rattle.laws.proofs.Parts.{num, sum, diff, eq-parts}
 use Rattle.laws.proofs.Bits.{eq_z-yes, eq_z-no, eq_z-same}
 use Rattle.record.specs.declared.Mode.{Mode}
 use Rattle.number.specs.Number.{is_real}
-use Rattle.token.specs.declared.Want.TheVariants.{Real}
 use Rattle.kinds.specs.Kinds.{row_width, own_width, code_place, letters_place, islands_place, vertices_place, first_letter_place, first_island_place, first_point_place, want_at}
 use Rattle.heading.specs.declared.Header.{Header}
 use Rattle.heading.specs.Heading.{is_header}
@@ -25,14 +24,13 @@ use Rattle.plane.specs.Moved.{moved}
 use Rattle.plane.proofs.MovedLaws.{length_moved, x-moved, y-moved}
 use Rattle.sheet.specs.Tables.{Tables, ◌then◌, Starts}
 use Rattle.made.specs.declared.Verdict.TheVariants.{Fine, BadHeader}
-use Rattle.made.specs.Made.{tables_of, nat_of, cell_at, count_at, kind_of, letters_of, islands_of, points_of, first_of, own_of, rest_of, has_field, in_range, is_cell, is_cell_at, cell_test, are_numbers, are_letters, sum as total_of, are_counts, are_reals, is_closed, are_closed, ring_sizes, are_points, is_made, are_starts, counts_of, Before, none_before, past_row, is_coded, judge_rows, judge_of, used_of}
+use Rattle.made.specs.Made.{tables_of, nat_of, cell_at, count_at, kind_of, letters_of, islands_of, points_of, first_of, rest_of, has_field, in_range, is_cell, is_cell_at, cell_test, are_numbers, are_letters, sum as total_of, are_counts, are_reals, is_closed, are_closed, ring_sizes, are_points, is_made, are_starts, Before, none_before, past_row, is_coded, judge_rows, judge_of, used_of}
 use Rattle.made.proofs.RowWays.{Held, made_held, border-outer}
 use Rattle.made.proofs.OwnLaws.{first-first, cell-first, made-first, first_then, rest_then}
 use Rattle.made.proofs.UsedLaws.{fine-on, fine_before}
 use Rattle.edit.specs.Rows.{every_row, each_row}
-use Rattle.edit.specs.Moves.{is_part, is_moved, part_at, moved_cell, moved_cells, moved_row, moved_rows, cell_stays, row_stays, rows_stay, moved_tables, is_move}
+use Rattle.edit.specs.Moves.{is_part, is_moved, part_at, moved_cell, moved_cells, moved_row, cell_stays, row_stays, rows_stay, moved_tables, is_move}
 use Rattle.edit.proofs.RowMoves.{length-row}
-use Rattle.edit.proofs.SheetMoves.{used-points}
 
 -- ---- the numbers of a row
 

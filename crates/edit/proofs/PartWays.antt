@@ -1,20 +1,18 @@
 -- A part of a move and one coordinate: what the code has in hand, and that no sum or difference is too large. Assumes nothing.
-use mathlib.Core.Path.{◌≡◌, refl, sym, ◌∙◌, subst₂}
-use mathlib.Core.Bool.{Bool, true, false, ◌&&◌}
-use Prim.Native.Nat.{ℕ, ◌≤◌, ◌<◌, ◌^◌}
+use mathlib.Core.Path.{◌≡◌, sym, ◌∙◌, subst₂}
+use mathlib.Core.Bool.{true, false}
+use Prim.Native.Nat.{◌≤◌}
 use native.Mathlib.Omega.{arith}
-use lib.Dec.{leb, lit<}
+use lib.Dec.{lit<}
 use lib.IntN.{ℤ, pos, negsuc, nat_abs, ◌+ℤ◌, ◌-ℤ◌}
-use lib.Signed.{mag, lt_z, le_z}
+use lib.Signed.{lt_z, le_z}
 use mir.Syntax.{w64}
 use mir.Val.{SFits, to_z, of_z}
 use mir.Facts.{to_z-of_z}
 use borrow.Author.Tests.{leb-true, le-leb, lt-leb}
-use Rattle.laws.specs.Whole.{Within}
 use Rattle.laws.proofs.Choice.{and_left, and_right, and_both, and-false}
 use Rattle.laws.proofs.Parts.{ints, num, sum, diff, lt-true, le-true, le_not_lt}
 use Rattle.laws.proofs.Bounds.{within-fits}
-use Rattle.laws.proofs.Bits.{back}
 use Rattle.number.specs.Number.{real_least, real_most, is_real}
 use Rattle.edit.specs.Moves.{move_most, is_part}
 

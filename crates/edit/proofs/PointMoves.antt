@@ -1,11 +1,11 @@
 -- The ways through the functions that judge and move points, and that count the vertices of rows. Assumes nothing.
-use mathlib.Core.Path.{◌≡◌, refl, sym, ◌∙◌, ap, ap₂}
+use mathlib.Core.Path.{◌≡◌, refl, sym, ◌∙◌, ap}
 use mathlib.Core.List.{List, [], ◌∷◌}
 use mathlib.Core.Bool.{Bool, true, false, not, ◌&&◌}
 use Prim.Native.Nat.{ℕ, zero, suc, ◌+◌, ◌-◌, ◌*◌, ◌≤◌, ◌<◌}
 use native.Mathlib.Nat.{sub-zero}
 use native.Mathlib.Omega.{arith}
-use lib.ListN.{length, get_or, drop, length-drop}
+use lib.ListN.{length, get_or, drop}
 use lib.Seq.{drop-drop}
 use lib.IntN.{ℤ, pos, ◌+ℤ◌}
 use borrow.Author.Tests.{not-true, not-false}
@@ -15,7 +15,6 @@ use Rattle.laws.proofs.Choice.{and_left, and_right, and_both}
 use Rattle.number.specs.Number.{is_real}
 use Rattle.kinds.specs.Kinds.{row_width, vertices_place}
 use Rattle.plane.specs.Moved.{moved}
-use Rattle.plane.proofs.MovedLaws.{length_moved}
 use Rattle.made.specs.Made.{nat_of, are_reals}
 use Rattle.edit.specs.Used.{pair_stays, pair_shifted, vertex_most, vertex_count}
 

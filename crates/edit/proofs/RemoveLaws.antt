@@ -1,19 +1,19 @@
 -- A sheet that a row is taken out of is well made, and its elements are the others in order (document 02, T-08). Assumes nothing.
 use mathlib.Core.Path.{◌≡◌, refl, sym, ◌∙◌, ap, ap₂}
-use mathlib.Core.List.{List, [], ◌∷◌}
-use mathlib.Core.Bool.{true, cond}
-use Prim.Native.Nat.{ℕ, zero, suc, ◌+◌, ◌-◌, ◌≤◌, ◌<◌}
+use mathlib.Core.List.{List, ◌∷◌}
+use mathlib.Core.Bool.{true}
+use Prim.Native.Nat.{ℕ, zero, suc, ◌+◌, ◌-◌, ◌≤◌}
 use native.Mathlib.Omega.{arith}
-use lib.ListN.{length, take, drop}
+use lib.ListN.{length, drop}
 use lib.Seq.{take-take}
 use Rattle.laws.proofs.Choice.{cond-first}
 use Rattle.record.specs.declared.Mode.{Mode}
-use Rattle.kinds.specs.Kinds.{row_width, own_width, code_place, letters_place, islands_place, vertices_place}
+use Rattle.kinds.specs.Kinds.{own_width, code_place, letters_place, islands_place, vertices_place}
 use Rattle.heading.specs.declared.Header.{Header}
 use Rattle.heading.specs.Heading.{is_header}
 use Rattle.sheet.specs.Tables.{Tables, ◌then◌, over_of, Starts, ◌plus◌, starting_at}
 use Rattle.made.specs.declared.Verdict.TheVariants.{Fine, BadHeader}
-use Rattle.made.specs.Made.{tables_of, kind_of, count_at, first_of, own_of, rest_of, alone_of, is_made, counts_of, Before, none_before, past_row, is_coded, judge_rows, judge_of, used_of}
+use Rattle.made.specs.Made.{tables_of, kind_of, count_at, first_of, rest_of, alone_of, is_made, counts_of, Before, none_before, past_row, is_coded, judge_rows, judge_of, used_of}
 use Rattle.made.proofs.RowWays.{made_held}
 use Rattle.made.proofs.OwnLaws.{Own, own-alike, first_alike, cell-alike, made_alike, starts-alike, first-own, rest-own, letters-own, islands-own, points-own}
 use Rattle.made.proofs.UsedLaws.{behind_of, used-behind, judge-used, fine-on, fine_before, used-then}

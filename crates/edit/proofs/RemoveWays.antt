@@ -1,14 +1,14 @@
 -- The ways through the function that takes a row out of a judged sheet, and through the one that judges it. Assumes nothing.
 use mathlib.Core.Path.{◌≡◌, refl, sym, ◌∙◌, ap, ap₂}
 use mathlib.Core.List.{List, [], ◌++◌, append_assoc, append-nil}
-use mathlib.Core.Bool.{Bool, true, ◌&&◌}
+use mathlib.Core.Bool.{true, ◌&&◌}
 use Prim.Native.Nat.{ℕ, suc, ◌+◌, ◌-◌, ◌*◌, ◌≤◌, ◌<◌, ◌^◌, zero-le}
 use native.Mathlib.Omega.{arith}
 use lib.ListN.{length, get_or, take, drop, length-append, length-drop, get_or-append}
 use lib.Seq.{get_or-drop, get_or-take, length-take-le, take-append-add, take_at, drop_at}
 use lib.IntN.{ℤ, pos, negsuc}
 use lib.Signed.{mag, le_z}
-use Rattle.laws.specs.Lists.{tail, over}
+use Rattle.laws.specs.Lists.{tail}
 use Rattle.laws.proofs.Choice.{and_both}
 use Rattle.laws.proofs.ListLaws.{rest-is, left-none}
 use Rattle.laws.proofs.Bits.{back}
@@ -17,19 +17,17 @@ use Rattle.record.specs.declared.Mode.TheVariants.{Loose}
 use Rattle.kinds.specs.Kinds.{row_width, letters_place, islands_place, vertices_place, first_letter_place, first_island_place, first_point_place}
 use Rattle.heading.specs.declared.Header.{Header}
 use Rattle.sheet.specs.Tables.{Tables, Starts}
-use Rattle.made.specs.declared.Verdict.{Verdict}
 use Rattle.made.specs.declared.Verdict.TheVariants.{Fine}
-use Rattle.made.specs.Made.{nat_of, count_at, first_of, rest_of, starts_at, counts_of, none_before, judge_rows, used_of}
+use Rattle.made.specs.Made.{nat_of, count_at, starts_at, counts_of, none_before, judge_rows, used_of}
 use Rattle.made.proofs.UsedLaws.{total, used-front, Long, fine-long}
 use Rattle.made.proofs.StartLaws.{Starting, starts-are, starts-total, past_rows}
 use Rattle.row.specs.declared.Stand.{Stand}
 use Rattle.row.specs.declared.Sought.{Sought}
-use Rattle.row.specs.declared.Sought.TheVariants.{At, Missing, Refused}
+use Rattle.row.specs.declared.Sought.TheVariants.{At}
 use Rattle.row.specs.Walk.{word_most, cell_in, stand_of, Stands}
 use Rattle.row.specs.Seek.{sought_of}
 use Rattle.row.proofs.Walk.{walk-to, walk-own}
-use Rattle.row.proofs.SeekLaws.{fine-rows, Stood, stood}
-use Rattle.edit.specs.declared.Edited.{Edited}
+use Rattle.row.proofs.SeekLaws.{fine-rows, stood}
 use Rattle.edit.specs.Rows.{every_row, each_row}
 use Rattle.edit.specs.Removals.{fall_from, without, removed_tables, removed_after, remove_of}
 use Rattle.edit.specs.Closing.{closed_up, start_most, is_up, fallen_row, end_stand}

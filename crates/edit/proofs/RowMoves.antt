@@ -1,26 +1,24 @@
 -- The ways through the functions that judge and move a pair of coordinates and a row. Assumes nothing.
-use mathlib.Core.Path.{◌≡◌, refl, sym, ◌∙◌, ap, ap₂}
-use mathlib.Core.List.{List, [], ◌∷◌, ◌++◌, append_assoc, append-nil}
+use mathlib.Core.Path.{◌≡◌, refl, sym, ◌∙◌, ap}
+use mathlib.Core.List.{List, [], ◌∷◌, ◌++◌}
 use mathlib.Core.Bool.{Bool, true, false, not, ◌&&◌, ◌||◌}
-use Prim.Native.Nat.{ℕ, zero, suc, ◌+◌, ◌-◌, ◌*◌, ◌≤◌, ◌<◌, ◌^◌}
-use native.Mathlib.Nat.{sub-zero}
+use Prim.Native.Nat.{ℕ, suc, ◌+◌, ◌-◌, ◌≤◌, ◌<◌}
 use native.Mathlib.Omega.{arith}
-use lib.ListN.{length, get_or, set, take, drop, take-append-drop, length-set, length-append, length-drop}
-use lib.Seq.{drop-drop, drop-append-add, take-append-add, get_or-set_other, length-take-le}
+use lib.ListN.{length, get_or, set, take, drop, take-append-drop, length-set}
+use lib.Seq.{get_or-set_other, length-take-le}
 use lib.Dec.{leb}
 use lib.IntN.{ℤ, pos, ◌+ℤ◌}
 use mir.Syntax.{w64}
-use mir.Val.{SFits, to_z, of_z}
+use mir.Val.{SFits}
 use mir.Facts.{to_z-of_z}
 use borrow.Author.Tests.{not-true, not-false, lt-leb}
-use Rattle.laws.specs.Lists.{below, tail}
-use Rattle.laws.proofs.ListLaws.{rest-is, left-none}
+use Rattle.laws.specs.Lists.{below}
 use Rattle.laws.proofs.Choice.{false≢true, and-false, and_left, and_right}
 use Rattle.number.specs.Number.{is_real}
-use Rattle.kinds.specs.Kinds.{row_width, x_place, y_place, x2_place, y2_place}
+use Rattle.kinds.specs.Kinds.{row_width, x_place, x2_place}
 use Rattle.made.specs.Made.{nat_of, has_field}
 use Rattle.edit.specs.Rows.{each_row}
-use Rattle.edit.specs.Moves.{is_part, is_moved, part_at, moved_cell, moved_cells, moved_row, moved_rows, row_stays}
+use Rattle.edit.specs.Moves.{is_moved, part_at, moved_cell, moved_cells, moved_row, moved_rows, row_stays}
 use Rattle.edit.specs.Used.{pair_stays, pair_shifted}
 use Rattle.edit.proofs.PartWays.{bits}
 use Rattle.edit.proofs.PlaceWays.{paired}

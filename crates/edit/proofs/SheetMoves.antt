@@ -1,8 +1,8 @@
 -- The ways through the functions that move a judged sheet, and a sheet. Assumes nothing.
-use mathlib.Core.Path.{◌≡◌, refl, sym, ◌∙◌, ap, ap₂}
+use mathlib.Core.Path.{◌≡◌, refl, sym, ◌∙◌, ap}
 use mathlib.Core.List.{List, ◌++◌}
-use mathlib.Core.Bool.{Bool, true, false, cond, not, ◌&&◌}
-use Prim.Native.Nat.{ℕ, zero, suc, ◌+◌, ◌*◌, ◌≤◌}
+use mathlib.Core.Bool.{Bool, true, false, cond, not}
+use Prim.Native.Nat.{ℕ, zero, suc, ◌*◌, ◌≤◌}
 use native.Mathlib.Omega.{arith}
 use lib.ListN.{length, take, drop, length-append, length-drop}
 use lib.Seq.{length-take-le}
@@ -11,8 +11,6 @@ use mir.Syntax.{w64}
 use mir.Val.{SFits}
 use mir.Facts.{to_z-of_z}
 use borrow.Author.Tests.{not-true, not-false}
-use Rattle.laws.specs.Lists.{over}
-use Rattle.laws.proofs.Choice.{and-false}
 use Rattle.record.specs.declared.Mode.TheVariants.{Loose}
 use Rattle.kinds.specs.Kinds.{row_width, vertices_place}
 use Rattle.heading.specs.declared.Header.{Header}
@@ -20,13 +18,11 @@ use Rattle.plane.specs.Moved.{moved}
 use Rattle.plane.proofs.MovedLaws.{length_moved}
 use Rattle.sheet.specs.Tables.{Tables}
 use Rattle.made.specs.declared.Verdict.{Verdict}
-use Rattle.made.specs.declared.Verdict.TheVariants.{Fine, BadHeader, Faulty, Unlisted}
+use Rattle.made.specs.declared.Verdict.TheVariants.{Fine}
 use Rattle.made.specs.Made.{rest_of, none_before, are_reals, judge_of, used_of}
 use Rattle.made.proofs.UsedLaws.{total, used-front, fine-long}
 use Rattle.row.proofs.SeekLaws.{fine-rows}
-use Rattle.edit.specs.declared.Edited.{Edited}
-use Rattle.edit.specs.declared.Edited.TheVariants.{Done, MovedOff, Refused}
-use Rattle.edit.specs.Answers.{tables_at}
+use Rattle.edit.specs.declared.Edited.TheVariants.{Done, MovedOff}
 use Rattle.edit.specs.Moves.{is_part, rows_stay, moved_rows, moved_tables, is_move, moved_after, move_of}
 use Rattle.edit.specs.Used.{vertex_count, points_used, is_move_of, moved_points}
 use Rattle.edit.proofs.PartWays.{bits}

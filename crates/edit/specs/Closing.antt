@@ -1,5 +1,5 @@
 -- For private contracts alone: a table that is closed up, starts that fall in the first rows, and where the last row ends. Assumes nothing: these are definitions.
-use Rattle.std.specs.Prelude.{ℕ, ◌+◌, ◌-◌, ◌*◌, ◌≤◌, List, ◌++◌, Bool, ◌&&◌, get_or, set, take, drop, ℤ, pos, ◌-ℤ◌}
+use Rattle.std.specs.Prelude.{ℕ, ◌+◌, ◌-◌, ◌*◌, List, ◌++◌, Bool, ◌&&◌, get_or, set, take, drop, ℤ, pos, ◌-ℤ◌}
 use Rattle.std.specs.Int.Signed.{le_z}
 use Rattle.laws.specs.Lists.{over}
 use Rattle.kinds.specs.Kinds.{row_width, letters_place, islands_place, vertices_place, first_letter_place, first_island_place, first_point_place}

@@ -1,14 +1,12 @@
 -- Sheets that are moved, by computation (document 02, T-08): a row of each kind, what just fits and what just does not, the order of the refusals.
 -- Assumes nothing.
-use Rattle.std.specs.Prelude.{ℕ, ◌≡◌, refl, List, [], ◌∷◌, ◌++◌, true, false, ℤ, pos, negsuc}
-use Rattle.laws.specs.Lists.{below}
+use Rattle.std.specs.Prelude.{ℕ, ◌≡◌, refl, List, [], ◌∷◌, ◌++◌, ℤ, pos, negsuc}
 use Rattle.laws.specs.Text.{text}
-use Rattle.number.specs.Number.{is_real}
 use Rattle.heading.specs.declared.Header.{Header}
 use Rattle.plane.specs.Moved.{moved}
 use Rattle.sheet.specs.Tables.{Tables}
 use Rattle.made.specs.declared.Verdict.TheVariants.{BadHeader, Faulty}
-use Rattle.made.specs.Made.{tables_of, are_reals, used_of}
+use Rattle.made.specs.Made.{tables_of, used_of}
 use Rattle.made.specs.Examples.{header, computed as computed_verdict}
 use Rattle.edit.specs.declared.Edited.{Edited}
 use Rattle.edit.specs.declared.Edited.TheVariants.{Done, MovedOff, Refused}

@@ -6,7 +6,6 @@ use Rattle.heading.specs.declared.Header.{Header}
 use Rattle.sheet.specs.Tables.{Tables, ◌then◌, over_of, Starts, move_at}
 use Rattle.made.specs.Made.{first_of, rest_of, counts_of, used_of}
 use Rattle.row.specs.declared.Sought.{Sought}
-use Rattle.row.specs.declared.Sought.TheVariants as Sought
 use Rattle.row.specs.Seek.{sought_of}
 use Rattle.edit.specs.declared.Edited.{Edited}
 use Rattle.edit.specs.declared.Edited.TheVariants.{Done, Missing, Refused}

@@ -1,3 +1,2 @@
 // Shared mathematics, no code: choices, lists, parts of slices, tables, whole numbers of either sign.
 #![tactic(auto)]
-

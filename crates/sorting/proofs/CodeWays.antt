@@ -1,10 +1,10 @@
 -- The ways through the functions that compare and exchange two lines. Assumes nothing.
 use Prim.Native.Nat.{ℕ, ◌+◌, ◌-◌, ◌*◌, ◌≤◌, ◌<◌}
-use mathlib.Core.Path.{◌≡◌, refl, sym, ap, subst, ◌∙◌}
+use mathlib.Core.Path.{◌≡◌, refl, ap, ◌∙◌}
 use mathlib.Core.List.{List}
-use mathlib.Core.Bool.{Bool, true, false}
+use mathlib.Core.Bool.{true, false}
 use native.Mathlib.Omega.{arith}
-use lib.ListN.{length, get_or, take, drop, set, length-set, length-drop}
+use lib.ListN.{length, get_or, take, drop, set, length-set}
 use lib.Seq.{get_or-take, get_or-drop}
 use Rattle.laws.specs.Lists.{pasted}
 use Rattle.laws.proofs.ListLaws.{copy_step, copy_done}
@@ -13,7 +13,7 @@ use borrow.Author.Tests.{le-leb}
 use Rattle.order.specs.declared.Comes.{Comes}
 use Rattle.order.specs.declared.Comes.TheVariants.{Before, Same, After}
 use Rattle.order.specs.Compare.{by_bytes}
-use Rattle.sorting.specs.Lines.{line_width, line_at, bytes_before}
+use Rattle.sorting.specs.Lines.{line_at, bytes_before}
 use Rattle.sorting.specs.Exchanges.{Inside, exchanged}
 use Rattle.sorting.proofs.LineLaws.{line-length, stored-length}
 

@@ -1,6 +1,6 @@
 -- One pass with a gap of 1: the line that sinks is the only one that may be out of order. Assumes nothing.
 use Prim.Native.Nat.{ℕ, ◌+◌, ◌-◌, ◌*◌, ◌/◌, ◌≤◌, ◌<◌}
-use mathlib.Core.Path.{◌≡◌, refl, sym, ap, ◌∙◌}
+use mathlib.Core.Path.{◌≡◌, refl, sym, ◌∙◌}
 use mathlib.Core.List.{List}
 use mathlib.Core.Bool.{Bool, true, false, not}
 use native.Mathlib.Omega.{arith}
@@ -10,7 +10,6 @@ use lib.Dec.{eqb}
 use borrow.Author.Tests.{eqb-true, eqb-false, not-true, not-false}
 use Rattle.sorting.specs.Lines.{line_width, line_at, bytes_before}
 use Rattle.sorting.specs.Exchanges.{Inside, exchanged, Exchanges, Exchanges.none_yet, Exchanges.one_more, InOrder}
-use Rattle.sorting.proofs.SwapLaws.{Strict}
 use Rattle.sorting.proofs.LineLaws.{exchanged-first, exchanged-second, exchanged-other}
 use Rattle.sorting.proofs.SortedLaws.{bytes-strict, exchanges-length}
 

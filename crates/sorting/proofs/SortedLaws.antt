@@ -1,8 +1,8 @@
 -- Lines that were exchanged until they are in order are the lines sorted. Assumes nothing.
-use Prim.Native.Nat.{ℕ, zero, suc, ◌+◌, ◌*◌, ◌/◌, ◌≤◌, ◌<◌}
+use Prim.Native.Nat.{ℕ, ◌+◌, ◌*◌, ◌/◌, ◌≤◌, ◌<◌}
 use mathlib.Core.Path.{◌≡◌, refl, sym, ap, ◌∙◌}
 use mathlib.Core.List.{List, []}
-use mathlib.Core.Bool.{Bool, true, false}
+use mathlib.Core.Bool.{false}
 use native.Mathlib.Omega.{arith}
 use native.Mathlib.Nat.{mul-div-le, lt-mul-div-succ, zero-add}
 use lib.ListN.{length, take, drop, take-append-drop}
@@ -13,7 +13,6 @@ use Rattle.order.specs.Compare.{is_before, by_bytes}
 use Rattle.order.specs.Sorting.{sort_by, EachOf}
 use Rattle.order.proofs.SortLaws.{each-sort, length-sort}
 use Rattle.order.proofs.CompareLaws.{turned, bytes-total, bytes_eq, not_through, not-both}
-use Rattle.laws.specs.Lists.{over}
 use Rattle.laws.proofs.Choice.{false≢true}
 use Rattle.sorting.specs.Lines.{line_width, lines_in, joined, bytes_before, sorted_lines}
 use Rattle.sorting.specs.Exchanges.{Exchanges, Exchanges.none_yet, Exchanges.one_more, InOrder}

@@ -21,7 +21,7 @@ use Rattle.spelling.specs.Spelling.{aligned}
 use Rattle.spelling.specs.Figures.{is_narrow, figure_text}
 use Rattle.spelling.proofs.FigureLaws.{figure-length}
 use Rattle.writer.specs.Put.{Put}
-use Rattle.writer.proofs.Putting.{Putting, putting-start, putting-room, putting-on, putting-end, putting-last, stored_on, stored_last, put-part}
+use Rattle.writer.proofs.Putting.{Putting, putting-start, putting-room, putting-on, stored_on, stored_last, put-part}
 use Rattle.sup.specs.Lines.{left_field, fields_line, date_text}
 use Rattle.sup.specs.Printing.{are_narrow, named_text}
 

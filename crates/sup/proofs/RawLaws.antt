@@ -1,22 +1,21 @@
 -- The bytes that stand for a figure while the lines are put in order: they have the order of the figures, and give the figure back. Assumes nothing.
-use Prim.Native.Nat.{ℕ, zero, suc, ◌+◌, ◌-◌, ◌*◌, ◌/◌, ◌%◌, ◌^◌, ◌≤◌, ◌<◌}
-use mathlib.Core.Path.{◌≡◌, refl, sym, ap, ◌∙◌}
+use Prim.Native.Nat.{ℕ, suc, ◌+◌, ◌*◌, ◌/◌, ◌%◌, ◌≤◌, ◌<◌}
+use mathlib.Core.Path.{◌≡◌, refl, sym, ◌∙◌}
 use mathlib.Core.List.{List, [], ◌∷◌, ◌++◌}
-use mathlib.Core.Bool.{Bool, true, false, cond}
+use mathlib.Core.Bool.{Bool, true, false}
 use native.Mathlib.Omega.{arith}
 use native.Mathlib.Nat.{mod-lt, div-add-mod'}
-use lib.ListN.{length, get_or, replicate}
-use lib.Dec.{ltb, leb}
-use lib.IntN.{ℤ, pos, negsuc, nat_abs, ◌+ℤ◌, ◌-ℤ◌, ◌*ℤ◌}
-use lib.Signed.{lt_z, le_z}
+use lib.ListN.{length}
+use lib.Dec.{ltb}
+use lib.IntN.{ℤ, pos, negsuc, ◌+ℤ◌, ◌-ℤ◌, ◌*ℤ◌}
+use lib.Signed.{lt_z}
 use borrow.Author.Tests.{lt-ltb, le-ltb, ltb-true, ltb-false, leb-true}
-use Rattle.laws.proofs.Choice.{false≢true}
 use Rattle.laws.proofs.Parts.{P, N, one-part, abs-parts, add_parts, sub-parts-ℤ, neg-P, neg-N, eq-parts, lt-true, lt-false, lt_no, le_yes, lt_yes}
 use Rattle.spelling.specs.Figures.{is_narrow}
 use Rattle.spelling.proofs.FigureLaws.{narrow-plus, narrow-minus}
 use Rattle.order.specs.declared.Comes.{Comes}
 use Rattle.order.specs.declared.Comes.TheVariants.{Before, Same, After}
-use Rattle.order.specs.Compare.{or_else, is_before, by_number, by_whole, by_bytes}
+use Rattle.order.specs.Compare.{or_else, by_number, by_whole, by_bytes}
 use Rattle.sup.specs.Metres.{metres_of}
 use Rattle.sup.specs.Raw.{raw_lift, raw_number, raw_bytes, raw_field, number_from}
 use Rattle.sup.proofs.SupLaws.{metres-low, metres-high}

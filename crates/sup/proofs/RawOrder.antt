@@ -1,16 +1,16 @@
 -- Raw lines in the order of their bytes are the listed borders in order, and with their figures they are the file's lines. Assumes nothing.
-use Prim.Native.Nat.{ℕ, zero, suc, ◌+◌, ◌-◌, ◌*◌, ◌/◌, ◌≤◌, ◌<◌}
+use Prim.Native.Nat.{ℕ, zero, suc, ◌+◌, ◌-◌, ◌*◌, ◌≤◌, ◌<◌}
 use mathlib.Core.Path.{◌≡◌, refl, sym, ap, ◌∙◌}
 use mathlib.Core.List.{List, [], ◌∷◌, ◌++◌, append_assoc, map}
 use mathlib.Core.Bool.{Bool, true, false, cond, not, ◌&&◌}
 use native.Mathlib.Omega.{arith}
 use lib.ListN.{length, get_or, take, drop, replicate, length-append, length-replicate, length-map}
 use lib.Seq.{take_at, drop_at, get_or-append-add, length-take-le}
-use lib.Dec.{eqb, ltb, leb}
+use lib.Dec.{ltb, leb}
 use lib.IntN.{ℤ, pos, ◌-ℤ◌}
 use lib.Signed.{lt_z}
 use borrow.Author.Tests.{ltb-true, ltb-false, eqb-false, leb-true, not-true}
-use Rattle.laws.specs.Lists.{all, over, pasted}
+use Rattle.laws.specs.Lists.{all}
 use Rattle.laws.proofs.Choice.{and_left, and_right, false≢true}
 use Rattle.record.specs.Record.{plain}
 use Rattle.record.specs.declared.Mode.TheVariants.{Loose}
@@ -26,15 +26,14 @@ use Rattle.spelling.specs.Figures.{is_narrow, figure_text}
 use Rattle.spelling.proofs.FigureLaws.{figure-length}
 use Rattle.order.specs.declared.Comes.{Comes}
 use Rattle.order.specs.declared.Comes.TheVariants.{Before, Same, After}
-use Rattle.order.specs.declared.LongCode.TheVariants.{Nowhere}
 use Rattle.order.specs.Compare.{or_else, is_before, by_number, by_whole, by_bytes}
-use Rattle.order.specs.Sorting.{insert, sort_into, sort_by, EachOf, EachOf.each_nil, EachOf.each_on, Sorted, Sorted.sorted-nil, Sorted.sorted-on}
-use Rattle.order.specs.SupBorders.{is_in_sup, with_if, sup_borders, sup_borders_from, first_long}
+use Rattle.order.specs.Sorting.{sort_by, EachOf, EachOf.each_nil, EachOf.each_on, Sorted, Sorted.sorted-nil, Sorted.sorted-on}
+use Rattle.order.specs.SupBorders.{is_in_sup, with_if, sup_borders, sup_borders_from}
 use Rattle.order.specs.SupOrder.{net_left, by_code_and_net, paper_before, goes_before, sup_in_order}
 use Rattle.order.proofs.CompareLaws.{turned, bytes-total}
 use Rattle.order.proofs.OrderLaws.{Small, walk_after, in-order-sorted, in-order-each, in-order-length}
 use Rattle.order.proofs.LongLaws.{Fits}
-use Rattle.sorting.specs.Lines.{lines_in, joined, bytes_before, sorted_lines}
+use Rattle.sorting.specs.Lines.{joined, bytes_before, sorted_lines}
 use Rattle.sorting.proofs.SwapLaws.{sort-again, sorted-stays}
 use Rattle.sorting.proofs.LineLaws.{Whole, joined_length, joined-lines, joined-count, over-all}
 use Rattle.sorting.proofs.SortedLaws.{bytes-strict, sorted-joined}

@@ -1,8 +1,8 @@
 -- The ways through the functions that store the listed borders' lines: raw in row order, then arranged. Assumes nothing.
-use Prim.Native.Nat.{ℕ, zero, suc, ◌+◌, ◌-◌, ◌*◌, ◌^◌, ◌≤◌, ◌<◌}
+use Prim.Native.Nat.{ℕ, suc, ◌+◌, ◌-◌, ◌^◌, ◌≤◌, ◌<◌}
 use mathlib.Core.Path.{◌≡◌, refl, sym, ap, subst, ◌∙◌}
-use mathlib.Core.List.{List, [], ◌∷◌, ◌++◌, append_assoc, map}
-use mathlib.Core.Bool.{Bool, true, false, cond, ◌&&◌}
+use mathlib.Core.List.{List, [], ◌∷◌, ◌++◌, append_assoc}
+use mathlib.Core.Bool.{Bool, true, false, cond}
 use native.Mathlib.Nat.{sub-zero}
 use native.Mathlib.Omega.{arith}
 use lib.ListN.{length, take, drop, length-append}
@@ -11,7 +11,6 @@ use lib.IntN.{ℤ}
 use lib.Signed.{mag}
 use mir.Syntax.{w64}
 use mir.Val.{to_z, of_z}
-use Rattle.laws.specs.Lists.{pasted}
 use Rattle.laws.proofs.Bits.{back}
 use Rattle.laws.proofs.Choice.{and_left, and_right}
 use Rattle.heading.specs.declared.Header.{Header}
@@ -22,7 +21,6 @@ use Rattle.made.specs.Made.{tables_of, letters_of, none_before, judge_rows}
 use Rattle.row.specs.declared.Stand.{Stand}
 use Rattle.row.specs.Walk.{first_stand, stand_after, left_at}
 use Rattle.area.specs.Questions.{net_area_of}
-use Rattle.border.specs.Borders.{border_of}
 use Rattle.spelling.specs.Figures.{is_narrow}
 use Rattle.spelling.specs.Stored.{Stored}
 use Rattle.writer.specs.Put.{Put}
@@ -41,7 +39,7 @@ use Rattle.sup.specs.Answer.{code_nets, codes_in_order}
 use Rattle.sup.specs.Printing.{are_narrow, metres_left}
 use Rattle.sup.specs.Raw.{raw_field, figured_lines, raw_line, raw_text}
 use Rattle.sup.proofs.LineWays.{line-left, line-right}
-use Rattle.sup.proofs.ListedWays.{Narrow, listed-own}
+use Rattle.sup.proofs.ListedWays.{Narrow}
 use Rattle.sup.proofs.RawOrder.{Ready, listed-ready, arranged, arranged-length}
 
 -- ---- one line, with what the code has in hand: the letters, the figure's bytes

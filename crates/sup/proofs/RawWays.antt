@@ -1,27 +1,25 @@
 -- The ways through the functions that store raw lines, and that put figures into them. Assumes nothing.
-use Prim.Native.Nat.{ℕ, zero, suc, ◌+◌, ◌-◌, ◌*◌, ◌/◌, ◌%◌, ◌^◌, ◌≤◌, ◌<◌}
+use Prim.Native.Nat.{ℕ, zero, suc, ◌+◌, ◌-◌, ◌*◌, ◌/◌, ◌%◌, ◌≤◌, ◌<◌}
 use mathlib.Core.Path.{◌≡◌, refl, sym, ap, subst, ◌∙◌}
-use mathlib.Core.List.{List, [], ◌∷◌, ◌++◌, append_assoc, append-nil, map}
+use mathlib.Core.List.{List, [], ◌∷◌, ◌++◌, append_assoc, map}
 use mathlib.Core.Bool.{Bool, true, false, cond, ◌&&◌}
-use native.Mathlib.Nat.{sub-zero, mul-div-le, lt-mul-div-succ, div-lt_iff_lt-mul}
+use native.Mathlib.Nat.{mul-div-le}
 use native.Mathlib.Omega.{arith}
-use lib.ListN.{length, get_or, take, drop, length-append, length-take, length-drop, take-append-drop}
-use lib.Seq.{take-add, take-take, drop-drop, take_at, drop-append-le, get_or-take, get_or-drop, length-take-le}
+use lib.ListN.{length, get_or, take, drop, length-drop, take-append-drop}
+use lib.Seq.{take-add, take-take, drop-drop, drop-append-le, get_or-take, get_or-drop, length-take-le}
 use lib.Dec.{T, leb, ltb}
 use lib.IntN.{ℤ, pos, negsuc, nat_abs, ◌+ℤ◌, ◌-ℤ◌}
-use lib.Signed.{mag, lt_z, non_neg}
+use lib.Signed.{lt_z, non_neg}
 use mir.Syntax.{w64}
 use mir.Val.{SFits, Fits, to_z, of_z}
 use mir.Facts.{to_z-of_z, Fits-nat_abs}
 use mir.ValLaws.{to_z_pos}
 use borrow.Author.Tests.{le-leb, ltb-true, ltb-false}
 use Rattle.laws.specs.Lists.{tail, over, pasted}
-use Rattle.laws.proofs.Bits.{back}
 use Rattle.laws.proofs.Choice.{false≢true}
-use Rattle.laws.proofs.Parts.{P, N, one-part, abs-parts, add_parts, sub-parts-ℤ, parts-fit, lt-false}
+use Rattle.laws.proofs.Parts.{one-part, add_parts, sub-parts-ℤ, parts-fit, lt-false}
 use Rattle.laws.proofs.ListLaws.{rest-is}
 use Rattle.laws.proofs.TableLaws.{pasted-part, pasted-none, length-pasted}
-use Rattle.spelling.specs.Stored.{Stored}
 use Rattle.spelling.specs.Figures.{is_narrow, figure_text}
 use Rattle.spelling.proofs.FigureLaws.{figure-length}
 use Rattle.sorting.specs.Lines.{line_at, lines_in, joined}

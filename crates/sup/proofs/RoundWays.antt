@@ -11,7 +11,7 @@ use mir.Val.{SFits, to_z, of_z}
 use mir.ValLaws.{to_z-of_z}
 use borrow.Author.Tests.{ltb-true, ltb-false}
 use Rattle.laws.proofs.Choice.{false≢true}
-use Rattle.laws.proofs.Parts.{P, N, sum, diff, eq-parts, parts-fit}
+use Rattle.laws.proofs.Parts.{sum, diff, eq-parts, parts-fit}
 use Rattle.sup.specs.Metres.{metres_of}
 
 -- what a local holds, where it is known what was computed

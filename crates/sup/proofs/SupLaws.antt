@@ -1,6 +1,6 @@
 -- What holds of every SUP file: document 02, T-01. Assumes nothing.
 use Prim.Native.Nat.{ℕ, zero, suc, ◌+◌, ◌-◌, ◌*◌, ◌/◌, ◌≤◌}
-use mathlib.Core.Path.{◌≡◌, refl, sym, ◌∙◌, ap}
+use mathlib.Core.Path.{◌≡◌, refl, ap}
 use mathlib.Core.List.{List, [], ◌∷◌, ◌++◌}
 use mathlib.Core.Bool.{Bool, true, false, cond}
 use native.Mathlib.Omega.{arith}
@@ -8,7 +8,7 @@ use lib.ListN.{length, replicate, length-append, length-replicate}
 use lib.IntN.{ℤ, pos, negsuc, ◌+ℤ◌, ◌-ℤ◌, ◌*ℤ◌}
 use lib.Signed.{le_z, lt_z, shr_z}
 use lib.Dec.{lit≤}
-use Rattle.laws.proofs.Parts.{P, N, num, diff, sum, eq-parts, neg-P, neg-N, le-true, lt-true}
+use Rattle.laws.proofs.Parts.{num, diff, sum, eq-parts, neg-P, neg-N, le-true, lt-true}
 use Rattle.heading.specs.declared.Header.{Header}
 use Rattle.spelling.specs.Spelling.{aligned}
 use Rattle.spelling.specs.Figures.{is_narrow, figure_text}
@@ -24,7 +24,7 @@ use Rattle.order.proofs.OrderLaws.{in-order-length}
 use Rattle.order.proofs.LongLaws.{Fits, codes-fit}
 use Rattle.sup.specs.Answer.{code_nets, codes_in_order}
 use Rattle.sup.specs.Metres.{metres_of}
-use Rattle.sup.specs.Lines.{FigureLine, figure_line, left_field, fields_line, date_text, lines_text}
+use Rattle.sup.specs.Lines.{FigureLine, left_field, fields_line, date_text, lines_text}
 use Rattle.sup.specs.Sup.{exact_total, exact_confine, head_lines, CodeNet, listed_lines, balance, foot_lines, figure_lines, sup_text, figures_in, wide_from, first_wide}
 
 -- ---- square metres: 2,000,000 F is at most D + 1,000,000, and 2,000,000 (F + 1) is more

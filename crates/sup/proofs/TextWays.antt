@@ -1,20 +1,17 @@
 -- The ways through the functions that judge and store all lines: those before the listed borders, theirs, those behind. Assumes nothing.
 use Prim.Native.Nat.{ℕ, suc, ◌+◌, ◌*◌, ◌^◌, ◌≤◌, ◌<◌}
 use mathlib.Core.Path.{◌≡◌, refl, sym, ap, subst, ◌∙◌}
-use mathlib.Core.List.{List, [], ◌∷◌, ◌++◌, map, append_assoc}
+use mathlib.Core.List.{List, [], ◌∷◌, ◌++◌, append_assoc}
 use mathlib.Core.Bool.{Bool, true, false, cond, not, ◌&&◌}
 use native.Mathlib.Nat.{zero-add}
 use native.Mathlib.Omega.{arith}
-use lib.ListN.{length, drop, length-map}
-use lib.Dec.{eqb, leb}
+use lib.ListN.{length, drop}
+use lib.Dec.{eqb}
 use lib.IntN.{ℤ, pos, negsuc}
 use lib.Signed.{mag, le_z}
-use mir.Syntax.{w64}
-use mir.Val.{to_z, of_z}
 use borrow.Author.Tests.{not-true, not-false, ne_eqb, eqb-true, le-leb, lt-leb}
 use Rattle.laws.specs.Lists.{over}
 use Rattle.laws.specs.Text.{text}
-use Rattle.laws.proofs.Bits.{back}
 use Rattle.laws.proofs.Parts.{le_yes}
 use Rattle.laws.proofs.Choice.{and_left, and_right, true≢false}
 use Rattle.heading.specs.declared.Header.{Header}
@@ -24,7 +21,7 @@ use Rattle.made.specs.declared.Verdict.TheVariants.{Fine}
 use Rattle.made.specs.Made.{tables_of, none_before, judge_rows}
 use Rattle.row.proofs.SeekLaws.{fine-rows}
 use Rattle.row.specs.declared.Stand.{Stand}
-use Rattle.row.specs.Walk.{first_stand, left_at}
+use Rattle.row.specs.Walk.{first_stand}
 use Rattle.spelling.specs.Figures.{is_narrow, figure_text}
 use Rattle.writer.specs.Put.{Put}
 use Rattle.writer.proofs.Putting.{Putting, putting-start, putting-room, putting-on, putting-last}
@@ -32,7 +29,7 @@ use Rattle.order.specs.declared.LongCode.{LongCode}
 use Rattle.order.specs.declared.LongCode.TheVariants.{Nowhere, Row}
 use Rattle.order.specs.Sorting.{EachOf, EachOf.each_nil, EachOf.each_on}
 use Rattle.order.specs.SupBorders.{sup_borders, first_long}
-use Rattle.order.specs.SupOrder.{net_left, sup_in_order}
+use Rattle.order.specs.SupOrder.{sup_in_order}
 use Rattle.order.proofs.OrderLaws.{in-order-counted, in-order-length}
 use Rattle.order.proofs.LongLaws.{long-own}
 use Rattle.tally.specs.declared.Refusal.{Refusal}
@@ -43,12 +40,11 @@ use Rattle.tally.specs.Take.{is_none, tally_of}
 use Rattle.tally.proofs.RunningLaws.{tally-good, tally-fine}
 use Rattle.sup.specs.declared.Total.{Total}
 use Rattle.sup.specs.declared.Total.TheVariants.{Is, Past}
-use Rattle.sup.specs.declared.SupAnswer.{SupAnswer}
 use Rattle.sup.specs.declared.SupAnswer.TheVariants.{Wrote, NoRoom, Refused, BadDate, CodeTooLong, PastTotal, WideFigure}
 use Rattle.sup.specs.Date.{is_date}
 use Rattle.sup.specs.Lines.{FigureLine, left_field, fields_line, date_text, lines_text}
 use Rattle.sup.specs.Sup.{exact_total, is_limited, head_lines, foot_lines, listed_lines, figure_lines, figures_in, wide_from, first_wide, sup_text, CodeNet}
-use Rattle.sup.specs.Answer.{code_nets, codes_in_order, sheet_sup, stored_sup, lined_sup, printed_sup, after_codes, dated_sup, after_tally, sup_of}
+use Rattle.sup.specs.Answer.{code_nets, codes_in_order, sheet_sup, stored_sup, lined_sup, printed_sup, dated_sup, after_tally, sup_of}
 use Rattle.sup.specs.Printing.{are_narrow, named_text, metres_left, is_any_wide_from}
 use Rattle.sup.specs.ExactAreas.{exact_areas, exact_of}
 use Rattle.sup.specs.Totals.{total_of}
@@ -153,10 +149,6 @@ module _ (h : Header) (count : ℕ) (t : Tables) (f : List ℤ) where
   feet-few b e = ap length e
 
 -- ---- the text, part by part
-
--- a name as the code holds it has its eleven places
-pub name-fits : {A : Type 0} (B : Type 0) (g : A → B) (s : List A) → length (map g s) ≡ 11 → length s ≤ 11
-name-fits B g s e = omega (arith, length-map s g)
 
 lines-append : (a b : List FigureLine) → lines_text (a ++ b) ≡ lines_text a ++ lines_text b
 unfolding lines_text

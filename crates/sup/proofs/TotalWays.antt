@@ -1,12 +1,12 @@
 -- The ways through the combined total: four numbers by their high and low parts, neither of whose sums overflows. Assumes nothing.
-use Prim.Native.Nat.{ℕ, suc, ◌+◌, ◌-◌, ◌*◌, ◌/◌, ◌%◌, ◌^◌, ◌≤◌, ◌<◌}
-use mathlib.Core.Path.{◌≡◌, refl, sym, ◌∙◌, ap, subst}
+use Prim.Native.Nat.{ℕ, suc, ◌+◌, ◌*◌, ◌/◌, ◌%◌, ◌^◌, ◌≤◌, ◌<◌}
+use mathlib.Core.Path.{◌≡◌, refl, sym, ◌∙◌, ap}
 use mathlib.Core.List.{List, [], ◌∷◌}
-use mathlib.Core.Bool.{Bool, true, false, cond, not, ◌&&◌}
+use mathlib.Core.Bool.{Bool, true, false, cond, not}
 use native.Mathlib.Omega.{arith}
 use lib.ListN.{length, get_or, drop}
 use lib.Dec.{lit<}
-use lib.IntN.{ℤ, pos, negsuc, neg_ℤ, nat_abs, ◌+ℤ◌, ◌-ℤ◌, ◌*ℤ◌, +ℤ_idr}
+use lib.IntN.{ℤ, pos, negsuc, ◌+ℤ◌, ◌-ℤ◌, ◌*ℤ◌, +ℤ_idr}
 use lib.Signed.{mag, lt_z, le_z, quot_z, rem_z}
 use mir.Syntax.{w64}
 use mir.Val.{SFits, to_z, of_z}
@@ -17,7 +17,7 @@ use Rattle.laws.proofs.Bounds.{within-add, within-fits, within-lit}
 use Rattle.laws.proofs.Choice.{and-false, and_left, and_right}
 use Rattle.laws.proofs.Bits.{Holds, back, holds_as, holds-bits, ask-add, holds-add, ask-mul, holds-mul}
 use Rattle.laws.proofs.ListLaws.{left, left-none}
-use Rattle.laws.proofs.Parts.{P, N, num, add_parts, neg-P, neg-N, eq-parts, ints, diff, parts-fit, lt-true, le-true, le_not_lt}
+use Rattle.laws.proofs.Parts.{P, N, num, add_parts, neg-P, neg-N, eq-parts, ints, diff, parts-fit, lt-true, le_not_lt}
 use Rattle.classes.specs.declared.Class.TheVariants.{Confine, Other, Road, Water, Building, Parcel}
 use Rattle.tally.specs.Tally.{is_figure}
 use Rattle.tally.proofs.TallyWays.{figure-fits}

@@ -11,7 +11,6 @@ use Rattle.row.specs.declared.Stand.{Stand}
 use Rattle.row.specs.Walk.{left_at}
 use Rattle.tally.specs.declared.Refusal.{Refusal}
 use Rattle.tally.specs.declared.Refusal.TheVariants.{None, Sheet, Missing, Full, Wide}
-use Rattle.tally.specs.declared.Taken.{Taken}
 use Rattle.tally.specs.Take.{tally_of, number_of, row_of}
 use Rattle.order.specs.declared.LongCode.{LongCode}
 use Rattle.order.specs.declared.LongCode.TheVariants.{Nowhere, Row}

@@ -1,6 +1,6 @@
 -- For private contracts alone: the lines of the listed borders while they are put in order. In place of its figure such a line has ten bytes whose
 -- order is that of the figures; of equal codes a smaller exact area has no greater figure. Assumes nothing: these are definitions.
-use Rattle.std.specs.Prelude.{ℕ, ◌+◌, ◌*◌, ◌/◌, ◌%◌, ◌≡◌, refl, List, [], ◌∷◌, ◌++◌, map, Bool, cond, length, get_or, ℤ, pos, negsuc, nat_abs, ◌+ℤ◌, ◌-ℤ◌}
+use Rattle.std.specs.Prelude.{ℕ, ◌+◌, ◌*◌, ◌/◌, ◌%◌, ◌≡◌, refl, List, [], ◌∷◌, map, cond, length, get_or, ℤ, pos, negsuc, nat_abs, ◌+ℤ◌, ◌-ℤ◌}
 use Rattle.laws.specs.Lists.{over, pasted}
 use Rattle.sheet.specs.Tables.{Tables}
 use Rattle.made.specs.Made.{letters_of}

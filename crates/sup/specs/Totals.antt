@@ -1,5 +1,5 @@
 -- The combined total of a SUP file; for private contracts alone, its high and low parts. Assumes nothing: these are definitions.
-use Rattle.std.specs.Prelude.{ℕ, cond, ℤ, pos, ◌+ℤ◌}
+use Rattle.std.specs.Prelude.{cond, ℤ, pos, ◌+ℤ◌}
 use Rattle.std.specs.Int.Signed.{quot_z, rem_z}
 use Rattle.sup.specs.declared.Total.{Total}
 use Rattle.sup.specs.declared.Total.TheVariants.{Is, Past}

@@ -21,7 +21,6 @@ use Rattle.classes.specs.declared.Class.TheVariants.{Confine, Other, Road, Water
 use Rattle.classes.specs.Classes.{index_of}
 use Rattle.border.specs.Borders.{is_border, border_of}
 use Rattle.plane.specs.declared.Area.{Area}
-use Rattle.plane.specs.declared.Area.TheVariants as Area
 use Rattle.plane.specs.Rings.{most}
 use Rattle.plane.specs.Areas.{area_of}
 use Rattle.area.specs.declared.Areas.{Areas}

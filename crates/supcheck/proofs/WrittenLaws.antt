@@ -23,7 +23,7 @@ use Rattle.sup.specs.Answer.{codes_in_order, sheet_sup, sup_of}
 use Rattle.sup.proofs.SupLaws.{metres-low, metres-high, Fittings, Fittings.none, Fittings.more, lines_fit, listed-count}
 use Rattle.sup.proofs.WroteLaws.{SupWritten, wrote-sheet, header-named}
 use Rattle.supcheck.specs.declared.SupChecked.TheVariants.{Accepted}
-use Rattle.supline.specs.Right.{Due, due, DueLine, is_near}
+use Rattle.supline.specs.Right.{Due, DueLine, is_near}
 use Rattle.supcheck.specs.Due.{due_under, head_dues, head_due, listed_dues, listed_due, total_allowance, confine_allowance, foot_dues, foot_due, due_with}
 use Rattle.supcheck.specs.Checked.{total_checked, sup_checked}
 use Rattle.supcheck.specs.Allowed.{lines_with, Allowed, Allowed.none_due, Allowed.next_due, balance_of, text_with, AllowedFile}

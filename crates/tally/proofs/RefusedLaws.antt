@@ -4,7 +4,6 @@ use mathlib.Core.Path.{◌≡◌, refl}
 use Rattle.heading.specs.declared.Header.{Header}
 use Rattle.sheet.specs.Tables.{Tables}
 use Rattle.row.specs.declared.Sought.{Sought}
-use Rattle.row.specs.declared.Sought.TheVariants as Sought
 use Rattle.row.specs.Seek.{sought_of}
 use Rattle.row.specs.Seek as Seek
 use Rattle.tally.specs.declared.Tally.{Tally}

@@ -15,13 +15,11 @@ use Rattle.made.specs.declared.Verdict.{Verdict}
 use Rattle.made.specs.declared.Verdict.TheVariants.{Fine, BadHeader, Faulty, Unlisted}
 use Rattle.made.specs.Made.{rest_of, judge_of}
 use Rattle.row.specs.declared.Sought.{Sought}
-use Rattle.row.specs.declared.Sought.TheVariants as Sought
 use Rattle.row.specs.Walk.{stand_of, left_at}
 use Rattle.row.specs.Seek.{sought_of}
 use Rattle.row.proofs.Walk.{left-next}
 use Rattle.border.specs.Borders.{is_border, border_of}
 use Rattle.area.specs.declared.Areas.{Areas}
-use Rattle.area.specs.declared.Areas.TheVariants as Areas
 use Rattle.tally.specs.declared.Tally.{Tally}
 use Rattle.tally.specs.declared.Refusal.TheVariants.{None, Missing, Full}
 use Rattle.tally.specs.declared.Taken.{Taken}

@@ -2,9 +2,9 @@
 use mathlib.Core.Path.{◌≡◌, refl, sym, ap, ◌∙◌}
 use mathlib.Core.List.{List, [], ◌∷◌}
 use mathlib.Core.Bool.{Bool, true, false, cond, ◌&&◌}
-use Prim.Native.Nat.{ℕ, zero, suc, ◌+◌, ◌-◌, ◌*◌}
+use Prim.Native.Nat.{ℕ, zero, suc, ◌+◌}
 use native.Mathlib.Omega.{arith}
-use lib.ListN.{length, replicate, length-append, length-replicate}
+use lib.ListN.{length}
 use lib.IntN.{ℤ, pos, ◌+ℤ◌}
 use lib.Signed.{le_z}
 use Rattle.laws.proofs.Choice.{true≢false, false≢true, and_left, and_right, and_both, cond-elim}
@@ -13,14 +13,13 @@ use Rattle.heading.specs.declared.Header.{Header}
 use Rattle.sheet.specs.Tables.{Tables}
 use Rattle.made.specs.Made.{rest_of}
 use Rattle.border.specs.declared.Border.{Border}
-use Rattle.classes.specs.Classes.{index_of}
 use Rattle.border.specs.Borders.{is_border, border_of}
 use Rattle.area.specs.declared.Areas.{Areas}
 use Rattle.area.specs.declared.Areas.TheVariants.{Of, Wide, Missing}
 use Rattle.tally.specs.declared.Tally.{Tally}
 use Rattle.tally.specs.declared.Refusal.TheVariants.{None}
 use Rattle.tally.specs.declared.Taken.{Taken}
-use Rattle.tally.specs.Tally.{is_tally, no_figures, empty_tally, plus, figures_of, refused_at, with_figures, add_of}
+use Rattle.tally.specs.Tally.{is_tally, no_figures, empty_tally, plus, refused_at, with_figures, add_of}
 use Rattle.tally.specs.Take.{taken_with, borders_areas, after_added, after_areas, border_taken, row_taken, is_none, then_take, tally_rows}
 use Rattle.tally.specs.Sums.{own_of, area_figures, area_fits, row_figures, row_fits, rows_figures, rows_fit}
 use Rattle.tally.proofs.TallyLaws.{plus_assoc, plus_none, plus-length, none_below, tally-above, tally-before}

@@ -22,7 +22,6 @@ use Rattle.made.specs.Made.{tables_of, nat_of, is_made, none_before, judge_rows,
 use Rattle.made.proofs.RowWays.{made_held}
 use Rattle.row.specs.declared.Stand.{Stand}
 use Rattle.row.specs.declared.Sought.{Sought}
-use Rattle.row.specs.declared.Sought.TheVariants as Sought
 use Rattle.row.specs.Seek.{sought_of}
 use Rattle.row.proofs.Walk.{tails-are}
 use Rattle.row.proofs.SeekLaws.{fine-rows, stood}
@@ -31,7 +30,6 @@ use Rattle.classes.specs.Classes.{class_of}
 use Rattle.border.specs.declared.Border.{Border}
 use Rattle.border.specs.Borders.{is_border, border_with, border_of}
 use Rattle.area.specs.declared.Areas.{Areas}
-use Rattle.area.specs.declared.Areas.TheVariants as Areas
 use Rattle.area.specs.BorderRings.{areas_of}
 use Rattle.tally.specs.declared.Tally.{Tally}
 use Rattle.tally.specs.declared.Refusal.{Refusal}

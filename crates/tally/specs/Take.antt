@@ -11,12 +11,10 @@ use Rattle.made.specs.declared.Verdict.{Verdict}
 use Rattle.made.specs.declared.Verdict.TheVariants.{Fine, BadHeader, Faulty, Unlisted}
 use Rattle.made.specs.Made.{count_at, islands_of, rest_of, judge_of}
 use Rattle.row.specs.declared.Sought.{Sought}
-use Rattle.row.specs.declared.Sought.TheVariants as Sought
 use Rattle.row.specs.Walk.{left_at}
 use Rattle.row.specs.Seek.{sought_of}
 use Rattle.border.specs.Borders.{is_border, border_of}
 use Rattle.area.specs.declared.Areas.{Areas}
-use Rattle.area.specs.declared.Areas.TheVariants as Areas
 use Rattle.area.specs.BorderRings.{areas_of}
 use Rattle.tally.specs.declared.Tally.{Tally}
 use Rattle.tally.specs.declared.Refusal.{Refusal}

@@ -1,7 +1,7 @@
 -- `area::total_area` meets its contract: `total` is the area of the rings passed, at most `edge-limit` for each of their vertices. Assumes nothing.
 use native.Mathlib.Omega.{arith}
 use borrow.Author.Rules.{rules}
-use Rattle.area.proofs.AreaWays.{total-ways, total-start, total-none, Passed, total-passed}
+use Rattle.area.proofs.AreaWays.{total-ways, total-start, total-none, total-passed}
 use Prim.Native.Nat.{zero-le}
 use Rattle.area.proofs.total_area.Goals as goal
 

@@ -25,7 +25,6 @@ pub loop-i-preserved : goal.loop-i-preserved
 loop-i-preserved c = (
   search rules,
   holds-step _ _ _ c.loop-i.invariant.1 _ c.wide.ensures c.loop-i-test.true c.if-wide-n.false,
-
 )
 
 pub returns : goal.returns

@@ -1,10 +1,11 @@
 -- `store` meets its contract: the date, the head, the listed borders, the foot, each behind the last. Assumes nothing.
+use native.Mathlib.Omega.{arith}
 use Rattle.made.specs.Made.{tables_of}
-use Rattle.sup.proofs.TextWays.{name-fits, date-eight, head-asks, listed-narrow, foot-asks, date-room, head-room, listed-room, foot-room, store-done}
+use Rattle.sup.proofs.TextWays.{date-eight, head-asks, listed-narrow, foot-asks, date-room, head-room, listed-room, foot-room, store-done}
 use Rattle.sup.proofs.store.Goals as goal
 
 pub put_date-head_at-requires : goal.put_date-head_at-requires
-put_date-head_at-requires c = (name-fits _ _ c.args.header.name c.well-formed.0.1.1.1.0.1.0.1, date-eight _ c.requires.points_value.3, date-room c.args.header c.args.count (tables_of c.args.rows.now c.args.letters.now c.args.islands.now c.args.points.now) c.args.figures.now c.args.date.now _ c.head_figures-head.ensures _ c.foot_figures-foot.ensures c.args.out.now c.requires.points_in_bounds)
+put_date-head_at-requires c = (omega arith, date-eight _ c.requires.points_value.3, date-room c.args.header c.args.count (tables_of c.args.rows.now c.args.letters.now c.args.islands.now c.args.points.now) c.args.figures.now c.args.date.now _ c.head_figures-head.ensures _ c.foot_figures-foot.ensures c.args.out.now c.requires.points_in_bounds)
 
 pub put_lines-listed_at-requires : goal.put_lines-listed_at-requires
 put_lines-listed_at-requires c = let a = head-asks c.args.header c.args.count (tables_of c.args.rows.now c.args.letters.now c.args.islands.now c.args.points.now) c.args.figures.now c.requires.points_value_2.1 _ c.head_figures-head.ensures in (a.0, a.1, head-room c.args.header c.args.count (tables_of c.args.rows.now c.args.letters.now c.args.islands.now c.args.points.now) c.args.figures.now c.args.date.now _ c.head_figures-head.ensures _ c.foot_figures-foot.ensures c.args.out.now c.requires.points_in_bounds c.put_date-head_at.ensures)

@@ -1,7 +1,6 @@
 -- `tally::grow` meets its contract: four figures are judged together, then stored. Assumes nothing.
 use mathlib.Core.Bool.{not}
 use mathlib.Core.Path.{ap}
-use Prim.Native.Nat.{◌≤◌}
 use native.Mathlib.Omega.{arith}
 use borrow.Author.Rules.{rules}
 use Rattle.tally.proofs.AddWays.{index-most, grow-figures, grow-not, grow_first, grow-second, grow-count, grow-third, grow-fourth, grow-is}

@@ -1,7 +1,7 @@
 -- `edit::move_points` meets its contract: the loop's invariant is `Moving`. Assumes nothing.
 use lib.IntN.{ℤ}
 use mathlib.Core.Path.{◌≡◌}
-use mathlib.Core.Bool.{true, false}
+use mathlib.Core.Bool.{true}
 use native.Mathlib.Omega.{arith}
 use Rattle.plane.specs.Moved.{moved}
 use Rattle.made.specs.Made.{are_reals}

@@ -1,7 +1,7 @@
 -- `edit::move_rows` meets its contract: the loop's invariant is `Changing`. Assumes nothing.
 use lib.IntN.{ℤ}
 use mathlib.Core.Path.{◌≡◌}
-use mathlib.Core.Bool.{true, false}
+use mathlib.Core.Bool.{true}
 use native.Mathlib.Omega.{arith}
 use Rattle.edit.specs.Moves.{row_stays, rows_stay, moved_rows}
 use Rattle.edit.proofs.PartWays.{unbits, tobits}

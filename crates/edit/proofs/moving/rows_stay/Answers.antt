@@ -6,7 +6,6 @@ use mathlib.Core.Bool.{true, false, not}
 use native.Mathlib.Omega.{arith}
 use Rattle.edit.specs.Moves.{rows_stay}
 use Rattle.edit.proofs.PartWays.{unbits}
-use Rattle.edit.specs.Moves.{row_stays}
 use Rattle.edit.proofs.RowLoops.{testing-none, testing-all, testing-not, testing-on, row_in, row-there}
 use Rattle.edit.proofs.moving.rows_stay.Goals as goal
 

@@ -52,7 +52,6 @@ loop-i-preserved c = (
   search rules,
   closed-step _ _ _ _ c.loop-i.invariant.1 c.loop-i-test.true _ c.wide-n.ensures _ c.is_closed.ensures (ap not c.if-not-is_closed.false),
   held-step _ c.args.s.now _ _ c.loop-i.invariant.2 c.loop-i-test.true _ c.wide-n.ensures,
-
 )
 
 pub returns : goal.returns

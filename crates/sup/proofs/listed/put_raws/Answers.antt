@@ -1,11 +1,11 @@
 -- `put_raws` meets its contract: the lines of the rows behind the walk are stored. Assumes nothing.
 use mathlib.Core.Path.{◌∙◌}
-use mathlib.Core.Logic.{⊎_elim}
 use Rattle.sup.proofs.ListedWays.{listed-own}
 use native.Mathlib.Omega.{arith}
 use Rattle.made.specs.Made.{tables_of}
 use Rattle.sup.proofs.RawPuts.{raws-start, raws-end, raws-fits, raws-narrow, raws-room, raws-on, raws-past}
 use Rattle.sup.proofs.listed.put_raws.Goals as goal
+use Rattle.sup.proofs.listed.put_raws.Goals.{then-is_in_sup, else-is_in_sup}
 
 pub loop-k-init : goal.loop-k-init
 loop-k-init c = raws-start c.args.header c.args.count (tables_of c.args.rows.now c.args.letters.now c.args.islands.now c.args.points.now) c.args.out.now c.args.at c.requires.points_value c.requires.points_value_2 c.requires.points_in_bounds
@@ -26,7 +26,7 @@ pub loop-k-smaller : goal.loop-k-smaller
 loop-k-smaller c = let l = c.loop-k-test.true in omega arith
 
 pub loop-k-preserved : goal.loop-k-preserved
-loop-k-preserved c = let g = c.loop-k.invariant in let e = c.loop-k-test.true in let q = c.is_in_sup.ensures ∙ listed-own c.args.header c.args.rows.now c.args.letters.now c.args.islands.now c.args.points.now c.loop-k.d in ⊎_elim (λ x. raws-on g e _ q x.0.taken x.2.ensures c.if-is_in_sup.out c.if-is_in_sup.next c.stand_next-d.result x.5 x.6 c.stand_next-d.ensures) (λ x. raws-past g e _ q x.0.left c.if-is_in_sup.out c.if-is_in_sup.next c.stand_next-d.result x.1 x.2 c.stand_next-d.ensures) c.if-is_in_sup.branch
+loop-k-preserved c = let g = c.loop-k.invariant in let e = c.loop-k-test.true in let q = c.is_in_sup.ensures ∙ listed-own c.args.header c.args.rows.now c.args.letters.now c.args.islands.now c.args.points.now c.loop-k.d in elim c.if-is_in_sup.branch [ then-is_in_sup w ↦ raws-on g e _ q w.if-is_in_sup.true w.put_raw-next.ensures c.if-is_in_sup.out c.if-is_in_sup.next c.stand_next-d.result w.out-is w.next-is c.stand_next-d.ensures | else-is_in_sup w ↦ raws-past g e _ q w.if-is_in_sup.false c.if-is_in_sup.out c.if-is_in_sup.next c.stand_next-d.result w.out-is w.next-is c.stand_next-d.ensures ]
 
 pub shape_of-out : goal.shape_of-out
 shape_of-out c = c.loop-k.invariant.puts.size

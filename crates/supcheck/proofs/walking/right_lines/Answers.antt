@@ -26,10 +26,6 @@ bounds-exact-i c = omega arith
 pub offset_bounds-allowed-i : goal.offset_bounds-allowed-i
 offset_bounds-allowed-i c = omega arith
 
-shared-slice-copy-out-is-right-line-2 :
-    tie.Need-shared-slice-copy-out-is-right-line-2 invariant-loop decreases-loop
-shared-slice-copy-out-is-right-line-2 c = omega arith
-
 pub overflow_add-first : goal.overflow_add-first
 overflow_add-first c = omega arith
 
