@@ -1,6 +1,6 @@
 -- `quick::brisk` meets its contract. Assumes nothing.
 use Rattle.quick.proofs.Leading.{brisk-inside, plus-small, brisk-plus, minus-small, brisk-minus}
-use Rattle.std.proofs.Common.{arith}
+use Rattle.std.proofs.Common.{arith, rules}
 use Rattle.quick.proofs.Twelve.{never}
 use Rattle.quick.proofs.unpadded.brisk.Goals as goal
 
@@ -19,11 +19,8 @@ overflow_add-result-then-a-k c = omega (arith, plus-small c.args.t.now c.all_bla
 pub returns-then-a-k : goal.returns-then-a-k
 returns-then-a-k c = brisk-plus c.args.t.now c.all_blanks-k.result c.minus.result c.body-w.result.len c.body-w.result.value c.all_blanks-k.ensures.0 c.if-k-t.false c.minus.ensures c.body-w.ensures c.if-n-lt1.false c.if-a-k.true
 
-pub returns-then-n-gt11 : goal.returns-then-n-gt11
-returns-then-n-gt11 c = λ h. never h
-
 pub overflow_sub-result : goal.overflow_sub-result
-overflow_sub-result c = omega (arith, minus-small c.args.t.now c.all_blanks-k.result c.minus.result c.body-w.result.len c.body-w.result.value c.all_blanks-k.ensures.0 c.if-k-t.false c.minus.ensures c.body-w.ensures c.if-n-lt1.false c.if-a-k.false c.if-n-gt11.false)
+overflow_sub-result c = omega (arith, minus-small c.args.t.now c.all_blanks-k.result c.minus.result c.body-w.result.len c.body-w.result.value c.all_blanks-k.ensures.0 c.if-k-t.false c.minus.ensures c.body-w.ensures c.if-n-lt1.false c.if-a-k.false (search rules))
 
 pub returns : goal.returns
-returns c = brisk-minus c.args.t.now c.all_blanks-k.result c.minus.result c.body-w.result.len c.body-w.result.value c.all_blanks-k.ensures.0 c.if-k-t.false c.minus.ensures c.body-w.ensures c.if-n-lt1.false c.if-a-k.false c.if-n-gt11.false
+returns c = brisk-minus c.args.t.now c.all_blanks-k.result c.minus.result c.body-w.result.len c.body-w.result.value c.all_blanks-k.ensures.0 c.if-k-t.false c.minus.ensures c.body-w.ensures c.if-n-lt1.false c.if-a-k.false (search rules)
