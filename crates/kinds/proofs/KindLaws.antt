@@ -12,7 +12,7 @@ use mir.Val.{Fits}
 use borrow.Author.Tests.{leb-true, leb-false, ltb-true, ltb-false, eqb-true, ne_eqb}
 use Rattle.laws.specs.Lists.{all, below, holds, same, packed, packed_at}
 use Rattle.laws.proofs.Choice.{and_left, and_right, cond-elim}
-use Rattle.laws.proofs.ListLaws.{below_at, values}
+use Rattle.laws.proofs.ListLaws.{below_at, values, values-at}
 use Rattle.laws.proofs.Packed.{packed-from, packed-to, packed-is}
 use Rattle.token.specs.Lex.{kind_most}
 use Rattle.kinds.specs.Kinds.{own_width, schedule, next_in, next_of, fixed, fixed_vertices, codes, is_listed}
@@ -141,9 +141,9 @@ codes-past-kinds : (kind : ℕ) → kind_most < kind → are_codes kind 0 ≡ tr
 unfolding are_codes below is_listed codes holds
 codes-past-kinds kind h = rw (get_or-eq_default codes [] {n = kind} h)
 
-pub codes-none : (kind : ℕ) → (kind ≡ 3 → ⊥) → (kind ≡ 4 → ⊥) → (kind ≡ 5 → ⊥) → (kind ≡ 7 → ⊥) → are_codes kind 0 ≡ true
+pub codes-zero : (kind : ℕ) → (kind ≡ 3 → ⊥) → (kind ≡ 4 → ⊥) → (kind ≡ 5 → ⊥) → (kind ≡ 7 → ⊥) → are_codes kind 0 ≡ true
 unfolding no_codes
-codes-none kind a b c d = go (leb kind kind_most) refl
+codes-zero kind a b c d = go (leb kind kind_most) refl
   where
     go : (x : Bool) → leb kind kind_most ≡ x → are_codes kind 0 ≡ true
     go true h = rw (ne_eqb kind 3 a, ne_eqb kind 4 b, ne_eqb kind 5 c, ne_eqb kind 7 d) at (below_at kinds no_codes kind all-no-codes (among kind (leb-true kind kind_most h)))
@@ -241,3 +241,35 @@ module _ (kind : ℕ) (h : kind_most < kind) where
   pub field-none : (j : ℕ) → 0 ≡ get_or (get_or schedule kind []) j 0
   unfolding schedule
   field-none j = rw (get_or-eq_default schedule [] {n = kind} h)
+
+-- ---- the next fields and the listed codes as tables
+
+unfoldable pub next_table : List (List ℕ)
+next_table = values (λ (kind : ℕ). values (next_of kind) own_width) kinds
+
+pub next-at : (kind p n : ℕ) → kind ≤ kind_most → p < own_width → n ≡ get_or (get_or next_table kind []) p 0 → n ≡ next_of kind p
+unfolding next_table
+next-at kind p n h k e =
+    e
+    ∙ ap (λ (row : List ℕ). get_or row p 0) (values-at (λ (kind : ℕ). values (next_of kind) own_width) kinds kind [] (omega arith))
+    ∙ values-at (next_of kind) own_width p 0 k
+
+unfoldable pub code_table : List ℕ
+code_table = flatten codes
+
+unfoldable pub code_starts : List ℕ
+code_starts = values (λ (k : ℕ). length (flatten (take k codes))) (kinds + 1)
+
+codes-packed : packed code_table code_starts codes ≡ true
+unfolding code_table code_starts packed packed_at below same values codes flatten
+codes-packed = refl
+
+module _ (kind : ℕ) (h : kind ≤ kind_most) where
+  pub codes-are : (code : ℕ) (r : Bool)
+      → r ≡ holds (take (get_or code_starts (kind + 1) 0 - get_or code_starts kind 0) (drop (get_or code_starts kind 0) code_table)) code → r ≡ is_listed kind code
+  unfolding is_listed codes
+  codes-are code r e = e ∙ ap (λ (l : List ℕ). holds l code) (packed-is code_table code_starts codes codes-packed kind (omega arith))
+
+pub codes-none : (kind code : ℕ) → kind_most < kind → false ≡ is_listed kind code
+unfolding is_listed codes holds
+codes-none kind code h = rw (get_or-eq_default codes [] {n = kind} h)

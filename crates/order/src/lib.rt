@@ -139,7 +139,7 @@ fn since_letters<'a>(rows: &[i64], letters: &'a [u8], since: Since) -> &'a [u8]
 // which is found by halves, and what stands behind is carried on by one. (A function of its own would copy the items at each call.)
 // The guide is a caller's guess at letters that no border of the window comes after; empty is no guess. It makes the walk short, and never
 // changes the answer: rows after it are passed by, and where the window is not full then, the walk is made once more without it.
-pub fn next_window(
+pub fn guided_window(
     header: Header,
     count: usize,
     rows: &[i64],
@@ -196,6 +196,30 @@ pub fn next_window(
         }
         guided = false;
     }
+}
+
+// The same with no guide.
+pub fn next_window(
+    header: Header,
+    count: usize,
+    rows: &[i64],
+    letters: &[u8],
+    islands: &[u16],
+    points: &[i64],
+    since: Since,
+) -> Window
+    ensures { Shows result (window_of header count (tables_of rows.now letters.now islands.now points.now) since) }
+{
+    guided_window(
+        header,
+        count,
+        rows,
+        letters,
+        islands,
+        points,
+        since,
+        &letters[..0],
+    )
 }
 
 // How many borders are listed.

@@ -15,7 +15,7 @@ use Rattle.token.specs.declared.Want.TheVariants.{Real}
 use Rattle.token.proofs.TokenLaws.{says-most, lex-widens}
 use Rattle.quick.specs.declared.RealTaken.{RealTaken}
 use Rattle.quick.specs.Neat.{Neat, Sound}
-use Rattle.quick.specs.Seen.{RealAt, SomeReal, Padded, cr-lf, lf-alone, Ends, Vertices, more}
+use Rattle.quick.specs.Seen.{RealAt, SomeReal, Padded, Ender, cr-lf, lf-alone, Ends, Vertices, more}
 
 -- plain bytes and a line end at a place are a record
 pub line_at : (mode : Mode) (s : List ℕ) (at n : ℕ) (e : List ℕ) → at + n ≤ length s → n ≤ 255 → all plain (take n (drop at s)) ≡ true → LineEnd mode e
@@ -33,16 +33,21 @@ module _ (mode : Mode) (s : List ℕ) (at : ℕ) (h : 14 ≤ length s) (k : at �
       let a : at + 12 + 1 ≡ at + 13 = omega arith in
       let b : at + 13 + 1 ≡ at + 12 + 2 = omega arith in
       let two : drop (at + 12) s ≡ 13 ∷ 10 ∷ drop (at + 12 + 2) s = left s (at + 12) 0 (omega arith) ∙ rw (x, a, left s (at + 13) 0 (omega arith), y, b) in
-      record { few = omega arith; inside = omega arith; ender = rw x cr-lf; line = λ p. line_at mode s at 12 (13 ∷ 10 ∷ []) (omega arith) (omega arith) p (crlf refl) two }
+      record { few = omega arith; inside = omega arith; line = λ p. line_at mode s at 12 (13 ∷ 10 ∷ []) (omega arith) (omega arith) p (crlf refl) two }
 
   pub ends-lf : (y : Bool) → y ≡ is_exact mode → y ≡ false → get_or s (at + 12) 0 ≡ 10 → Ends mode s at 13
   ends-lf y m f x =
       record {
         few = omega arith;
         inside = omega arith;
-        ender = rw x (lf-alone (sym m ∙ f));
         line = λ p. line_at mode s at 12 (10 ∷ []) (omega arith) (omega arith) p (lf (sym m ∙ f) refl) (left s (at + 12) 0 (omega arith) ∙ rw x);
       }
+
+pub ender-cr : {mode : Mode} {n : ℕ} → n ≡ 13 → Ender mode 14 n
+ender-cr x = rw x cr-lf
+
+pub ender-lf : {mode : Mode} {n : ℕ} (y : Bool) → y ≡ is_exact mode → y ≡ false → n ≡ 10 → Ender mode 13 n
+ender-lf y m f x = rw x (lf-alone (sym m ∙ f))
 
 real_of : (mode : Mode) (s : List ℕ) (at w v : ℕ) → Ends mode s at w → Neat (take 12 (drop at s)) v → Padded mode s at w v
 unfolding lex_of

@@ -112,9 +112,9 @@ module _ (mode : Mode) (s : List ℕ) (at w : ℕ) (f : 0 < w → Ends mode s at
   pub ender-in : at + 12 < length s
   ender-in = omega (arith, (f (omega arith)).inside)
 
-  module _ (n most : ℕ) (j : (n ≤ most) × Judged s at w (get_or s (at + 12) 0) n) where
+  module _ (d : 0 < w → Ender mode w (get_or s (at + 12) 0)) (n most : ℕ) (j : (n ≤ most) × Judged s at w (get_or s (at + 12) 0) n) where
     pub run_is : (n ≤ most) × Usual mode s at w n
-    run_is = (j.0, j.1.usual mode (f (omega arith)).ender)
+    run_is = (j.0, j.1.usual mode (d (omega arith)))
 
 pub no_run : (mode : Mode) (s : List ℕ) (at most : ℕ) → (0 ≤ most) × Usual mode s at 0 0
 no_run mode s at most = (omega arith, record { inside = λ h. omega arith; each = λ j h. absurd (omega arith) })

@@ -67,7 +67,6 @@ pub data Ender : Mode → ℕ → ℕ → Type 0 where
 pub record Ends (mode : Mode) (s : List ℕ) (at width : ℕ) : Type 0 where
   pub few : width ≤ 14
   pub inside : at + 14 ≤ length s
-  pub ender : Ender mode width (slice_index s (at + 12))
   pub line : all plain (take 12 (drop at s)) ≡ true → line_of mode false (drop at s) ≡ Got 12 width
 
 -- k vertices, an x and a y each, from `at` up to a place

@@ -8,9 +8,9 @@ pub mod integers;
 mod neighbours;
 mod unpadded;
 
-ghost use Rattle.std.specs.Prelude.{◌≡◌, ◌-◌, ◌/◌, ◌<◌, ◌≤◌};
+ghost use Rattle.std.specs.Prelude.{◌≡◌, ◌+◌, ◌-◌, ◌/◌, ◌<◌, ◌≤◌, slice_index};
 ghost use Rattle.number.specs.Number.{value};
-ghost use Rattle.quick.specs.Seen.{RealAt, SomeReal, Padded, Usual, Ends, Vertices};
+ghost use Rattle.quick.specs.Seen.{RealAt, SomeReal, Padded, Usual, Ender, Ends, Vertices};
 
 use crate::aligned::{is_sound, neat};
 use crate::neighbours::usual_records;
@@ -67,7 +67,8 @@ struct Digits {
 
 // The bytes of a record whose line end stands behind 12 characters: 14, or 13 where the mode is not exact; or 0.
 fn ending(s: &[u8], at: usize, mode: Mode) -> usize
-    ensures { 0 < result → Ends mode s.now at result }
+    ensures ends { 0 < result → Ends mode s.now at result }
+    ensures ender { 0 < result → Ender mode result (slice_index s.now (at + 12)) }
 {
     let n = s.len();
     if n < 14 {

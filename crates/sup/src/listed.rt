@@ -95,16 +95,7 @@ fn wide_listed(
     requires { judge_rows Loose count none_before (tables_of rows.now letters.now islands.now points.now) ≡ Fine }
     ensures { result ≡ wide_from 8 (figures_in (listed_lines (codes_in_order header count (tables_of rows.now letters.now islands.now points.now)))) }
 {
-    let mut w = next_window(
-        header,
-        count,
-        rows,
-        letters,
-        islands,
-        points,
-        Since::First,
-        &letters[..0],
-    );
+    let mut w = next_window(header, count, rows, letters, islands, points, Since::First);
     let mut i = 0;
     let mut j = 0;
     while j < w.count {
@@ -123,7 +114,6 @@ fn wide_listed(
                 islands,
                 points,
                 Since::Past(d),
-                &letters[..0],
             );
             j = 0;
         }

@@ -13,7 +13,7 @@ ghost use Rattle.supcheck.specs.Checked.{right_from};
 ghost use Rattle.supcheck.specs.Walking.{packed_due};
 
 use heading::Header;
-use order::{Since, letters_at, net_at, next_window};
+use order::{Since, guided_window, letters_at, net_at};
 use row::Stand;
 use supline::is_right_line;
 use supline::reading::line_from;
@@ -92,7 +92,7 @@ pub(crate) fn right_listed(
     requires { judge_rows Loose count none_before (tables_of rows.now letters.now islands.now points.now) ≡ Fine }
     ensures { result ≡ right_from 7 (listed_due (codes_in_order header count (tables_of rows.now letters.now islands.now points.now))) s.now }
 {
-    let mut w = next_window(
+    let mut w = guided_window(
         header,
         count,
         rows,
@@ -119,7 +119,7 @@ pub(crate) fn right_listed(
         i += 1;
         j += 1;
         if j == WIDTH {
-            w = next_window(
+            w = guided_window(
                 header,
                 count,
                 rows,

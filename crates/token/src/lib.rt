@@ -2,9 +2,9 @@
 // All of it is proved, and no public function has a `requires`.
 #![tactic(auto)]
 
-ghost use Rattle.std.specs.Prelude.{◌≡◌, cond};
-ghost use Rattle.laws.specs.Lists.{place};
-ghost use Rattle.token.specs.Lex.{keywords, lift, may_lie_outside, unmarked, is_marked, key_of, lex_of};
+ghost use Rattle.std.specs.Prelude.{◌≡◌, ◌<◌, cond, get_or, []};
+ghost use Rattle.laws.specs.Lists.{same, place};
+ghost use Rattle.token.specs.Lex.{keywords, kind_most, lift, may_lie_outside, unmarked, is_marked, key_of, lex_of};
 
 use number::{Decimal, Whole, Word, integer, real, word_of};
 use record::refusal::{KEYWORD, LETTERS, NUMBER};
@@ -38,6 +38,16 @@ const LEAST: i64 = -10_000_000_000;
 pub const WORDS: [u8; 57] = *b"BORDOTESTOSIMBOLOFIDUCIALELINEARIFERIMENTO_RASTERLIBRETTO";
 
 pub const WORD_STARTS: [usize; 8] = [0, 5, 10, 17, 26, 31, 49, 57];
+
+// A word is the keyword of the kind `k + 1`.
+fn is_keyword(w: &[u8], k: usize) -> bool
+    requires { k < kind_most }
+    ensures { result ≡ same w.now (get_or keywords k []) }
+{
+    let start = WORD_STARTS[k];
+    let end = WORD_STARTS[k + 1];
+    is_same(w, &WORDS[start..end])
+}
 
 // The kind of a keyword, or 0. The tests stand in a row, as a table would be built anew at each use.
 fn kind_of(w: &[u8]) -> usize

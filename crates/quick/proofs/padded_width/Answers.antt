@@ -8,13 +8,13 @@ pub returns-then-w-eq0 : goal.returns-then-w-eq0
 returns-then-w-eq0 c = λ h. never h
 
 pub overflow_add-e : goal.overflow_add-e
-overflow_add-e c = omega (arith, twelve-in c.args.mode c.args.s.now c.args.at c.ending-w.result c.ending-w.ensures c.if-w-eq0.false)
+overflow_add-e c = omega (arith, twelve-in c.args.mode c.args.s.now c.args.at c.ending-w.result c.ending-w.ensures.ends c.if-w-eq0.false)
 
 pub slice_bounds-is_sound-end : goal.slice_bounds-is_sound-end
-slice_bounds-is_sound-end c = omega (arith, twelve-in c.args.mode c.args.s.now c.args.at c.ending-w.result c.ending-w.ensures c.if-w-eq0.false)
+slice_bounds-is_sound-end c = omega (arith, twelve-in c.args.mode c.args.s.now c.args.at c.ending-w.result c.ending-w.ensures.ends c.if-w-eq0.false)
 
 pub returns-then-is_sound : goal.returns-then-is_sound
-returns-then-is_sound c = λ h. width_is c.args.mode c.args.s.now c.args.at c.ending-w.result c.ending-w.ensures c.if-w-eq0.false c.is_sound.result c.is_sound.ensures c.if-is_sound.true
+returns-then-is_sound c = λ h. width_is c.args.mode c.args.s.now c.args.at c.ending-w.result c.ending-w.ensures.ends c.if-w-eq0.false c.is_sound.result c.is_sound.ensures c.if-is_sound.true
 
 pub returns : goal.returns
 returns c = λ h. never h

@@ -11,11 +11,11 @@ use Rattle.supcheck.proofs.walking.right_listed.Goals as goal
 pub guide-requires : goal.guide-requires
 guide-requires c = tt
 
-pub next_window-w-requires : goal.next_window-w-requires
-next_window-w-requires c = tt
+pub guided_window-w-requires : goal.guided_window-w-requires
+guided_window-w-requires c = tt
 
 pub loop-j-init : goal.loop-j-init
-loop-j-init c = counting-start c.args.header c.args.count (tables_of c.args.rows.now c.args.letters.now c.args.islands.now c.args.points.now) c.args.s.now (record { rows = omega arith; letters = omega arith; islands = omega arith; points = omega arith }) c.requires c.next_window-w.result c.next_window-w.ensures
+loop-j-init c = counting-start c.args.header c.args.count (tables_of c.args.rows.now c.args.letters.now c.args.islands.now c.args.points.now) c.args.s.now (record { rows = omega arith; letters = omega arith; islands = omega arith; points = omega arith }) c.requires c.guided_window-w.result c.guided_window-w.ensures
 
 pub offset_bounds-w-j : goal.offset_bounds-w-j
 offset_bounds-w-j c = omega (arith, c.loop-j.invariant.turns.inside)
@@ -47,14 +47,14 @@ overflow_add-i-then-j-eq-WIDTH c = omega (arith, counting-small c.loop-j.invaria
 pub guide-requires-then-j-eq-WIDTH : goal.guide-requires-then-j-eq-WIDTH
 guide-requires-then-j-eq-WIDTH c = tt
 
-pub next_window-w-requires-then-j-eq-WIDTH : goal.next_window-w-requires-then-j-eq-WIDTH
-next_window-w-requires-then-j-eq-WIDTH c = tt
+pub guided_window-w-requires-then-j-eq-WIDTH : goal.guided_window-w-requires-then-j-eq-WIDTH
+guided_window-w-requires-then-j-eq-WIDTH c = tt
 
 pub loop-j-smaller-then-j-eq-WIDTH : goal.loop-j-smaller-then-j-eq-WIDTH
 loop-j-smaller-then-j-eq-WIDTH c = let h = turning-more c.loop-j.invariant.turns c.loop-j-test.true in omega arith
 
 pub loop-j-preserved-then-j-eq-WIDTH : goal.loop-j-preserved-then-j-eq-WIDTH
-loop-j-preserved-then-j-eq-WIDTH c = counting-next c.loop-j.invariant c.loop-j-test.true first_stand _ c.line_from.ensures _ c.is_right_border.ensures (ap not c.if-not-is_right_border.false) c.next_window-w-then-j-eq-WIDTH.result c.next_window-w-then-j-eq-WIDTH.ensures
+loop-j-preserved-then-j-eq-WIDTH c = counting-next c.loop-j.invariant c.loop-j-test.true first_stand _ c.line_from.ensures _ c.is_right_border.ensures (ap not c.if-not-is_right_border.false) c.guided_window-w-then-j-eq-WIDTH.result c.guided_window-w-then-j-eq-WIDTH.ensures
 
 pub loop-j-smaller : goal.loop-j-smaller
 loop-j-smaller c = let h = turning-more c.loop-j.invariant.turns c.loop-j-test.true in omega arith

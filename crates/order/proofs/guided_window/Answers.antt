@@ -1,4 +1,4 @@
--- `order::next_window` meets its contract: what is to come is put into what is held; a walk that is guided and does not fill the window is
+-- `order::guided_window` meets its contract: what is to come is put into what is held; a walk that is guided and does not fill the window is
 -- made once more, unguided. The first inner loop finds the place, the second carries each item one place on. Assumes nothing.
 use mathlib.Core.Bool.{not}
 use mathlib.Core.Path.{◌∙◌, ap}
@@ -9,8 +9,8 @@ use Rattle.order.proofs.GuideLaws.{up_to, within-up, passed-by, guided-full, ung
 use Rattle.order.proofs.PlaceWays.{halving-down, halving-up, halving-end, middle-in}
 use Rattle.order.proofs.ShiftWays.{shift_in, shift-more}
 use Rattle.order.proofs.WindowWays.{filling-start, filling-halves, filling-past, filling-by, filling-shift, filling-in, filling-end}
-use Rattle.order.proofs.next_window.Goals as goal
-use Rattle.order.proofs.next_window.Goals.{then-is_within+then-joins_window+else-loop-low-test+else-loop-i-test, then-is_within+else-joins_window, else-is_within}
+use Rattle.order.proofs.guided_window.Goals as goal
+use Rattle.order.proofs.guided_window.Goals.{then-is_within+then-joins_window+else-loop-low-test+else-loop-i-test, then-is_within+else-joins_window, else-is_within}
 
 pub since_letters-from-requires : goal.since_letters-from-requires
 since_letters-from-requires c = tt

@@ -1,4 +1,4 @@
--- `order::next_window` meets its contract: what is to come is put into what is held; a walk that is guided and does not fill the window is
+-- `order::guided_window` meets its contract: what is to come is put into what is held; a walk that is guided and does not fill the window is
 -- made once more, unguided. The first inner loop finds the place, the second carries each item one place on. Assumes nothing.
 use Prim.Native.Nat.{◌+◌, ◌-◌}
 use mathlib.Core.Bool.{cond}
@@ -9,7 +9,7 @@ use Rattle.order.proofs.GuideLaws.{up_to}
 use Rattle.order.proofs.PlaceWays.{Halving}
 use Rattle.order.proofs.ShiftWays.{Shifting}
 use Rattle.order.proofs.WindowWays.{Filling}
-use Rattle.order.proofs.next_window.Given as goal
+use Rattle.order.proofs.guided_window.Given as goal
 
 abbrev pub invariant-loop-low : goal.invariant-loop-low
 invariant-loop-low l = Halving (goes_before (tables_of l.rows l.letters l.islands l.points)) l.d l.items l.n l.low l.high
