@@ -32,7 +32,7 @@ use Rattle.cabi.specs.contracts.cxf_remove as cxf-remove
 use Rattle.cabi.proofs.cxf_remove.Reads as cxf-remove-reads
 use Rattle.cabi.specs.contracts.cxf_move as cxf-move
 use Rattle.cabi.proofs.cxf_move.Reads as cxf-move-reads
-use Rattle.permits.proofs.SmallSheets.{Tabled, header, no_kind, long_name, in-C, no-kind-in-C, long-name-in-C, small, faulty, false_start}
+use Rattle.permits.proofs.SmallSheets.{Lent, header, no_kind, long_name, in-C, no-kind-in-C, long-name-in-C, small, faulty, false_start}
 use Rattle.permits.proofs.Readings.{four}
 
 -- ---- a row taken out, computed
@@ -110,7 +110,7 @@ module _ (κs : Lfts 4) (a : ArgsD remove-row.signature κs) (r : ResD remove-ro
   remove_left = tables_of e.1.1.0.now e.1.1.1.0.now e.1.1.1.1.0.now e.1.1.1.1.1.0.now
 
   abbrev pub Removes : Header → ℕ → Tables → ℕ → Edited × Tables → Type 0
-  Removes h count t k x = a.0 ≡ h → Tabled count t a.1 → a.1.1.1.1.1.1.0 ≡ k → remove-reads.Learnt κs a r e → (r ≡ x.0) × (remove_left ≡ x.1)
+  Removes h count t k x = a.0 ≡ h → Lent count t a.1.0 a.1.1.0.now a.1.1.1.0.now a.1.1.1.1.0.now a.1.1.1.1.1.0.now → a.1.1.1.1.1.1.0 ≡ k → remove-reads.Learnt κs a r e → (r ≡ x.0) × (remove_left ≡ x.1)
 
   removes : {h : Header} {count : ℕ} {t : Tables} {k : ℕ} {x : Edited × Tables} → removal h count t k ≡ x → Removes h count t k x
   removes {h} {count} {t} {k} q p d n post =
@@ -161,7 +161,7 @@ module _ (κs : Lfts 5) (a : ArgsD cxf-remove.signature κs) (r : ResD cxf-remov
 
   abbrev pub CxfRemoves : Header → ℕ → Tables → ℕ → CxfEdited × Tables → Type 0
   CxfRemoves h count t k x =
-      a.0 ≡ h.kind → a.1.0.now ≡ h.name → a.1.1.0 ≡ h.scale → Tabled count t a.1.1.1 → a.1.1.1.1.1.1.1.1.0 ≡ k → cxf-remove-reads.Learnt κs a r e
+      a.0 ≡ h.kind → a.1.0.now ≡ h.name → a.1.1.0 ≡ h.scale → Lent count t a.1.1.1.0 a.1.1.1.1.0.now a.1.1.1.1.1.0.now a.1.1.1.1.1.1.0.now a.1.1.1.1.1.1.1.0.now → a.1.1.1.1.1.1.1.1.0 ≡ k → cxf-remove-reads.Learnt κs a r e
       → (r ≡ x.0) × (cxf_remove_left ≡ x.1)
 
   cxf-removes : {h h' : Header} {count : ℕ} {t : Tables} {k : ℕ} {x : Edited × Tables} → header_of h.kind h.name h.scale ≡ h' → removal h' count t k ≡ x
@@ -265,7 +265,7 @@ module _ (κs : Lfts 4) (a : ArgsD move-sheet.signature κs) (r : ResD move-shee
   -- of the tables at exit, those that may be altered
   abbrev pub Moves : Header → ℕ → Tables → ℤ → ℤ → Edited × Tables → Type 0
   Moves h count t dx dy x =
-      a.0 ≡ h → Tabled count t a.1 → a.1.1.1.1.1.1.0 ≡ dx → a.1.1.1.1.1.1.1.0 ≡ dy → move-reads.Learnt κs a r e
+      a.0 ≡ h → Lent count t a.1.0 a.1.1.0.now a.1.1.1.0.now a.1.1.1.1.0.now a.1.1.1.1.1.0.now → a.1.1.1.1.1.1.0 ≡ dx → a.1.1.1.1.1.1.1.0 ≡ dy → move-reads.Learnt κs a r e
       → (r ≡ x.0) × (e.1.1.0.now ≡ x.1.rows) × (e.1.1.1.1.1.0.now ≡ x.1.points)
 
   moves : {h : Header} {count : ℕ} {t : Tables} {dx dy : ℤ} {x : Edited × Tables} → move h count t dx dy ≡ x → Moves h count t dx dy x
@@ -319,7 +319,7 @@ module _ (κs : Lfts 5) (a : ArgsD cxf-move.signature κs) (r : ResD cxf-move.si
 
   abbrev pub CxfMoves : Header → ℕ → Tables → ℤ → ℤ → CxfEdited × Tables → Type 0
   CxfMoves h count t dx dy x =
-      a.0 ≡ h.kind → a.1.0.now ≡ h.name → a.1.1.0 ≡ h.scale → Tabled count t a.1.1.1 → a.1.1.1.1.1.1.1.1.0 ≡ dx → a.1.1.1.1.1.1.1.1.1.0 ≡ dy
+      a.0 ≡ h.kind → a.1.0.now ≡ h.name → a.1.1.0 ≡ h.scale → Lent count t a.1.1.1.0 a.1.1.1.1.0.now a.1.1.1.1.1.0.now a.1.1.1.1.1.1.0.now a.1.1.1.1.1.1.1.0.now → a.1.1.1.1.1.1.1.1.0 ≡ dx → a.1.1.1.1.1.1.1.1.1.0 ≡ dy
       → cxf-move-reads.Learnt κs a r e → (r ≡ x.0) × (cxf_move_left ≡ x.1)
 
   -- letters and island counts are those of the sheet

@@ -19,6 +19,14 @@ pub record Tabled {X : Type 0} (count : ℕ) (t : Tables) (a : ℕ × (Bor (List
   pub islands-are : a.1.1.1.0.now ≡ t.islands
   pub points-are : a.1.1.1.1.0.now ≡ t.points
 
+-- the same of a count and the contents of four tables, some of which are lent to be altered
+pub record Lent (count : ℕ) (t : Tables) (n : ℕ) (rows : List ℤ) (letters islands : List ℕ) (points : List ℤ) : Type 0 where
+  pub count-is : n ≡ count
+  pub rows_are : rows ≡ t.rows
+  pub letters-are : letters ≡ t.letters
+  pub islands-are : islands ≡ t.islands
+  pub points-are : points ≡ t.points
+
 -- ---- headers
 
 abbrev pub header : Header

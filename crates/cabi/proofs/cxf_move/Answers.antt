@@ -23,12 +23,13 @@ returns c =
     let f : Header → Edited = λ h. move_of h c.args.count t (bits c.args.dx) (bits c.args.dy) in
     let u = moved_tables (bits c.args.dx) (bits c.args.dy) c.args.count t in
     let e = header-asked c.args.kind c.args.name.now c.ranges.scale c.header_of-header.ensures in
-    let q = w.ensures.0 in
+    let q = w.ensures.value in
     let x = to_z-of_z c.ranges.dx in
-    let y = to_z-of_z c.ranges.dy in (
-      rw (x, y) at (c.edit_told.ensures ∙ ap edit_told (asked f q e)),
-      (
-        rw (x, y) at (edited (λ (z : Tables). z.rows) f u t e q w.ensures.1.0),
-        (refl, (refl, rw (x, y) at (edited (λ (z : Tables). z.points) f u t e q w.ensures.1.1))),
-      ),
-    )
+    let y = to_z-of_z c.ranges.dy in
+    record {
+      value = rw (x, y) at (c.edit_told.ensures ∙ ap edit_told (asked f q e));
+      rows_after = rw (x, y) at (edited (λ (z : Tables). z.rows) f u t e q w.ensures.rows_after);
+      letters_unchanged = refl;
+      islands_unchanged = refl;
+      points_after = rw (x, y) at (edited (λ (z : Tables). z.points) f u t e q w.ensures.points_after);
+    }

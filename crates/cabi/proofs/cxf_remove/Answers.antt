@@ -16,13 +16,11 @@ returns c =
     let f : Header → Edited = λ h. remove_of h c.args.count t c.args.row in
     let u = removed_tables c.args.count c.args.row t in
     let e = header-asked c.args.kind c.args.name.now c.ranges.scale c.header_of-header.ensures in
-    let q = w.ensures.0 in (
-      c.edit_told.ensures ∙ ap edit_told (asked f q e),
-      (
-        edited (λ (x : Tables). x.rows) f u t e q w.ensures.1.0,
-        (
-          edited (λ (x : Tables). x.letters) f u t e q w.ensures.1.1.0,
-          (edited (λ (x : Tables). x.islands) f u t e q w.ensures.1.1.1.0, edited (λ (x : Tables). x.points) f u t e q w.ensures.1.1.1.1),
-        ),
-      ),
-    )
+    let q = w.ensures.value in
+    record {
+      value = c.edit_told.ensures ∙ ap edit_told (asked f q e);
+      rows_after = edited (λ (x : Tables). x.rows) f u t e q w.ensures.rows_after;
+      letters_after = edited (λ (x : Tables). x.letters) f u t e q w.ensures.letters_after;
+      islands_after = edited (λ (x : Tables). x.islands) f u t e q w.ensures.islands_after;
+      points_after = edited (λ (x : Tables). x.points) f u t e q w.ensures.points_after;
+    }

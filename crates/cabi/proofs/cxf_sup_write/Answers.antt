@@ -15,4 +15,4 @@ returns c =
     let t = tables_of c.args.rows.now c.args.letters.now c.args.islands.now c.args.points.now in
     let f : Header → SupAnswer = λ h. sup_of h c.args.count t c.args.date.now (length c.args.out.now) in
     let e = header-asked c.args.kind c.args.name.now c.ranges.scale c.header_of-header.ensures in
-    record { value = c.sup_told.ensures ∙ ap sup_told (asked f w.ensures.0 e); out_after = put-out sup_output f (λ (h : Header). sheet_sup h c.args.count t c.args.date.now) c.args.out.now e w.ensures.0 w.ensures.1 }
+    record { value = c.sup_told.ensures ∙ ap sup_told (asked f w.ensures.value e); out_after = put-out sup_output f (λ (h : Header). sheet_sup h c.args.count t c.args.date.now) c.args.out.now e w.ensures.value w.ensures.out_after }

@@ -16,4 +16,4 @@ returns c =
     let t = tables_of c.args.rows.now c.args.letters.now c.args.islands.now c.args.points.now in
     let f : Header → Written = λ h. write_of h c.args.count t (length c.args.out.now) in
     let e = header-asked c.args.kind c.args.name.now c.ranges.scale c.header_of-header.ensures in
-    record { value = c.written_of.ensures ∙ ap write_told (asked f w.ensures.0 e); out_after = put-out output_of f (λ (h : Header). sheet_text h c.args.count t) c.args.out.now e w.ensures.0 w.ensures.1 }
+    record { value = c.written_of.ensures ∙ ap write_told (asked f w.ensures.value e); out_after = put-out output_of f (λ (h : Header). sheet_text h c.args.count t) c.args.out.now e w.ensures.value w.ensures.out_after }

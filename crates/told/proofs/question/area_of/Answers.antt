@@ -4,10 +4,11 @@ use lib.IntN.{ℤ, pos}
 use Rattle.laws.proofs.Bits.{back}
 use Rattle.made.specs.declared.Fault.{Fault}
 use Rattle.told.specs.Answers.{area_told}
+use borrow.Author.Rules.{rules}
 use Rattle.told.proofs.question.area_of.Goals as goal
 
 pub returns-in-Doubled : goal.returns-in-Doubled
-returns-in-Doubled c = ap (λ (z : ℤ). record { number = 0; row = 0; doubled = z }) (back c.in-Doubled.d c.known_told-1.given.0.1) ∙ ap area_told (sym c.in-Doubled.is)
+returns-in-Doubled c = ap (λ (z : ℤ). record { number = 0; row = 0; doubled = z }) (back c.in-Doubled.d (search rules)) ∙ ap area_told (sym c.in-Doubled.is)
 
 pub returns-in-Wide : goal.returns-in-Wide
 returns-in-Wide c = ap area_told (sym c.in-Wide.is)

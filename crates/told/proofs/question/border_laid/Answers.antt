@@ -9,4 +9,4 @@ overflow_add-place c = let h = class-most c.args.b.class c.index_of-place.ensure
 
 pub returns : goal.returns
 returns c =
-    cc (back c.args.b.size c.well-formed.0.1.1.1.0.1, back c.args.b.angle c.well-formed.0.1.1.1.1.0.1, back c.args.b.x c.well-formed.0.1.1.1.1.1.0.1, back c.args.b.y c.well-formed.0.1.1.1.1.1.1.0.1, back c.args.b.x2 c.well-formed.0.1.1.1.1.1.1.1.0.1, back c.args.b.y2 c.well-formed.0.1.1.1.1.1.1.1.1.0.1)
+    cc (back c.args.b.size (search rules), back c.args.b.angle (search rules), back c.args.b.x (search rules), back c.args.b.y (search rules), back c.args.b.x2 (search rules), back c.args.b.y2 (search rules))
