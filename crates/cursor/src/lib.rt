@@ -1,6 +1,6 @@
 // A reader that keeps the file and its place, and hands out records one by one (document 01, "Records").
 // All of it is proved, and no function has a `requires`. `new`, `next` and `next_at` have a struct that holds the caller's
-// slice, so they are thin and proved by hand; the work is `record::record_at`.
+// slice, and are thin; the work is `record::record_at`.
 #![tactic(auto)]
 
 ghost use Rattle.std.specs.Prelude.{◌≡◌};
