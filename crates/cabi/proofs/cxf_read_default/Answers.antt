@@ -14,16 +14,11 @@ pub returns : goal.returns
 returns c =
     let r = c.read in
     let f : Mode → Outcome = λ m. read_of m c.args.src.now (rooms_of (length c.args.rows.now) (length c.args.letters.now) (length c.args.islands.now) (length c.args.points.now)) in
-    let q = r.ensures.0 in (
-      c.reading_of.ensures ∙ ap read_told q,
-      (
-        stored f (λ (m : Mode). (tables_in (reading m c.args.src.now)).rows) c.args.rows.now {m = Exact} refl q r.ensures.1.0,
-        (
-          stored f (λ (m : Mode). (tables_in (reading m c.args.src.now)).letters) c.args.letters.now {m = Exact} refl q r.ensures.1.1.0,
-          (
-            stored f (λ (m : Mode). (tables_in (reading m c.args.src.now)).islands) c.args.islands.now {m = Exact} refl q r.ensures.1.1.1.0,
-            stored f (λ (m : Mode). (tables_in (reading m c.args.src.now)).points) c.args.points.now {m = Exact} refl q r.ensures.1.1.1.1,
-          ),
-        ),
-      ),
-    )
+    let q = r.ensures.value in
+    record {
+      value = c.reading_of.ensures ∙ ap read_told q;
+      rows_after = stored f (λ (m : Mode). (tables_in (reading m c.args.src.now)).rows) c.args.rows.now {m = Exact} refl q r.ensures.rows_after;
+      letters_after = stored f (λ (m : Mode). (tables_in (reading m c.args.src.now)).letters) c.args.letters.now {m = Exact} refl q r.ensures.letters_after;
+      islands_after = stored f (λ (m : Mode). (tables_in (reading m c.args.src.now)).islands) c.args.islands.now {m = Exact} refl q r.ensures.islands_after;
+      points_after = stored f (λ (m : Mode). (tables_in (reading m c.args.src.now)).points) c.args.points.now {m = Exact} refl q r.ensures.points_after;
+    }
