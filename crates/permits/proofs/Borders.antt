@@ -1,4 +1,4 @@
--- What the contracts of `border_at`, `text_contract`, `cxf_border_at` and `cxf_text_at` permit (document 01, "Border classes"; document 02, T-02): on each sheet one answer. Assumes nothing.
+-- What the contracts of `border_at`, `text_at`, `cxf_border_at` and `cxf_text_at` permit (document 01, "Border classes"; document 02, T-02): on each sheet one answer. Assumes nothing.
 use Prim.Native.Nat.{ℕ}
 use mathlib.Core.Path.{◌≡◌, refl, ◌∙◌, ap}
 use mathlib.Core.Bool.{true, false}
@@ -128,7 +128,7 @@ module _ (κs : Lfts 5) (a : ArgsD cxf-border-at.signature κs) (r : ResD cxf-bo
   pub cxf-border-faulty-row : OnlyCxfBorder header 4 faulty 4 (no_border 15 3)
   cxf-border-faulty-row = only-cxf-border in-C border-made
 
--- ---- text_contract
+-- ---- text_at
 
 -- row 0 has size 0, row 2 brackets and the angle 0, each with its own letters; a border of size 0 is neither
 centroid-is : text_at header 4 small 0 ≡ Said.Is (record { surface = false; centroid = true })
