@@ -11,14 +11,15 @@ use lib.ListN.{length}
 use lib.IntN.{ℤ, pos, ◌+ℤ◌}
 use lib.Signed.{le_z}
 use borrow.Author.Tests.{leb-true, leb-false, le-leb}
+use Rattle.std.proofs.Common.{Result, Ok, Err}
 use Rattle.laws.specs.Lists.{all}
 use Rattle.laws.specs.Whole.{Within}
 use Rattle.laws.proofs.Choice.{and_left, and_right, cond-elim}
 use Rattle.laws.proofs.Parts.{num, ints, le-true}
 use Rattle.laws.proofs.Parts as Parts
 use Rattle.laws.proofs.Bounds.{within-le, within-add, within-lit}
-use Rattle.plane.specs.declared.Area.{Area}
-use Rattle.plane.specs.declared.Area.TheVariants.{Doubled, Wide, Missing}
+use Rattle.plane.specs.declared.NoArea.{NoArea}
+use Rattle.plane.specs.declared.NoArea.TheVariants.{Wide, Missing}
 use Rattle.plane.specs.Rings.{most, held, narrow}
 use Rattle.plane.specs.Areas.{edge-limit, area_of}
 use Rattle.plane.specs.Moved.{moved}
@@ -31,33 +32,28 @@ use Rattle.sheet.specs.Tables.{Tables}
 use Rattle.made.specs.Made.{count_at, kind_of, islands_of, sum, four_at_least, is_made}
 use Rattle.made.proofs.RowWays.{made_held, made_counted}
 use Rattle.area.specs.declared.Areas.{Areas}
-use Rattle.area.specs.declared.Areas.TheVariants.{Of, Wide as AnyWide, Missing as AnyMissing}
-use Rattle.area.specs.BorderRings.{areas_together, total_from, of_rings, areas_of}
+use Rattle.area.specs.BorderRings.{both_areas, areas_together, total_from, of_rings, areas_of}
 
 -- ---- how large
 
 -- an area of n vertices
-abbrev pub Sized : ℕ → Area → Type 0
-Sized n (Doubled d) = Within (n * edge-limit) d × (le_z (pos 0) d ≡ true)
-Sized n Wide = Unit {0}
-Sized n Missing = Unit {0}
+abbrev pub Sized : ℕ → Result ℤ NoArea → Type 0
+Sized n (Ok d) = Within (n * edge-limit) d × (le_z (pos 0) d ≡ true)
+Sized n (Err x) = Unit {0}
 
 area-sized : (ps : List ℤ) (from n : ℕ) → Sized n (area_of ps from n)
 area-sized ps from n = go (area_of ps from n) refl
   where
-    go : (x : Area) → area_of ps from n ≡ x → Sized n x
-    go (Doubled d) e = let r = area-size ps from n d e in (within-le (omega arith) r.1, r.2)
-    go Wide e = tt
-    go Missing e = tt
+    go : (x : Result ℤ NoArea) → area_of ps from n ≡ x → Sized n x
+    go (Ok d) e = let r = area-size ps from n d e in (within-le (omega arith) r.1, r.2)
+    go (Err x) e = tt
 
-plus-sized : (m n : ℕ) (x y : Area) → Sized m x → Sized n y → Sized (m + n) (areas_together x y)
-plus-sized m n (Doubled a) (Doubled b) p q =
+plus-sized : (m n : ℕ) (x y : Result ℤ NoArea) → Sized m x → Sized n y → Sized (m + n) (areas_together x y)
+plus-sized m n (Ok a) (Ok b) p q =
     let e = p.1 in let f = q.1 in
     (within-le (omega arith) (within-add p.0 q.0), le-true (pos 0) (a +ℤ b) (omega (arith, ints, num a, num b, Parts.sum a b)))
-plus-sized m n (Doubled a) Wide p q = tt
-plus-sized m n (Doubled a) Missing p q = tt
-plus-sized m n Wide y p q = tt
-plus-sized m n Missing y p q = tt
+plus-sized m n (Ok a) (Err w) p q = tt
+plus-sized m n (Err w) y p q = tt
 
 pub total-sized : (ps : List ℤ) (from : ℕ) (ns : List ℕ) → Sized (sum ns) (total_from ps from ns)
 unfolding total_from sum
@@ -65,23 +61,20 @@ total-sized ps from [] = (within-lit tt, refl)
 total-sized ps from (n ∷ ns) = plus-sized n (sum ns) (area_of ps from n) (total_from ps (from + n) ns) (area-sized ps from n) (total-sized ps (from + n) ns)
 
 -- a border's areas are not below 0, and each is at most 9,999 times 800,000,000,000,000
-abbrev pub Fair : Areas → Type 0
-Fair (Of outer inner) = Within (most * edge-limit) outer × (le_z (pos 0) outer ≡ true) × Within (most * edge-limit) inner × (le_z (pos 0) inner ≡ true)
-Fair AnyWide = Unit {0}
-Fair AnyMissing = Unit {0}
+abbrev pub Fair : Result Areas NoArea → Type 0
+Fair (Ok r) = Within (most * edge-limit) r.outer × (le_z (pos 0) r.outer ≡ true) × Within (most * edge-limit) r.inner × (le_z (pos 0) r.inner ≡ true)
+Fair (Err x) = Unit {0}
 
-both-fair : (m n : ℕ) (x y : Area) → Sized m x → Sized n y → ((d : ℤ) → x ≡ Doubled d → m + n ≤ most) → Fair (of_rings x y)
-both-fair m n (Doubled a) (Doubled b) p q h =
+both-fair : (m n : ℕ) (x y : Result ℤ NoArea) → Sized m x → Sized n y → ((d : ℤ) → x ≡ Ok d → m + n ≤ most) → Fair (of_rings x y)
+both-fair m n (Ok a) (Ok b) p q h =
     let k = h a refl in
     (within-le (omega arith) p.0, p.1, within-le (omega arith) q.0, q.1)
-both-fair m n (Doubled a) Wide p q h = tt
-both-fair m n (Doubled a) Missing p q h = tt
-both-fair m n Wide y p q h = tt
-both-fair m n Missing y p q h = tt
+both-fair m n (Ok a) (Err w) p q h = tt
+both-fair m n (Err w) y p q h = tt
 
 module _ (v : ℕ) (islands : List ℕ) (ps : List ℤ) where
   -- an outer ring leaves the islands what they have
-  pub areas-room : v ≤ most → (d : ℤ) → area_of ps 0 (v - sum islands) ≡ Doubled d → v - sum islands + sum islands ≤ most
+  pub areas-room : v ≤ most → (d : ℤ) → area_of ps 0 (v - sum islands) ≡ Ok d → v - sum islands + sum islands ≤ most
   areas-room h d e = let r = area-size ps 0 (v - sum islands) d e in omega (arith, r.0)
 
   pub areas-fair : Fair (areas_of v islands ps)
@@ -93,24 +86,22 @@ module _ (v : ℕ) (islands : List ℕ) (ps : List ℤ) where
 
 -- ---- a well made border has them
 
-abbrev pub There : Area → Type 0
-There (Doubled d) = Unit {0}
-There Wide = Unit {0}
-There Missing = ⊥
+abbrev pub There : Result ℤ NoArea → Type 0
+There (Ok d) = Unit {0}
+There (Err Wide) = Unit {0}
+There (Err Missing) = ⊥
 
-plus-there : (x y : Area) → There x → There y → There (areas_together x y)
-plus-there (Doubled a) (Doubled b) p q = tt
-plus-there (Doubled a) Wide p q = tt
-plus-there (Doubled a) Missing p q = q
-plus-there Wide y p q = tt
-plus-there Missing y p q = p
+plus-there : (x y : Result ℤ NoArea) → There x → There y → There (areas_together x y)
+plus-there (Ok a) (Ok b) p q = tt
+plus-there (Ok a) (Err w) p q = q
+plus-there (Err w) y p q = p
 
-both-there : (x y : Area) → There x → There y → of_rings x y ≡ AnyMissing → ⊥
-both-there (Doubled a) (Doubled b) p q e = let z : ◌≡◌ {A = ℕ} 0 1 = cc in omega arith
-both-there (Doubled a) Wide p q e = let z : ◌≡◌ {A = ℕ} 0 1 = cc in omega arith
-both-there (Doubled a) Missing p q e = q
-both-there Wide y p q e = let z : ◌≡◌ {A = ℕ} 0 1 = cc in omega arith
-both-there Missing y p q e = p
+both-there : (x y : Result ℤ NoArea) → There x → There y → of_rings x y ≡ Err Missing → ⊥
+both-there (Ok a) (Ok b) p q e = let z : ◌≡◌ {A = ℕ} 0 1 = cc in omega arith
+both-there (Ok a) (Err Wide) p q e = let z : ◌≡◌ {A = ℕ} 0 1 = cc in omega arith
+both-there (Ok a) (Err Missing) p q e = q
+both-there (Err Wide) y p q e = let z : ◌≡◌ {A = ℕ} 0 1 = cc in omega arith
+both-there (Err Missing) y p q e = p
 
 pub area-there : (ps : List ℤ) (from n : ℕ) → 1 ≤ n → n ≤ most → 2 * (from + n) ≤ length ps → There (area_of ps from n)
 unfolding area_of
@@ -124,7 +115,7 @@ total-there ps from (n ∷ ns) e h k =
     plus-there (area_of ps from n) (total_from ps (from + n) ns) (area-there ps from n (omega arith) (omega arith) (omega arith))
     (total-there ps (from + n) ns (and_right (leb 4 n) (all four_at_least ns) e) (omega arith) (omega arith))
 
-pub areas-there : (t : Tables) → is_made t ≡ true → kind_of t ≡ 1 → areas_of (count_at t vertices_place) (islands_of t) t.points ≡ AnyMissing → ⊥
+pub areas-there : (t : Tables) → is_made t ≡ true → kind_of t ≡ 1 → areas_of (count_at t vertices_place) (islands_of t) t.points ≡ Err Missing → ⊥
 unfolding areas_of
 areas-there t e k q =
     let c = made_counted t e k in
@@ -143,17 +134,14 @@ abbrev pub AllHeld : List ℤ → ℕ → List ℕ → Type 0
 AllHeld ps from [] = Unit {0}
 AllHeld ps from (n ∷ ns) = (held (length ps) from n ≡ true) × AllHeld ps (from + n) ns
 
-abbrev HeldWhere : Type 0 → Area → Type 0
-HeldWhere q (Doubled d) = q
-HeldWhere q Wide = Unit {0}
-HeldWhere q Missing = Unit {0}
+abbrev HeldWhere : Type 0 → Result ℤ NoArea → Type 0
+HeldWhere q (Ok d) = q
+HeldWhere q (Err x) = Unit {0}
 
-plus-held : (p q : Type 0) (x y : Area) → HeldWhere p x → HeldWhere q y → HeldWhere (p × q) (areas_together x y)
-plus-held p q (Doubled a) (Doubled b) h k = (h, k)
-plus-held p q (Doubled a) Wide h k = tt
-plus-held p q (Doubled a) Missing h k = tt
-plus-held p q Wide y h k = tt
-plus-held p q Missing y h k = tt
+plus-held : (p q : Type 0) (x y : Result ℤ NoArea) → HeldWhere p x → HeldWhere q y → HeldWhere (p × q) (areas_together x y)
+plus-held p q (Ok a) (Ok b) h k = (h, k)
+plus-held p q (Ok a) (Err w) h k = tt
+plus-held p q (Err w) y h k = tt
 
 area-held : (ps : List ℤ) (from n : ℕ) → HeldWhere (held (length ps) from n ≡ true) (area_of ps from n)
 unfolding area_of
@@ -167,19 +155,16 @@ total-held ps from [] = tt
 total-held ps from (n ∷ ns) =
     plus-held (held (length ps) from n ≡ true) (AllHeld ps (from + n) ns) (area_of ps from n) (total_from ps (from + n) ns) (area-held ps from n) (total-held ps (from + n) ns)
 
-abbrev AnyHeld : Type 0 → Areas → Type 0
-AnyHeld q (Of outer inner) = q
-AnyHeld q AnyWide = Unit {0}
-AnyHeld q AnyMissing = Unit {0}
+abbrev AnyHeld : Type 0 → Result Areas NoArea → Type 0
+AnyHeld q (Ok r) = q
+AnyHeld q (Err x) = Unit {0}
 
-both-held : (p q : Type 0) (x y : Area) → HeldWhere p x → HeldWhere q y → AnyHeld (p × q) (of_rings x y)
-both-held p q (Doubled a) (Doubled b) h k = (h, k)
-both-held p q (Doubled a) Wide h k = tt
-both-held p q (Doubled a) Missing h k = tt
-both-held p q Wide y h k = tt
-both-held p q Missing y h k = tt
+both-held : (p q : Type 0) (x y : Result ℤ NoArea) → HeldWhere p x → HeldWhere q y → AnyHeld (p × q) (of_rings x y)
+both-held p q (Ok a) (Ok b) h k = (h, k)
+both-held p q (Ok a) (Err w) h k = tt
+both-held p q (Err w) y h k = tt
 
-pub areas-held : (v : ℕ) (islands : List ℕ) (ps : List ℤ) (outer inner : ℤ) → areas_of v islands ps ≡ Of outer inner → AllHeld ps 0 ((v - sum islands) ∷ islands)
+pub areas-held : (v : ℕ) (islands : List ℕ) (ps : List ℤ) (outer inner : ℤ) → areas_of v islands ps ≡ Ok (both_areas outer inner) → AllHeld ps 0 ((v - sum islands) ∷ islands)
 unfolding areas_of
 areas-held v islands ps outer inner e =
     subst (AnyHeld (AllHeld ps 0 ((v - sum islands) ∷ islands))) e
@@ -196,7 +181,7 @@ unfolding total_from sum
 total-own ps qs from [] h = refl
 total-own ps qs from (n ∷ ns) h = rw (area-own ps qs from n (omega arith), total-own ps qs (from + n) ns (omega arith))
 
-no-area : (ps : List ℤ) (n : ℕ) → n ≡ 0 → area_of ps 0 n ≡ Missing
+no-area : (ps : List ℤ) (n : ℕ) → n ≡ 0 → area_of ps 0 n ≡ Err Missing
 unfolding area_of held
 no-area ps n e = rw e
 

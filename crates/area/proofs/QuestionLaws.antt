@@ -12,18 +12,17 @@ use Rattle.laws.specs.Lists.{all}
 use Rattle.laws.proofs.ListLaws.{all-each}
 use Rattle.kinds.specs.Kinds.{islands_place, vertices_place}
 use Rattle.sheet.specs.Tables.{Tables}
-use Rattle.plane.specs.declared.Area.{Area}
-use Rattle.plane.specs.declared.Area.TheVariants.{Doubled, Wide, Missing}
+use Rattle.std.proofs.Common.{Option, Some, None, Result, Ok, Err}
+use Rattle.plane.specs.declared.NoArea.{NoArea}
+use Rattle.plane.specs.declared.NoArea.TheVariants.{Wide, Missing}
 use Rattle.plane.specs.Rings.{most}
 use Rattle.plane.specs.Areas.{area_of}
 use Rattle.made.specs.Made.{count_at, kind_of, islands_of, sum, four_at_least, ring_sizes, is_made}
 use Rattle.made.proofs.RowWays.{made_held, made_counted}
 use Rattle.area.specs.declared.Areas.{Areas}
-use Rattle.area.specs.declared.Areas.TheVariants.{Of, Wide as AnyWide, Missing as AnyMissing}
-use Rattle.area.specs.declared.RingAnswer.TheVariants.{Missing as NoSuchRing}
-use Rattle.area.specs.declared.AreaAnswer.TheVariants.{Missing as IsMissing}
+use Rattle.area.specs.declared.AreaRefusal.TheVariants as AreaRefusal
 use Rattle.area.specs.BorderRings.{areas_of, net_of, ring_of}
-use Rattle.area.specs.Questions.{ring_of_row, answer_of, area_found, net_area_of}
+use Rattle.area.specs.Questions.{ring_of_row, answer_of, ring_or_missing, area_found, net_area_of}
 use Rattle.area.proofs.AreaLaws.{There, area-there, areas-there}
 
 -- a ring ends within the rings
@@ -56,18 +55,18 @@ module _ (v : ℕ) (islands : List ℕ) (f : all four_at_least islands ≡ true)
   ring-there : (ps : List ℤ) (first : ℕ) → v ≤ most → 2 * (first + v) ≤ length ps → There (area_of ps (first + from) vertices)
   ring-there ps first m p = area-there ps (first + from) vertices (omega (arith, four)) (omega (arith, within)) (omega (arith, within))
 
-there-not : (x : Area) → There x → answer_of x ≡ IsMissing → ⊥
-there-not (Doubled d) p e = let z : ◌≡◌ {A = ℕ} 0 1 = cc in omega arith
-there-not Wide p e = let z : ◌≡◌ {A = ℕ} 0 1 = cc in omega arith
-there-not Missing p e = p
+there-not : (x : Result ℤ NoArea) → There x → answer_of x ≡ Err AreaRefusal.Missing → ⊥
+there-not (Ok d) p e = let z : ◌≡◌ {A = ℕ} 0 1 = cc in omega arith
+there-not (Err Wide) p e = let z : ◌≡◌ {A = ℕ} 0 1 = cc in omega arith
+there-not (Err Missing) p e = p
 
-net-there : (x : Areas) → (x ≡ AnyMissing → ⊥) → net_of x ≡ Missing → ⊥
-net-there (Of a b) f e = let z : ◌≡◌ {A = ℕ} 0 1 = cc in omega arith
-net-there AnyWide f e = let z : ◌≡◌ {A = ℕ} 0 1 = cc in omega arith
-net-there AnyMissing f e = f refl
+net-there : (x : Result Areas NoArea) → (x ≡ Err Missing → ⊥) → net_of x ≡ Err Missing → ⊥
+net-there (Ok r) f e = let z : ◌≡◌ {A = ℕ} 0 1 = cc in omega arith
+net-there (Err Wide) f e = let z : ◌≡◌ {A = ℕ} 0 1 = cc in omega arith
+net-there (Err Missing) f e = f refl
 
 module _ (t : Tables) (e : is_made t ≡ true) (k : kind_of t ≡ 1) where
-  pub net-answered : net_area_of t ≡ Missing → ⊥
+  pub net-answered : net_area_of t ≡ Err Missing → ⊥
   unfolding net_area_of
   net-answered q = net-there (areas_of (count_at t vertices_place) (islands_of t) t.points) (areas-there t e k) (rw (eq-eqb (kind_of t) 1 k) at q)
 
@@ -85,7 +84,7 @@ module _ (t : Tables) (e : is_made t ≡ true) (k : kind_of t ≡ 1) where
     outer-left = let o = (made_counted t e k).outer in omega arith
 
     -- of a table of points that holds the row's vertices from `first` on
-    pub ring-answered : ring ≤ count_at t islands_place → (ps : List ℤ) (first : ℕ) → 2 * (first + v) ≤ length ps → area_found ps (ring_of_row t first ring) ≡ IsMissing → ⊥
+    pub ring-answered : ring ≤ count_at t islands_place → (ps : List ℤ) (first : ℕ) → 2 * (first + v) ≤ length ps → area_found ps (ring_or_missing (ring_of_row t first ring)) ≡ Err AreaRefusal.Missing → ⊥
     unfolding ring_of_row ring_of
     ring-answered l ps first p q =
         let h : ring ≤ length i = omega (arith, islands-held) in
@@ -94,7 +93,7 @@ module _ (t : Tables) (e : is_made t ≡ true) (k : kind_of t ≡ 1) where
         (ring-there v i c.islands c.outer ring h ps first c.vertices p)
         (rw (eq-eqb (kind_of t) 1 k, lt-ltb (sum i) v outer-left, le-leb ring (length i) h) at q)
 
-    pub ring-past : count_at t islands_place < ring → (first : ℕ) → ring_of_row t first ring ≡ NoSuchRing
+    pub ring-past : count_at t islands_place < ring → (first : ℕ) → ring_of_row t first ring ≡ None
     unfolding ring_of_row ring_of
     ring-past l first =
         let h : length i < ring = omega (arith, islands-held) in
@@ -102,10 +101,10 @@ module _ (t : Tables) (e : is_made t ≡ true) (k : kind_of t ≡ 1) where
 
 -- a row that is no border has no areas
 module _ (t : Tables) (k : kind_of t ≡ 1 → ⊥) where
-  pub net-none : net_area_of t ≡ Missing
+  pub net-none : net_area_of t ≡ Err Missing
   unfolding net_area_of
   net-none = rw (ne_eqb (kind_of t) 1 k)
 
-  pub ring-none : (first ring : ℕ) → ring_of_row t first ring ≡ NoSuchRing
+  pub ring-none : (first ring : ℕ) → ring_of_row t first ring ≡ None
   unfolding ring_of_row
   ring-none first ring = rw (ne_eqb (kind_of t) 1 k)

@@ -10,6 +10,7 @@ use lib.ListN.{length, get_or, take, drop, length-drop, take-append-drop}
 use lib.Seq.{length-take-le, get_or-take, get_or-drop}
 use lib.IntN.{ℤ, pos}
 use borrow.Author.Tests.{le-leb, ltb-true}
+use Rattle.std.proofs.Common.{Option, Some, None, Result, Ok, Err}
 use Rattle.laws.proofs.Choice.{and_left, cond-elim}
 use Rattle.record.specs.declared.Mode.TheVariants.{Loose}
 use Rattle.kinds.specs.Kinds.{vertices_place}
@@ -18,21 +19,19 @@ use Rattle.sheet.specs.Tables.{Tables}
 use Rattle.plane.specs.Rings.{x-at, y-at, held}
 use Rattle.plane.specs.Areas.{area_of}
 use Rattle.plane.proofs.AlikeLaws.{area-alike, same_alike}
-use Rattle.made.specs.declared.Verdict.{Verdict}
-use Rattle.made.specs.declared.Verdict.TheVariants.{Fine}
+use Rattle.made.specs.declared.Flaw.{Flaw}
 use Rattle.made.specs.Made.{count_at, kind_of, islands_of, points_of, own_of, sum, ring_sizes, is_made, judge_of, used_of}
 use Rattle.made.proofs.RowWays.{made_held}
 use Rattle.made.proofs.OwnLaws.{cell-own, islands-own}
-use Rattle.row.specs.declared.Sought.{Sought}
+use Rattle.row.specs.declared.Stand.{Stand}
+use Rattle.row.specs.declared.Unfound.{Unfound}
+use Rattle.row.specs.declared.Unfound.TheVariants as Unfound
 use Rattle.row.specs.Walk.{next_stand, stand_of, left_at}
 use Rattle.row.specs.Alone.{row_alone}
 use Rattle.row.proofs.UsedLaws.{Question, asked-used, asked-alone}
 use Rattle.area.specs.declared.RingPlace.{RingPlace}
-use Rattle.area.specs.declared.RingPlace.TheVariants.{At, Missing as NoRing}
-use Rattle.area.specs.declared.RingAnswer.{RingAnswer}
-use Rattle.area.specs.declared.RingAnswer.TheVariants.{At as IsAt, Missing as NoSuchRing, Refused as RingRefused}
-use Rattle.area.specs.BorderRings.{areas_of, ring_of}
-use Rattle.area.specs.Questions.{answer_of, ring_from, ring_of_row, net_area_of, ring_found, ring_at, area_found, ring_area_at, net_found, net_area_at}
+use Rattle.area.specs.BorderRings.{areas_of, ring_place, ring_of}
+use Rattle.area.specs.Questions.{answer_of, ring_from, ring_or_missing, ring_of_row, net_area_of, ring_found, ring_at, area_found, ring_area_at, net_found, net_area_at}
 use Rattle.area.proofs.AreaLaws.{areas-own}
 use Rattle.area.proofs.QuestionLaws.{sum-part}
 
@@ -85,9 +84,9 @@ module _ (ps : List ℤ) (start first v from n : ℕ) (e : start ≡ 2 * first) 
 -- ---- questions on a ring of a row
 
 -- it lies among the row's vertices
-abbrev RingIn : ℕ → RingPlace → Type 0
-RingIn v (At from n) = (from + n ≤ v) × (0 < v)
-RingIn v NoRing = Unit {0}
+abbrev RingIn : ℕ → Option RingPlace → Type 0
+RingIn v (Some p) = (p.from + p.count ≤ v) × (0 < v)
+RingIn v None = Unit {0}
 
 ring_in : (v : ℕ) (islands : List ℕ) (ring : ℕ) → RingIn v (ring_of v islands ring)
 unfolding ring_of ring_sizes sum
@@ -104,8 +103,8 @@ unfolding stand_of next_stand
 points-even zero rows = refl
 points-even (suc k) rows = omega (arith, points-even k rows)
 
-module _ {A : Type 0} (g : List ℤ → RingAnswer → A) (same : (ps qs : List ℤ) (p q n : ℕ) → SameRing ps qs p q n → g ps (IsAt p n) ≡ g qs (IsAt q n))
-    (missing : (ps qs : List ℤ) → g ps NoSuchRing ≡ g qs NoSuchRing) (refused : (ps qs : List ℤ) (v : Verdict) → g ps (RingRefused v) ≡ g qs (RingRefused v)) (ring : ℕ) where
+module _ {A : Type 0} (g : List ℤ → Result RingPlace Unfound → A) (same : (ps qs : List ℤ) (p q n : ℕ) → SameRing ps qs p q n → g ps (Ok (ring_place p n)) ≡ g qs (Ok (ring_place q n)))
+    (missing : (ps qs : List ℤ) → g ps (Err Unfound.Missing) ≡ g qs (Err Unfound.Missing)) (refused : (ps qs : List ℤ) (v : Flaw) → g ps (Err (Unfound.Refused v)) ≡ g qs (Err (Unfound.Refused v))) (ring : ℕ) where
   module _ (t : Tables) (k : ℕ) (m : is_made (left_at t (stand_of k t.rows)) ≡ true) where
     abbrev x : Tables
     x = left_at t (stand_of k t.rows)
@@ -119,27 +118,27 @@ module _ {A : Type 0} (g : List ℤ → RingAnswer → A) (same : (ps qs : List 
     abbrev qs : List ℤ
     qs = (own_of x).points
 
-    here : (r : RingPlace) → RingIn v r → g t.points (ring_from first r) ≡ g qs (ring_from 0 r)
-    here (At from n) i =
+    here : (r : Option RingPlace) → RingIn v r → g t.points (ring_or_missing (ring_from first r)) ≡ g qs (ring_or_missing (ring_from 0 r))
+    here (Some p) i =
         let e = points-even k t.rows in
-        same t.points qs (first + from) (0 + from) n
-        (slice-same t.points (stand_of k t.rows).points first v from n e i.0 (omega (arith, i.1, (made_held x m).points, length-drop (stand_of k t.rows).points t.points)))
-    here NoRing i = missing t.points qs
+        same t.points qs (first + p.from) (0 + p.from) p.count
+        (slice-same t.points (stand_of k t.rows).points first v p.from p.count e i.0 (omega (arith, i.1, (made_held x m).points, length-drop (stand_of k t.rows).points t.points)))
+    here None i = missing t.points qs
 
-    ring-own : g t.points (ring_of_row x first ring) ≡ g qs (ring_of_row (own_of x) 0 ring)
+    ring-own : g t.points (ring_or_missing (ring_of_row x first ring)) ≡ g qs (ring_or_missing (ring_of_row (own_of x) 0 ring))
     unfolding ring_of_row
-    ring-own = by (eqb (kind_of x) 1) ∙ sym (ap (g qs) (ring-owned x 0 ring))
+    ring-own = by (eqb (kind_of x) 1) ∙ sym (ap (λ (r : Option RingPlace). g qs (ring_or_missing r)) (ring-owned x 0 ring))
       where
-        by : (b : Bool) → g t.points (cond b (ring_from first (ring_of v (islands_of x) ring)) NoSuchRing) ≡ g qs (cond b (ring_from 0 (ring_of v (islands_of x) ring)) NoSuchRing)
+        by : (b : Bool) → g t.points (ring_or_missing (cond b (ring_from first (ring_of v (islands_of x) ring)) None)) ≡ g qs (ring_or_missing (cond b (ring_from 0 (ring_of v (islands_of x) ring)) None))
         by true = here (ring_of v (islands_of x) ring) (ring_in v (islands_of x) ring)
         by false = missing t.points qs
 
-  pub rings : Question (λ (x : Tables) (s : Sought). g x.points (ring_found x ring s))
+  pub rings : Question (λ (x : Tables) (s : Result Stand Unfound). g x.points (ring_found x ring s))
   rings = record { own = ring-own; missing = λ t u. missing t.points u.points; refused = λ t u v. refused t.points u.points v }
 
 -- ---- the questions about areas
 
-areas : (ring : ℕ) → Question (λ (x : Tables) (s : Sought). area_found x.points (ring_found x ring s))
+areas : (ring : ℕ) → Question (λ (x : Tables) (s : Result Stand Unfound). area_found x.points (ring_found x ring s))
 areas ring = rings area_found (λ ps qs p q n s. ap answer_of (area_same ps qs p q n s)) (λ ps qs. refl) (λ ps qs v. refl) ring
 
 nets : Question net_found
@@ -156,7 +155,7 @@ module _ (h : Header) (n : ℕ) (t : Tables) (k : ℕ) where
   net-used = asked-used net_found nets h n t k
 
 -- **asked of the row alone**, a row of a well made sheet
-module _ (h : Header) (n : ℕ) (t : Tables) (k : ℕ) (e : judge_of Loose h n t ≡ Fine) (l : k < n) where
+module _ (h : Header) (n : ℕ) (t : Tables) (k : ℕ) (e : judge_of Loose h n t ≡ Ok tt) (l : k < n) where
   pub area-alone : (ring : ℕ) → ring_area_at h 1 (row_alone k t) 0 ring ≡ ring_area_at h n t k ring
   unfolding ring_area_at ring_at
   area-alone ring = asked-alone h n t k e l (λ x s. area_found x.points (ring_found x ring s)) (areas ring)

@@ -1,13 +1,12 @@
 -- Questions about a sheet of a text and of a border with an island, by computation (document 01, "Areas" and "Refusal numbers"). Assumes nothing.
-use Rattle.std.specs.Prelude.{ℕ, ◌≡◌, refl, List, [], ◌∷◌, ◌++◌, ℤ, pos, negsuc}
+use Rattle.std.specs.Prelude.{ℕ, ◌≡◌, refl, List, [], ◌∷◌, ◌++◌, ℤ, pos, negsuc, Result, Ok, Err}
 use Rattle.laws.specs.Text.{text}
 use Rattle.heading.specs.declared.Header.{Header}
 use Rattle.sheet.specs.Tables.{Tables}
 use Rattle.made.specs.Made.{tables_of, ring_sizes}
 use Rattle.made.specs.Examples.{at_first, placed}
 use Rattle.row.specs.Examples.{computed as computed_sought}
-use Rattle.area.specs.declared.AreaAnswer.{AreaAnswer}
-use Rattle.area.specs.declared.AreaAnswer.TheVariants.{Doubled}
+use Rattle.area.specs.declared.AreaRefusal.{AreaRefusal}
 use Rattle.area.specs.BorderRings.{ring_of}
 use Rattle.area.specs.Examples.{computed as computed_areas}
 use Rattle.area.specs.Questions.{ring_of_row, ring_at, net_area_of, ring_area_at, net_area_at, number_of, row_of}
@@ -30,31 +29,31 @@ abbrev sheet : ℕ → Tables
 sheet side = tables_of (label ++ placed 1 0 0 border) (text "77") (4 ∷ []) (ring 10 ++ ring side)
 
 -- the definitions opened, so that they compute
-unfoldable pub computed : Header → ℕ → Tables → ℕ → ℕ → AreaAnswer × AreaAnswer
+unfoldable pub computed : Header → ℕ → Tables → ℕ → ℕ → Result ℤ AreaRefusal × Result ℤ AreaRefusal
 unfolding ring_area_at ring_at ring_of_row ring_of ring_sizes net_area_at net_area_of computed_areas computed_sought
 computed h count t row k = (ring_area_at h count t row k, net_area_at h count t row)
 
-asked : ℕ → ℕ → ℕ → AreaAnswer
+asked : ℕ → ℕ → ℕ → Result ℤ AreaRefusal
 unfolding computed
 asked side row k = ring_area_at header 2 (sheet side) row k
 
-net : ℕ → ℕ → AreaAnswer
+net : ℕ → ℕ → Result ℤ AreaRefusal
 unfolding computed
 net side row = net_area_at header 2 (sheet side) row
 
-outer-ring : asked 2 1 0 ≡ Doubled (pos 100)
+outer-ring : asked 2 1 0 ≡ Ok (pos 100)
 unfolding asked
 outer-ring = refl
 
-island : asked 2 1 1 ≡ Doubled (pos 4)
+island : asked 2 1 1 ≡ Ok (pos 4)
 unfolding asked
 island = refl
 
-both-rings : net 2 1 ≡ Doubled (pos 96)
+both-rings : net 2 1 ≡ Ok (pos 96)
 unfolding net
 both-rings = refl
 
-net-below : net 20 1 ≡ Doubled (negsuc 299)
+net-below : net 20 1 ≡ Ok (negsuc 299)
 unfolding net
 net-below = refl
 
@@ -72,7 +71,7 @@ unfolding net
 no_row = refl
 
 -- 17 is of the ring that is asked for; of the net it is of any ring, and no row is returned
-wide-apart : asked 20000001 1 0 ≡ Doubled (pos 100)
+wide-apart : asked 20000001 1 0 ≡ Ok (pos 100)
 unfolding asked
 wide-apart = refl
 
@@ -98,7 +97,7 @@ bad-header = refl
 abbrev pair : Tables
 pair = tables_of (border ++ placed 1 1 8 border) (text "77") (4 ∷ 4 ∷ []) (ring 10 ++ ring 2 ++ ring 7 ++ ring 3)
 
-second-row : (ring_area_at header 2 pair 1 0 ≡ Doubled (pos 49)) × (ring_area_at header 2 pair 1 1 ≡ Doubled (pos 9)) × (ring_area_at header 2 pair 0 1 ≡ Doubled (pos 4))
-    × (net_area_at header 2 pair 1 ≡ Doubled (pos 40)) × (net_area_at header 2 pair 0 ≡ Doubled (pos 96))
+second-row : (ring_area_at header 2 pair 1 0 ≡ Ok (pos 49)) × (ring_area_at header 2 pair 1 1 ≡ Ok (pos 9)) × (ring_area_at header 2 pair 0 1 ≡ Ok (pos 4))
+    × (net_area_at header 2 pair 1 ≡ Ok (pos 40)) × (net_area_at header 2 pair 0 ≡ Ok (pos 96))
 unfolding computed
 second-row = (refl, refl, refl, refl, refl)

@@ -11,9 +11,9 @@ use Rattle.made.proofs.OwnLaws.{cell-own, letters-own, own_same, first_then, fir
 use Rattle.border.specs.Borders.{border_of}
 
 -- islands and points play no part
-pub border-lists : (h : Header) (t : Tables) → border_of h (tables_of t.rows t.letters [] []) ≡ border_of h t
+pub border_lists : (h : Header) (t : Tables) → border_of h (tables_of t.rows t.letters [] []) ≡ border_of h t
 unfolding border_of
-border-lists h t = refl
+border_lists h t = refl
 
 -- its own part alone
 pub border-owned : (h : Header) (t : Tables) → border_of h (own_of t) ≡ border_of h t

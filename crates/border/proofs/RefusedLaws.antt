@@ -3,8 +3,10 @@ use Prim.Native.Nat.{ℕ}
 use mathlib.Core.Path.{◌≡◌, refl}
 use Rattle.heading.specs.declared.Header.{Header}
 use Rattle.sheet.specs.Tables.{Tables}
-use Rattle.row.specs.declared.Sought.{Sought}
-use Rattle.row.specs.declared.Sought.TheVariants as Sought
+use Rattle.std.specs.Prelude.{Result, Ok, Err}
+use Rattle.row.specs.declared.Stand.{Stand}
+use Rattle.row.specs.declared.Unfound.{Unfound}
+use Rattle.row.specs.declared.Unfound.TheVariants.{Missing, Refused}
 use Rattle.row.specs.Seek.{sought_of}
 use Rattle.row.specs.Seek as Seek
 use Rattle.border.specs.BorderAt.{border_found, border_at}
@@ -17,16 +19,16 @@ module _ (h : Header) (count : ℕ) (t : Tables) (k : ℕ) (refused : Seek.numbe
   unfolding border_at
   border-refused = by (sought_of h count t k) refused
     where
-      by : (s : Sought) → (Seek.number_of s ≡ 0 → ⊥) → (BorderAt.number_of (border_found h t s) ≡ Seek.number_of s) × (BorderAt.row_of (border_found h t s) ≡ Seek.row_of s)
-      by (Sought.At d) f = absurd (f refl)
-      by Sought.Missing f = (refl, refl)
-      by (Sought.Refused v) f = (refl, refl)
+      by : (s : Result Stand Unfound) → (Seek.number_of s ≡ 0 → ⊥) → (BorderAt.number_of (border_found h t s) ≡ Seek.number_of s) × (BorderAt.row_of (border_found h t s) ≡ Seek.row_of s)
+      by (Ok d) f = absurd (f refl)
+      by (Err Missing) f = (refl, refl)
+      by (Err (Refused v)) f = (refl, refl)
 
   pub text-refused : (TextAt.number_of (text_at h count t k) ≡ Seek.number_of (sought_of h count t k)) × (TextAt.row_of (text_at h count t k) ≡ Seek.row_of (sought_of h count t k))
   unfolding text_at
   text-refused = by (sought_of h count t k) refused
     where
-      by : (s : Sought) → (Seek.number_of s ≡ 0 → ⊥) → (TextAt.number_of (text_found t s) ≡ Seek.number_of s) × (TextAt.row_of (text_found t s) ≡ Seek.row_of s)
-      by (Sought.At d) f = absurd (f refl)
-      by Sought.Missing f = (refl, refl)
-      by (Sought.Refused v) f = (refl, refl)
+      by : (s : Result Stand Unfound) → (Seek.number_of s ≡ 0 → ⊥) → (TextAt.number_of (text_found t s) ≡ Seek.number_of s) × (TextAt.row_of (text_found t s) ≡ Seek.row_of s)
+      by (Ok d) f = absurd (f refl)
+      by (Err Missing) f = (refl, refl)
+      by (Err (Refused v)) f = (refl, refl)

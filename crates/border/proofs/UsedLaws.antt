@@ -8,23 +8,24 @@ use Rattle.record.specs.declared.Mode.TheVariants.{Loose}
 use Rattle.kinds.specs.Kinds.{size_place}
 use Rattle.heading.specs.declared.Header.{Header}
 use Rattle.sheet.specs.Tables.{Tables}
-use Rattle.made.specs.declared.Verdict.TheVariants.{Fine}
+use Rattle.std.specs.Prelude.{Result, Ok, Err}
 use Rattle.made.specs.Made.{own_of, judge_of, used_of}
 use Rattle.made.proofs.OwnLaws.{cell-own, letters-own}
+use Rattle.row.specs.declared.Unfound.{Unfound}
+use Rattle.row.specs.declared.Unfound.TheVariants.{Missing}
 use Rattle.row.specs.Walk.{stand_of, left_at}
 use Rattle.row.specs.Alone.{row_alone}
 use Rattle.row.proofs.UsedLaws.{Question, asked-used, asked-alone}
+use Rattle.border.specs.declared.Border.{Border}
 use Rattle.border.specs.Borders.{is_border, border_of, text_of}
 use Rattle.border.specs.BorderAt.{border_found, border_at}
 use Rattle.border.specs.TextAt.{text_found, text_at}
-use Rattle.border.specs.declared.BorderAnswer.TheVariants as BorderAnswer
-use Rattle.border.specs.declared.TextAnswer.TheVariants as TextAnswer
 use Rattle.border.proofs.BorderLaws.{border-owned}
 
 -- ---- the row's own part answers
 
 answer-owned : (h : Header) (t : Tables)
-    → cond (is_border (own_of t)) (BorderAnswer.Is (border_of h (own_of t))) BorderAnswer.Missing ≡ cond (is_border t) (BorderAnswer.Is (border_of h t)) BorderAnswer.Missing
+    → ◌≡◌ {A = Result Border Unfound} (cond (is_border (own_of t)) (Ok (border_of h (own_of t))) (Err Missing)) (cond (is_border t) (Ok (border_of h t)) (Err Missing))
 answer-owned h t = rw (border-owned h t, cell-own t 0 (omega arith))
 
 text-owned : (t : Tables) → text_of (own_of t) ≡ text_of t
@@ -35,7 +36,7 @@ borders : (h : Header) → Question (border_found h)
 borders h = record { own = λ t k m. sym (answer-owned h (left_at t (stand_of k t.rows))); missing = λ t u. refl; refused = λ t u v. refl }
 
 texts : Question text_found
-texts = record { own = λ t k m. sym (ap TextAnswer.Is (text-owned (left_at t (stand_of k t.rows)))); missing = λ t u. refl; refused = λ t u v. refl }
+texts = record { own = λ t k m. sym (ap Ok (text-owned (left_at t (stand_of k t.rows)))); missing = λ t u. refl; refused = λ t u v. refl }
 
 -- ---- **what stands behind the used part never matters**, of any tables
 
@@ -50,7 +51,7 @@ module _ (h : Header) (n : ℕ) (t : Tables) (k : ℕ) where
 
 -- ---- **asked of the row alone**, a row of a well made sheet
 
-module _ (h : Header) (n : ℕ) (t : Tables) (k : ℕ) (e : judge_of Loose h n t ≡ Fine) (l : k < n) where
+module _ (h : Header) (n : ℕ) (t : Tables) (k : ℕ) (e : judge_of Loose h n t ≡ Ok tt) (l : k < n) where
   pub border-alone : border_at h 1 (row_alone k t) 0 ≡ border_at h n t k
   unfolding border_at
   border-alone = asked-alone h n t k e l (border_found h) (borders h)

@@ -1,26 +1,25 @@
 -- Rows as texts and as borders by example, computed: document 01, "Border classes" and its (l). Assumes nothing.
-use Rattle.std.specs.Prelude.{ℕ, ◌≡◌, refl, List, [], ◌∷◌, ◌++◌, true, false, ℤ, pos}
+use Rattle.std.specs.Prelude.{ℕ, ◌≡◌, refl, List, [], ◌∷◌, ◌++◌, true, false, ℤ, pos, Result, Ok, Err}
 use Prim.Native.String.{String}
 use Rattle.laws.specs.Text.{text}
 use Rattle.heading.specs.declared.Header.{Header}
 use Rattle.sheet.specs.Tables.{Tables}
-use Rattle.made.specs.declared.Verdict.TheVariants.{BadHeader, Faulty}
+use Rattle.made.specs.declared.Flaw.TheVariants.{BadHeader, Faulty}
 use Rattle.made.specs.Made.{tables_of}
 use Rattle.made.specs.Examples.{header, at_first, placed, labelled, raster, book, ring}
+use Rattle.row.specs.declared.Unfound.{Unfound}
+use Rattle.row.specs.declared.Unfound.TheVariants.{Missing, Refused}
 use Rattle.row.specs.Examples.{computed as computed_sought}
 use Rattle.classes.specs.declared.Class.TheVariants.{Building}
 use Rattle.classes.specs.Examples.{computed as computed_class}
+use Rattle.border.specs.declared.Border.{Border}
 use Rattle.border.specs.declared.Text.{Text}
-use Rattle.border.specs.declared.BorderAnswer.{BorderAnswer}
-use Rattle.border.specs.declared.BorderAnswer.TheVariants as Border
-use Rattle.border.specs.declared.TextAnswer.{TextAnswer}
-use Rattle.border.specs.declared.TextAnswer.TheVariants as Told
 use Rattle.border.specs.Borders.{border_of, text_of}
 use Rattle.border.specs.BorderAt.{border_at}
 use Rattle.border.specs.TextAt.{text_at}
 
 -- the definitions opened, so that they compute
-unfoldable pub computed : Header → ℕ → Tables → ℕ → BorderAnswer × TextAnswer
+unfoldable pub computed : Header → ℕ → Tables → ℕ → Result Border Unfound × Result Text Unfound
 unfolding border_at border_of text_at text_of computed_class computed_sought
 computed h count t k = (border_at h count t k, text_at h count t k)
 
@@ -48,8 +47,8 @@ abbrev raster_sheet : Tables
 raster_sheet = tables_of (raster 0 0 4 ++ placed 1 0 4 (book 0 1 2)) (text "77") [] (ring 0 ++ ring 0)
 
 pub other-rows : (said 6 0 3 "(7)" ≡ record { surface = false; centroid = false }) × (said 7 0 3 "(7)" ≡ record { surface = false; centroid = false })
-    × (border_at (header 1) 2 raster_sheet 0 ≡ Border.Missing) × (border_at (header 1) 2 raster_sheet 1 ≡ Border.Missing)
-    × (text_at (header 1) 2 raster_sheet 0 ≡ Told.Is (record { surface = false; centroid = false }))
+    × (border_at (header 1) 2 raster_sheet 0 ≡ Err Missing) × (border_at (header 1) 2 raster_sheet 1 ≡ Err Missing)
+    × (text_at (header 1) 2 raster_sheet 0 ≡ Ok (record { surface = false; centroid = false }))
 unfolding said computed
 other-rows = (refl, refl, refl, refl, refl)
 
@@ -62,22 +61,22 @@ sheet =
 
 -- the class goes by the row's own letters
 pub border-is : border_at (header 1) 3 sheet 1
-    ≡ Border.Is (record { class = Building; size = pos 19; angle = pos 20; x = pos 21; y = pos 22; x2 = pos 23; y2 = pos 24; letters = 2; islands = 1; vertices = 8 })
+    ≡ Ok (record { class = Building; size = pos 19; angle = pos 20; x = pos 21; y = pos 22; x2 = pos 23; y2 = pos 24; letters = 2; islands = 1; vertices = 8 })
 unfolding computed
 border-is = refl
 
 -- a text is no border, nor is a row past the last; 15 comes before 19, 6 before 15
-pub no-border : (border_at (header 1) 3 sheet 0 ≡ Border.Missing) × (border_at (header 1) 3 sheet 3 ≡ Border.Missing) × (border_at (header 1) 4 sheet 9 ≡ Border.Refused (Faulty 3))
-    × (border_at (header 4) 4 sheet 9 ≡ Border.Refused BadHeader)
+pub no-border : (border_at (header 1) 3 sheet 0 ≡ Err Missing) × (border_at (header 1) 3 sheet 3 ≡ Err Missing) × (border_at (header 1) 4 sheet 9 ≡ Err (Refused (Faulty 3)))
+    × (border_at (header 4) 4 sheet 9 ≡ Err (Refused BadHeader))
 unfolding computed
 no-border = (refl, refl, refl, refl)
 
 -- each text by its own letters and size; a border is neither
-pub texts : (text_at (header 1) 3 sheet 0 ≡ Told.Is (record { surface = true; centroid = false })) × (text_at (header 1) 3 sheet 1 ≡ Told.Is (record { surface = false; centroid = false }))
-    × (text_at (header 1) 3 sheet 2 ≡ Told.Is (record { surface = false; centroid = true }))
+pub texts : (text_at (header 1) 3 sheet 0 ≡ Ok (record { surface = true; centroid = false })) × (text_at (header 1) 3 sheet 1 ≡ Ok (record { surface = false; centroid = false }))
+    × (text_at (header 1) 3 sheet 2 ≡ Ok (record { surface = false; centroid = true }))
 unfolding computed
 texts = (refl, refl, refl)
 
-pub no_text : (text_at (header 1) 3 sheet 3 ≡ Told.Missing) × (text_at (header 1) 4 sheet 9 ≡ Told.Refused (Faulty 3)) × (text_at (header 4) 4 sheet 9 ≡ Told.Refused BadHeader)
+pub no_text : (text_at (header 1) 3 sheet 3 ≡ Err Missing) × (text_at (header 1) 4 sheet 9 ≡ Err (Refused (Faulty 3))) × (text_at (header 4) 4 sheet 9 ≡ Err (Refused BadHeader))
 unfolding computed
 no_text = (refl, refl, refl)

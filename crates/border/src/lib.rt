@@ -3,16 +3,16 @@
 // are not held are 0, and of its letters those count that are held.
 #![tactic(auto)]
 
-ghost use Rattle.std.specs.Prelude.{◌≡◌, [], length, get_or, pos};
-ghost use Rattle.made.specs.Made.{tables_of, letters_of};
+ghost use Rattle.std.specs.Prelude.{◌≡◌, [], get_or, pos};
+ghost use Rattle.made.specs.Made.{tables, tables_of, letters_of};
 ghost use Rattle.border.specs.Borders.{is_border, border_with, border_of, text_of};
 ghost use Rattle.border.specs.BorderAt.{border_at};
 ghost use Rattle.border.specs.TextAt.{text_at};
 
 use classes::{Class, class_of, is_surface};
 use heading::Header;
-use made::{Verdict, count_at};
-use row::{Sought, seek};
+use made::{Sheet, count_at};
+use row::{Unfound, left_at, seek};
 
 // A border row: its class, size and angle, its text's point and its inner point, and how many letters, islands and vertices it has.
 #[derive(Clone, Copy)]
@@ -34,22 +34,6 @@ pub struct Border {
 pub struct Text {
     pub surface: bool,
     pub centroid: bool,
-}
-
-// The row's border; a missing row, or one that is no border (19); or what is wrong with the sheet (6, 15).
-#[derive(Clone, Copy)]
-pub enum BorderAnswer {
-    Is(Border),
-    Missing,
-    Refused(Verdict),
-}
-
-// What the row says as a text; a missing row (19); or what is wrong with the sheet (6, 15).
-#[derive(Clone, Copy)]
-pub enum TextAnswer {
-    Is(Text),
-    Missing,
-    Refused(Verdict),
 }
 
 const SIZE_PLACE: usize = 3;
@@ -74,28 +58,21 @@ const VERTICES_PLACE: usize = 11;
 fn cell_at(rows: &[i64], place: usize) -> i64
     ensures { result ≡ get_or rows.now place (pos 0) }
 {
-    if place >= rows.len() {
-        return 0;
-    }
-    rows[place]
+    rows.get(place).copied().unwrap_or(0)
 }
 
-// How many of the first row's letters are held.
-fn letters_held(rows: &[i64], letters: &[u8]) -> usize
-    ensures { result ≡ length (letters_of (tables_of rows.now letters.now [] [])) }
+// The first row's letters, at the front of `letters`; of them those that are held.
+fn own_letters<'a>(rows: &[i64], letters: &'a [u8]) -> &'a [u8]
+    ensures { result.now ≡ letters_of (tables_of rows.now letters.now [] []) }
 {
-    let n = count_at(rows, LETTERS_PLACE);
-    if letters.len() < n {
-        return letters.len();
-    }
-    n
+    &letters[..count_at(rows, LETTERS_PLACE).min(letters.len())]
 }
 
 // The first row is a border.
 pub fn is_border(rows: &[i64]) -> bool
     ensures { result ≡ is_border (tables_of rows.now [] [] []) }
 {
-    if count_at(rows, 0) == 1 { true } else { false }
+    count_at(rows, 0) == 1
 }
 
 // The first row as a border of this class.
@@ -117,82 +94,42 @@ pub fn border_with(class: Class, rows: &[i64]) -> Border
 }
 
 // The first row as a border, its letters at the front of `letters`.
+#[tactic(auto, unfolding(crate::specs::Borders::border_of))]
 pub fn border_of(header: Header, rows: &[i64], letters: &[u8]) -> Border
     ensures { result ≡ border_of header (tables_of rows.now letters.now [] []) }
 {
-    let n = letters_held(rows, letters);
-    border_with(class_of(header, &letters[..n]), rows)
+    border_with(class_of(header, own_letters(rows, letters)), rows)
 }
 
 // What the first row says as a text, its letters at the front of `letters`.
+#[tactic(auto, unfolding(crate::specs::Borders::text_of))]
 pub fn text_of(rows: &[i64], letters: &[u8]) -> Text
     ensures { result ≡ text_of (tables_of rows.now letters.now [] []) }
 {
-    if count_at(rows, 0) != 2 {
-        return Text {
-            surface: false,
-            centroid: false,
-        };
-    }
-    let n = letters_held(rows, letters);
-    let surface = is_surface(&letters[..n]);
-    if cell_at(rows, SIZE_PLACE) == 0 {
-        return Text {
-            surface,
-            centroid: true,
-        };
-    }
+    let is_text = count_at(rows, 0) == 2;
     Text {
-        surface,
-        centroid: false,
+        surface: is_text && is_surface(own_letters(rows, letters)),
+        centroid: is_text && cell_at(rows, SIZE_PLACE) == 0,
     }
 }
 
-// The border of row `row` of a sheet.
-pub fn border_at(
-    header: Header,
-    count: usize,
-    rows: &[i64],
-    letters: &[u8],
-    islands: &[u16],
-    points: &[i64],
-    row: usize,
-) -> BorderAnswer
-    ensures { result ≡ border_at header count (tables_of rows.now letters.now islands.now points.now) row }
+// The border of row `row` of a sheet; a row that is no border is refused as a missing one (19).
+#[tactic(auto, unfolding(crate::specs::BorderAt::border_at, crate::specs::Borders::border_of))]
+pub fn border_at(sheet: &Sheet<'_>, row: usize) -> Result<Border, Unfound>
+    ensures { result ≡ border_at sheet.now.header sheet.now.count (tables sheet.now.lent) row }
 {
-    match seek(header, count, rows, letters, islands, points, row) {
-        Sought::Refused(v) => BorderAnswer::Refused(v),
-        Sought::Missing => BorderAnswer::Missing,
-        Sought::At(d) => {
-            let r = d.row;
-            let l = d.letters;
-            if !is_border(&rows[r..]) {
-                return BorderAnswer::Missing;
-            }
-            BorderAnswer::Is(border_of(header, &rows[r..], &letters[l..]))
-        }
+    let own = left_at(&sheet.lent, seek(sheet, row)?);
+    if !is_border(own.rows) {
+        return Err(Unfound::Missing);
     }
+    Ok(border_of(sheet.header, own.rows, own.letters))
 }
 
 // What row `row` of a sheet says as a text.
-pub fn text_at(
-    header: Header,
-    count: usize,
-    rows: &[i64],
-    letters: &[u8],
-    islands: &[u16],
-    points: &[i64],
-    row: usize,
-) -> TextAnswer
-    ensures { result ≡ text_at header count (tables_of rows.now letters.now islands.now points.now) row }
+#[tactic(auto, unfolding(crate::specs::TextAt::text_at, crate::specs::Borders::text_of))]
+pub fn text_at(sheet: &Sheet<'_>, row: usize) -> Result<Text, Unfound>
+    ensures { result ≡ text_at sheet.now.header sheet.now.count (tables sheet.now.lent) row }
 {
-    match seek(header, count, rows, letters, islands, points, row) {
-        Sought::Refused(v) => TextAnswer::Refused(v),
-        Sought::Missing => TextAnswer::Missing,
-        Sought::At(d) => {
-            let r = d.row;
-            let l = d.letters;
-            TextAnswer::Is(text_of(&rows[r..], &letters[l..]))
-        }
-    }
+    let own = left_at(&sheet.lent, seek(sheet, row)?);
+    Ok(text_of(own.rows, own.letters))
 }

@@ -9,7 +9,7 @@ ghost use Rattle.record.specs.Record.{record_at};
 ghost use Rattle.column.specs.Columns.{integer_placed, real_placed};
 ghost use Rattle.sheet.specs.Reading.{reading};
 ghost use Rattle.reader.specs.Read.{rooms_of, read_of, tables_in, written};
-ghost use Rattle.made.specs.Made.{tables_of};
+ghost use Rattle.made.specs.Made.{tables, tables_of};
 ghost use Rattle.layout.specs.Sheet.{sheet_text};
 ghost use Rattle.writer.specs.Write.{write_of, output_of};
 ghost use Rattle.cml.specs.Lines.{cml_text, cml_of};
@@ -40,20 +40,21 @@ ghost use Rattle.told.specs.Edits.{edit_told};
 use area::{net_area, ring_area};
 use border::{border_at, text_at};
 use cml::cml_lines;
-use column::{PlacedInteger, PlacedReal, placed_integer, placed_real};
+use column::{placed_integer, placed_real};
 use conversion::convert_text;
 use edit::moving::move_sheet;
 use edit::removing::remove_row;
-use listing::{Listed, list_text};
+use listing::list_text;
+use made::{Lent, Sheet};
 use mask::mask_of;
 use reader::{read, read_as};
-use record::refusal::{NO_ROOM, NUMBER, OFF_TILE};
-use record::{Found, record_at};
+use record::record_at;
+use record::refusal::Refusal;
 use ring::ring_check;
 use sup::sup_text;
 use supcheck::sup_check;
 use tally::{take, tally_sheet};
-use tile::{Tile, tile_point};
+use tile::tile_point;
 use told::edits::{CxfEdited, edit_told};
 use told::masks::{CxfMask, mask_told};
 use told::question::{CxfArea, CxfBorder, CxfRing, CxfText, area_of, border_of, ring_of, text_of};
@@ -61,10 +62,39 @@ use told::sup_checks::{CxfSupChecked, checked_told};
 use told::sup_files::{CxfSup, sup_told};
 use told::tallies::{CxfTally, take_told, tally_in, tally_told};
 use told::{
-    CxfListed, CxfNumber, CxfReading, CxfRecord, CxfTile, CxfWritten, header_of, mode_of,
-    reading_of, written_of,
+    CxfListed, CxfNumber, CxfReading, CxfRecord, CxfTile, CxfWritten, header_of, listed_told,
+    mode_of, number_told, reading_of, record_told, written_of,
 };
 use writer::write;
+
+// A sheet as it is handed in.
+fn sheet_of<'a>(
+    kind: usize,
+    name: &[u8],
+    scale: i64,
+    count: usize,
+    rows: &'a [i64],
+    letters: &'a [u8],
+    islands: &'a [u16],
+    points: &'a [i64],
+) -> Sheet<'a>
+    ensures header_is { result.header ≡ header_of kind name.now scale }
+    ensures count_is { result.count ≡ count }
+    ensures tables_are { tables result.lent ≡ tables_of rows.now letters.now islands.now points.now }
+{
+    let header = header_of(kind, name, scale);
+    let lent = Lent {
+        rows,
+        letters,
+        islands,
+        points,
+    };
+    Sheet {
+        header,
+        count,
+        lent,
+    }
+}
 
 // The number of this interface, for a binding that was made for one number and is to refuse another.
 #[unsafe(no_mangle)]
@@ -84,10 +114,10 @@ pub extern "C" fn cxf_read_default(
     points: &mut [i64],
 ) -> CxfReading
     ensures value { result ≡ read_told (read_of Exact src.now (rooms_of (length rows.old) (length letters.old) (length islands.old) (length points.old))) }
-    ensures rows_after { rows.new ≡ written (read_of Exact src.now (rooms_of (length rows.old) (length letters.old) (length islands.old) (length points.old))).answer (tables_in (reading Exact src.now)).rows rows.old }
-    ensures letters_after { letters.new ≡ written (read_of Exact src.now (rooms_of (length rows.old) (length letters.old) (length islands.old) (length points.old))).answer (tables_in (reading Exact src.now)).letters letters.old }
-    ensures islands_after { islands.new ≡ written (read_of Exact src.now (rooms_of (length rows.old) (length letters.old) (length islands.old) (length points.old))).answer (tables_in (reading Exact src.now)).islands islands.old }
-    ensures points_after { points.new ≡ written (read_of Exact src.now (rooms_of (length rows.old) (length letters.old) (length islands.old) (length points.old))).answer (tables_in (reading Exact src.now)).points points.old }
+    ensures rows_after { rows.new ≡ written (read_of Exact src.now (rooms_of (length rows.old) (length letters.old) (length islands.old) (length points.old))) (tables_in (reading Exact src.now)).rows rows.old }
+    ensures letters_after { letters.new ≡ written (read_of Exact src.now (rooms_of (length rows.old) (length letters.old) (length islands.old) (length points.old))) (tables_in (reading Exact src.now)).letters letters.old }
+    ensures islands_after { islands.new ≡ written (read_of Exact src.now (rooms_of (length rows.old) (length letters.old) (length islands.old) (length points.old))) (tables_in (reading Exact src.now)).islands islands.old }
+    ensures points_after { points.new ≡ written (read_of Exact src.now (rooms_of (length rows.old) (length letters.old) (length islands.old) (length points.old))) (tables_in (reading Exact src.now)).points points.old }
 {
     reading_of(read(src, rows, letters, islands, points))
 }
@@ -103,10 +133,10 @@ pub extern "C" fn cxf_read(
     points: &mut [i64],
 ) -> CxfReading
     ensures value { result ≡ read_told (read_of (mode_of mode) src.now (rooms_of (length rows.old) (length letters.old) (length islands.old) (length points.old))) }
-    ensures rows_after { rows.new ≡ written (read_of (mode_of mode) src.now (rooms_of (length rows.old) (length letters.old) (length islands.old) (length points.old))).answer (tables_in (reading (mode_of mode) src.now)).rows rows.old }
-    ensures letters_after { letters.new ≡ written (read_of (mode_of mode) src.now (rooms_of (length rows.old) (length letters.old) (length islands.old) (length points.old))).answer (tables_in (reading (mode_of mode) src.now)).letters letters.old }
-    ensures islands_after { islands.new ≡ written (read_of (mode_of mode) src.now (rooms_of (length rows.old) (length letters.old) (length islands.old) (length points.old))).answer (tables_in (reading (mode_of mode) src.now)).islands islands.old }
-    ensures points_after { points.new ≡ written (read_of (mode_of mode) src.now (rooms_of (length rows.old) (length letters.old) (length islands.old) (length points.old))).answer (tables_in (reading (mode_of mode) src.now)).points points.old }
+    ensures rows_after { rows.new ≡ written (read_of (mode_of mode) src.now (rooms_of (length rows.old) (length letters.old) (length islands.old) (length points.old))) (tables_in (reading (mode_of mode) src.now)).rows rows.old }
+    ensures letters_after { letters.new ≡ written (read_of (mode_of mode) src.now (rooms_of (length rows.old) (length letters.old) (length islands.old) (length points.old))) (tables_in (reading (mode_of mode) src.now)).letters letters.old }
+    ensures islands_after { islands.new ≡ written (read_of (mode_of mode) src.now (rooms_of (length rows.old) (length letters.old) (length islands.old) (length points.old))) (tables_in (reading (mode_of mode) src.now)).islands islands.old }
+    ensures points_after { points.new ≡ written (read_of (mode_of mode) src.now (rooms_of (length rows.old) (length letters.old) (length islands.old) (length points.old))) (tables_in (reading (mode_of mode) src.now)).points points.old }
 {
     reading_of(read_as(mode_of(mode), src, rows, letters, islands, points))
 }
@@ -127,8 +157,8 @@ pub extern "C" fn cxf_write(
     ensures value { result ≡ write_told (write_of (header_of kind name.now scale) count (tables_of rows.now letters.now islands.now points.now) (length out.old)) }
     ensures out_after { out.new ≡ output_of (write_of (header_of kind name.now scale) count (tables_of rows.now letters.now islands.now points.now) (length out.old)) (sheet_text (header_of kind name.now scale) count (tables_of rows.now letters.now islands.now points.now)) out.old }
 {
-    let header = header_of(kind, name, scale);
-    written_of(write(header, count, rows, letters, islands, points, out))
+    let sheet = sheet_of(kind, name, scale, count, rows, letters, islands, points);
+    written_of(write(&sheet, out))
 }
 
 // Writes the lines of a sheet that is handed in as CML.
@@ -147,28 +177,15 @@ pub extern "C" fn cxf_cml_lines(
     ensures value { result ≡ write_told (cml_of (header_of kind name.now scale) count (tables_of rows.now letters.now islands.now points.now) (length out.old)) }
     ensures out_after { out.new ≡ output_of (cml_of (header_of kind name.now scale) count (tables_of rows.now letters.now islands.now points.now) (length out.old)) (cml_text count (tables_of rows.now letters.now islands.now points.now)) out.old }
 {
-    let header = header_of(kind, name, scale);
-    written_of(cml_lines(header, count, rows, letters, islands, points, out))
+    let sheet = sheet_of(kind, name, scale, count, rows, letters, islands, points);
+    written_of(cml_lines(&sheet, out))
 }
 
 #[unsafe(no_mangle)]
 pub extern "C" fn cxf_record_at(src: &[u8], at: usize, mode: usize, due: usize) -> CxfRecord
     ensures { result ≡ record_told (record_at src.now at (mode_of mode) (is_keyword_due due)) }
 {
-    match record_at(src, at, mode_of(mode), due != 0) {
-        Found::Record { start, len, next } => CxfRecord {
-            number: 0,
-            start,
-            length: len,
-            next,
-        },
-        Found::Refused(number) => CxfRecord {
-            number,
-            start: 0,
-            length: 0,
-            next: 0,
-        },
-    }
+    record_told(record_at(src, at, mode_of(mode), due != 0))
 }
 
 #[unsafe(no_mangle)]
@@ -176,16 +193,8 @@ pub extern "C" fn cxf_integer(content: &[u8], mode: usize) -> CxfNumber
     ensures { result ≡ integer_told (integer_placed (mode_of mode) content.now) }
 {
     match placed_integer(content, mode_of(mode)) {
-        PlacedInteger::Is(n) => CxfNumber {
-            number: 0,
-            column: 0,
-            value: n as i64,
-        },
-        PlacedInteger::Malformed(column) => CxfNumber {
-            number: NUMBER,
-            column,
-            value: 0,
-        },
+        Ok(n) => number_told(Ok(n as i64)),
+        Err(column) => number_told(Err(column)),
     }
 }
 
@@ -193,18 +202,7 @@ pub extern "C" fn cxf_integer(content: &[u8], mode: usize) -> CxfNumber
 pub extern "C" fn cxf_real(content: &[u8], mode: usize) -> CxfNumber
     ensures { result ≡ real_told (real_placed (mode_of mode) content.now) }
 {
-    match placed_real(content, mode_of(mode)) {
-        PlacedReal::Is(z) => CxfNumber {
-            number: 0,
-            column: 0,
-            value: z,
-        },
-        PlacedReal::Malformed(column) => CxfNumber {
-            number: NUMBER,
-            column,
-            value: 0,
-        },
-    }
+    number_told(placed_real(content, mode_of(mode)))
 }
 
 // The mask of a row's border on a grid of 64 rows of 64 cells.
@@ -225,10 +223,8 @@ pub extern "C" fn cxf_mask_of(
 ) -> CxfMask
     ensures { result ≡ mask_told (mask_at (header_of kind name.now scale) count (tables_of rows.now letters.now islands.now points.now) row cx cy cell) }
 {
-    let header = header_of(kind, name, scale);
-    mask_told(mask_of(
-        header, count, rows, letters, islands, points, row, cx, cy, cell,
-    ))
+    let sheet = sheet_of(kind, name, scale, count, rows, letters, islands, points);
+    mask_told(mask_of(&sheet, row, cx, cy, cell))
 }
 
 #[unsafe(no_mangle)]
@@ -236,13 +232,13 @@ pub extern "C" fn cxf_tile_point(west: i64, north: i64, x: i64, y: i64) -> CxfTi
     ensures { result ≡ tile_told (tile_of west north x y) }
 {
     match tile_point(west, north, x, y) {
-        Tile::At(o) => CxfTile {
+        Some(o) => CxfTile {
             number: 0,
             east: o.east,
             south: o.south,
         },
-        Tile::Outside => CxfTile {
-            number: OFF_TILE,
+        None => CxfTile {
+            number: Refusal::OffTile.number(),
             east: 0.0,
             south: 0.0,
         },
@@ -255,16 +251,7 @@ pub extern "C" fn cxf_listing(src: &[u8], out: &mut [u8]) -> CxfListed
     ensures value { result ≡ listed_told (listed_of (listing_of src.now) (length out.old)) }
     ensures out_after { out.new ≡ listed_in (listed_of (listing_of src.now) (length out.old)) (listing_of src.now) out.old }
 {
-    match list_text(src, out) {
-        Listed::Wrote(used) => CxfListed {
-            number: 0,
-            length: used,
-        },
-        Listed::NoRoom(needed) => CxfListed {
-            number: NO_ROOM,
-            length: needed,
-        },
-    }
+    listed_told(list_text(src, out))
 }
 
 // What the conversion program writes for an input.
@@ -273,16 +260,7 @@ pub extern "C" fn cxf_convert(src: &[u8], out: &mut [u8]) -> CxfListed
     ensures value { result ≡ listed_told (listed_of (conversion_of src.now) (length out.old)) }
     ensures out_after { out.new ≡ listed_in (listed_of (conversion_of src.now) (length out.old)) (conversion_of src.now) out.old }
 {
-    match convert_text(src, out) {
-        Listed::Wrote(used) => CxfListed {
-            number: 0,
-            length: used,
-        },
-        Listed::NoRoom(needed) => CxfListed {
-            number: NO_ROOM,
-            length: needed,
-        },
-    }
+    listed_told(convert_text(src, out))
 }
 
 // The border of a row.
@@ -300,8 +278,8 @@ pub extern "C" fn cxf_border_at(
 ) -> CxfBorder
     ensures { result ≡ border_told (border_at (header_of kind name.now scale) count (tables_of rows.now letters.now islands.now points.now) row) }
 {
-    let header = header_of(kind, name, scale);
-    border_of(border_at(header, count, rows, letters, islands, points, row))
+    let sheet = sheet_of(kind, name, scale, count, rows, letters, islands, points);
+    border_of(border_at(&sheet, row))
 }
 
 // What a row says as a text.
@@ -319,8 +297,8 @@ pub extern "C" fn cxf_text_at(
 ) -> CxfText
     ensures { result ≡ text_told (text_at (header_of kind name.now scale) count (tables_of rows.now letters.now islands.now points.now) row) }
 {
-    let header = header_of(kind, name, scale);
-    text_of(text_at(header, count, rows, letters, islands, points, row))
+    let sheet = sheet_of(kind, name, scale, count, rows, letters, islands, points);
+    text_of(text_at(&sheet, row))
 }
 
 // The doubled area of one ring of a row's border.
@@ -339,8 +317,8 @@ pub extern "C" fn cxf_ring_area(
 ) -> CxfArea
     ensures { result ≡ area_told (ring_area_at (header_of kind name.now scale) count (tables_of rows.now letters.now islands.now points.now) row ring) }
 {
-    let header = header_of(kind, name, scale);
-    area_of(ring_area(header, count, rows, letters, islands, points, row, ring))
+    let sheet = sheet_of(kind, name, scale, count, rows, letters, islands, points);
+    area_of(ring_area(&sheet, row, ring))
 }
 
 // The doubled area of a row's border without its islands.
@@ -358,8 +336,8 @@ pub extern "C" fn cxf_net_area(
 ) -> CxfArea
     ensures { result ≡ area_told (net_area_at (header_of kind name.now scale) count (tables_of rows.now letters.now islands.now points.now) row) }
 {
-    let header = header_of(kind, name, scale);
-    area_of(net_area(header, count, rows, letters, islands, points, row))
+    let sheet = sheet_of(kind, name, scale, count, rows, letters, islands, points);
+    area_of(net_area(&sheet, row))
 }
 
 // Whether one ring of a row's border is simple.
@@ -378,8 +356,8 @@ pub extern "C" fn cxf_ring_check(
 ) -> CxfRing
     ensures { result ≡ ring_told (ring_check_at (header_of kind name.now scale) count (tables_of rows.now letters.now islands.now points.now) row ring) }
 {
-    let header = header_of(kind, name, scale);
-    ring_of(ring_check(header, count, rows, letters, islands, points, row, ring))
+    let sheet = sheet_of(kind, name, scale, count, rows, letters, islands, points);
+    ring_of(ring_check(&sheet, row, ring))
 }
 
 // The tally of a sheet.
@@ -396,8 +374,8 @@ pub extern "C" fn cxf_tally_sheet(
 ) -> CxfTally
     ensures { result ≡ tally_told (tally_of (header_of kind name.now scale) count (tables_of rows.now letters.now islands.now points.now)) }
 {
-    let header = header_of(kind, name, scale);
-    tally_told(tally_sheet(header, count, rows, letters, islands, points))
+    let sheet = sheet_of(kind, name, scale, count, rows, letters, islands, points);
+    tally_told(tally_sheet(&sheet))
 }
 
 // A running tally takes the border of a row.
@@ -416,9 +394,9 @@ pub extern "C" fn cxf_tally_take(
 ) -> CxfTally
     ensures { result ≡ take_told (length figures.now) (taken_of (tally_in figures.now) (header_of kind name.now scale) count (tables_of rows.now letters.now islands.now points.now) row) }
 {
-    let header = header_of(kind, name, scale);
+    let sheet = sheet_of(kind, name, scale, count, rows, letters, islands, points);
     let tally = tally_in(figures);
-    let taken = take(tally, header, count, rows, letters, islands, points, row);
+    let taken = take(tally, &sheet, row);
     take_told(figures.len(), taken)
 }
 
@@ -439,8 +417,8 @@ pub extern "C" fn cxf_sup_write(
     ensures value { result ≡ sup_told (sup_of (header_of kind name.now scale) count (tables_of rows.now letters.now islands.now points.now) date.now (length out.old)) }
     ensures out_after { out.new ≡ sup_output (sup_of (header_of kind name.now scale) count (tables_of rows.now letters.now islands.now points.now) date.now (length out.old)) (sheet_sup (header_of kind name.now scale) count (tables_of rows.now letters.now islands.now points.now) date.now) out.old }
 {
-    let header = header_of(kind, name, scale);
-    sup_told(sup_text(header, count, rows, letters, islands, points, date, out))
+    let sheet = sheet_of(kind, name, scale, count, rows, letters, islands, points);
+    sup_told(sup_text(&sheet, date, out))
 }
 
 // Checks a SUP file that came with a sheet.
@@ -458,8 +436,8 @@ pub extern "C" fn cxf_sup_check(
 ) -> CxfSupChecked
     ensures { result ≡ checked_told (sup_checked (header_of kind name.now scale) count (tables_of rows.now letters.now islands.now points.now) sup.now) }
 {
-    let header = header_of(kind, name, scale);
-    checked_told(sup_check(header, count, rows, letters, islands, points, sup))
+    let sheet = sheet_of(kind, name, scale, count, rows, letters, islands, points);
+    checked_told(sup_check(&sheet, sup))
 }
 
 // Takes a row out of a sheet, in the tables that are lent.

@@ -62,10 +62,10 @@ pub extern "C" fn cxf_read_default(
     points: &mut [i64],
 ) -> CxfReading
     ensures value { result ≡ read_told (read_of Exact src.now (rooms_of (length rows.old) (length letters.old) (length islands.old) (length points.old))) }
-    ensures rows_after { rows.new ≡ written (read_of Exact src.now (rooms_of (length rows.old) (length letters.old) (length islands.old) (length points.old))).answer (tables_in (reading Exact src.now)).rows rows.old }
-    ensures letters_after { letters.new ≡ written (read_of Exact src.now (rooms_of (length rows.old) (length letters.old) (length islands.old) (length points.old))).answer (tables_in (reading Exact src.now)).letters letters.old }
-    ensures islands_after { islands.new ≡ written (read_of Exact src.now (rooms_of (length rows.old) (length letters.old) (length islands.old) (length points.old))).answer (tables_in (reading Exact src.now)).islands islands.old }
-    ensures points_after { points.new ≡ written (read_of Exact src.now (rooms_of (length rows.old) (length letters.old) (length islands.old) (length points.old))).answer (tables_in (reading Exact src.now)).points points.old }
+    ensures rows_after { rows.new ≡ written (read_of Exact src.now (rooms_of (length rows.old) (length letters.old) (length islands.old) (length points.old))) (tables_in (reading Exact src.now)).rows rows.old }
+    ensures letters_after { letters.new ≡ written (read_of Exact src.now (rooms_of (length rows.old) (length letters.old) (length islands.old) (length points.old))) (tables_in (reading Exact src.now)).letters letters.old }
+    ensures islands_after { islands.new ≡ written (read_of Exact src.now (rooms_of (length rows.old) (length letters.old) (length islands.old) (length points.old))) (tables_in (reading Exact src.now)).islands islands.old }
+    ensures points_after { points.new ≡ written (read_of Exact src.now (rooms_of (length rows.old) (length letters.old) (length islands.old) (length points.old))) (tables_in (reading Exact src.now)).points points.old }
 {
     cabi::cxf_read_default(src, rows, letters, islands, points)
 }
@@ -81,10 +81,10 @@ pub extern "C" fn cxf_read(
     points: &mut [i64],
 ) -> CxfReading
     ensures value { result ≡ read_told (read_of (mode_of mode) src.now (rooms_of (length rows.old) (length letters.old) (length islands.old) (length points.old))) }
-    ensures rows_after { rows.new ≡ written (read_of (mode_of mode) src.now (rooms_of (length rows.old) (length letters.old) (length islands.old) (length points.old))).answer (tables_in (reading (mode_of mode) src.now)).rows rows.old }
-    ensures letters_after { letters.new ≡ written (read_of (mode_of mode) src.now (rooms_of (length rows.old) (length letters.old) (length islands.old) (length points.old))).answer (tables_in (reading (mode_of mode) src.now)).letters letters.old }
-    ensures islands_after { islands.new ≡ written (read_of (mode_of mode) src.now (rooms_of (length rows.old) (length letters.old) (length islands.old) (length points.old))).answer (tables_in (reading (mode_of mode) src.now)).islands islands.old }
-    ensures points_after { points.new ≡ written (read_of (mode_of mode) src.now (rooms_of (length rows.old) (length letters.old) (length islands.old) (length points.old))).answer (tables_in (reading (mode_of mode) src.now)).points points.old }
+    ensures rows_after { rows.new ≡ written (read_of (mode_of mode) src.now (rooms_of (length rows.old) (length letters.old) (length islands.old) (length points.old))) (tables_in (reading (mode_of mode) src.now)).rows rows.old }
+    ensures letters_after { letters.new ≡ written (read_of (mode_of mode) src.now (rooms_of (length rows.old) (length letters.old) (length islands.old) (length points.old))) (tables_in (reading (mode_of mode) src.now)).letters letters.old }
+    ensures islands_after { islands.new ≡ written (read_of (mode_of mode) src.now (rooms_of (length rows.old) (length letters.old) (length islands.old) (length points.old))) (tables_in (reading (mode_of mode) src.now)).islands islands.old }
+    ensures points_after { points.new ≡ written (read_of (mode_of mode) src.now (rooms_of (length rows.old) (length letters.old) (length islands.old) (length points.old))) (tables_in (reading (mode_of mode) src.now)).points points.old }
 {
     cabi::cxf_read(src, mode, rows, letters, islands, points)
 }

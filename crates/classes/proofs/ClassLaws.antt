@@ -15,7 +15,6 @@ use Rattle.classes.specs.Classes.{byte, ends_in, is_road, is_water, is_other, cl
 use Rattle.classes.specs.Former.{former_class_of}
 use Rattle.classes.specs.declared.Class.{Class}
 use Rattle.classes.specs.declared.Class.TheVariants.{Confine, Other, Road, Water, Building, Parcel}
-use Rattle.classes.proofs.ClassWays.{other-kind}
 
 -- the class by the tests' answers
 abbrev said : Bool → Bool → Bool → Bool → Bool → Class
@@ -59,8 +58,8 @@ never_other kind name s f q = f ((other-iff kind name s).0 q).0
 -- "In kinds 1 and 2 such letters go on to the later rules", whatever their number
 pub goes_on : (kind : ℕ) (name s : List ℕ) → (kind ≡ 3 → ⊥) → (s ≡ name → ⊥)
     → class_of kind name s ≡ cond (is_road kind s) Road (cond (is_water kind s) Water (cond (ends_in (byte "+") s) Building Parcel))
-unfolding class_of
-goes_on kind name s f g = rw (unnamed name s g, ← other-kind kind s f)
+unfolding class_of is_other
+goes_on kind name s f g = rw (unnamed name s g, ne_eqb kind 3 f)
 
 -- ---- where nothing changed
 

@@ -1,3 +1,2 @@
--- The ways through the functions, and the laws of OTHER.
-pub mod ClassWays
+-- The laws of OTHER.
 pub mod ClassLaws

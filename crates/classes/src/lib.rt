@@ -25,78 +25,65 @@ const NAME_LETTERS: usize = 11;
 // The fewest letters of a surface right.
 const SURFACE_LETTERS: usize = 3;
 
+#[tactic(auto, unfolding(crate::specs::Classes::begins_with))]
 fn begins_with(byte: u8, s: &[u8]) -> bool
     ensures { result ≡ begins_with byte s.now }
 {
-    if s.len() < 1 {
-        return false;
-    }
-    if s[0] == byte { true } else { false }
+    s.first() == Some(&byte)
 }
 
+#[tactic(auto, unfolding(crate::specs::Classes::ends_in))]
 fn ends_in(byte: u8, s: &[u8]) -> bool
     ensures { result ≡ ends_in byte s.now }
 {
-    if s.len() < 1 {
-        return false;
-    }
-    if s[s.len() - 1] == byte { true } else { false }
+    s.last() == Some(&byte)
 }
 
 // Letters that begin with a byte, in kind 2.
+#[tactic(auto, unfolding(crate::specs::Classes::begins_in_kind2))]
 fn begins_in_kind2(byte: u8, kind: usize, s: &[u8]) -> bool
     ensures { result ≡ begins_in_kind2 byte kind s.now }
 {
-    if kind != 2 {
-        return false;
-    }
-    begins_with(byte, s)
+    kind == 2 && begins_with(byte, s)
 }
 
+#[tactic(auto, unfolding(crate::specs::Classes::is_road))]
 fn is_road(kind: usize, s: &[u8]) -> bool
     ensures { result ≡ is_road kind s.now }
 {
-    if is_same(s, b"STRADA") {
-        return true;
-    }
-    begins_in_kind2(b'S', kind, s)
+    is_same(s, b"STRADA") || begins_in_kind2(b'S', kind, s)
 }
 
+#[tactic(auto, unfolding(crate::specs::Classes::is_water))]
 fn is_water(kind: usize, s: &[u8]) -> bool
     ensures { result ≡ is_water kind s.now }
 {
-    if is_same(s, b"ACQUA") {
-        return true;
-    }
-    begins_in_kind2(b'A', kind, s)
+    is_same(s, b"ACQUA") || begins_in_kind2(b'A', kind, s)
 }
 
 // Letters as long as a sheet's name, in kind 3.
+#[tactic(auto, unfolding(crate::specs::Classes::is_other))]
 fn is_other(kind: usize, s: &[u8]) -> bool
     ensures { result ≡ is_other kind s.now }
 {
-    if kind != 3 {
-        return false;
-    }
-    if s.len() == NAME_LETTERS { true } else { false }
+    kind == 3 && s.len() == NAME_LETTERS
 }
 
 // The class of a border with these letters: the first rule that holds.
+#[tactic(auto, unfolding(crate::specs::Classes::class_of))]
 pub fn class_of(header: Header, s: &[u8]) -> Class
     ensures { result ≡ class_of header.kind header.name s.now }
 {
-    let name = header.name;
-    if is_same(s, &name) {
+    if is_same(s, &header.name) {
         return Class::Confine;
     }
-    let kind = header.kind;
-    if is_other(kind, s) {
+    if is_other(header.kind, s) {
         return Class::Other;
     }
-    if is_road(kind, s) {
+    if is_road(header.kind, s) {
         return Class::Road;
     }
-    if is_water(kind, s) {
+    if is_water(header.kind, s) {
         return Class::Water;
     }
     if ends_in(b'+', s) {
@@ -120,14 +107,9 @@ pub fn index_of(class: Class) -> usize
 }
 
 // At least three letters, from `(` to `)`.
+#[tactic(auto, unfolding(crate::specs::Classes::is_surface))]
 pub fn is_surface(s: &[u8]) -> bool
     ensures { result ≡ is_surface s.now }
 {
-    if s.len() < SURFACE_LETTERS {
-        return false;
-    }
-    if !begins_with(b'(', s) {
-        return false;
-    }
-    ends_in(b')', s)
+    s.len() >= SURFACE_LETTERS && begins_with(b'(', s) && ends_in(b')', s)
 }

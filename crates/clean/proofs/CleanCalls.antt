@@ -9,10 +9,9 @@ use Rattle.record.specs.declared.Mode.{Mode}
 use Rattle.record.specs.declared.Mode.TheVariants.{Loose}
 use Rattle.sheet.specs.Tables.{Tables}
 use Rattle.sheet.specs.Reading.{reading}
-use Rattle.made.specs.Made.{tables_of}
-use Rattle.reader.specs.Read.{read_of, tables_in, counts_of}
+use Rattle.made.specs.Made.{tables, tables_of}
+use Rattle.reader.specs.Read.{Answer, read_of, tables_in, header_of, counts_of}
 use Rattle.reader.specs.Exit.{rooms_in, answer_to, at_exit, exit_of}
-use Rattle.reader.specs.declared.Outcome.{Outcome}
 use Rattle.reader.specs.contracts.read_as as read_as
 use Rattle.reader.proofs.read_as.Reads as read-as-reads
 use Rattle.writer.specs.contracts.write as write
@@ -40,29 +39,29 @@ module _ (κs : Lfts 5) (a : ArgsD read_as.signature κs) (r : ResD read_as.sign
 
     read-leaves : kept ≡ exit_of Loose src lent
     read-leaves =
-        let q : kept ≡ at_exit r.answer (tables_in (reading a.0 src)) lent = four post.1.0 post.1.1.0 post.1.1.1.0 post.1.1.1.1 in
-        q ∙ ap₂ (λ (x : Outcome) (m : Mode). at_exit x.answer (tables_in (reading m src)) lent) read-answers mode
+        let q : kept ≡ at_exit r (tables_in (reading a.0 src)) lent = four post.1.0 post.1.1.0 post.1.1.1.0 post.1.1.1.1 in
+        q ∙ ap₂ (λ (x : Answer) (m : Mode). at_exit x (tables_in (reading m src)) lent) read-answers mode
 
     -- and a call of `write` with what it answered and left
-    module _ (κt : Lfts 5) (b : ArgsD write.signature κt) (w : ResD write.signature κt) (f : AtExit write.ended κt) (past : write-reads.Learnt κt b w f) where
+    module _ (κt : Lfts 3) (b : ArgsD write.signature κt) (w : ResD write.signature κt) (f : AtExit write.ended κt) (past : write-reads.Learnt κt b w f) where
       abbrev pub handed : Tables
-      handed = tables_of b.1.1.0.now b.1.1.1.0.now b.1.1.1.1.0.now b.1.1.1.1.1.0.now
+      handed = tables b.0.now.lent
 
       abbrev pub out : List ℕ
-      out = b.1.1.1.1.1.1.0.now
+      out = b.1.0.now
 
       abbrev pub left : List ℕ
-      left = f.1.1.1.1.1.1.0.now
+      left = f.1.0.now
 
-      module _ (header : b.0 ≡ r.header) (count : b.1.0 ≡ (counts_of r.answer).rows) (tables : handed ≡ kept) where
-        header_is : b.0 ≡ (answer_to Loose src lent).header
-        header_is = header ∙ ap (λ (x : Outcome). x.header) read-answers
+      module _ (header : b.0.now.header ≡ header_of r) (count : b.0.now.count ≡ (counts_of r).rows) (same : handed ≡ kept) where
+        header_is : b.0.now.header ≡ header_of (answer_to Loose src lent)
+        header_is = header ∙ ap header_of read-answers
 
-        count-is : b.1.0 ≡ (counts_of (answer_to Loose src lent).answer).rows
-        count-is = count ∙ ap (λ (x : Outcome). (counts_of x.answer).rows) read-answers
+        count-is : b.0.now.count ≡ (counts_of (answer_to Loose src lent)).rows
+        count-is = count ∙ ap (λ (x : Answer). (counts_of x).rows) read-answers
 
         tables-are : handed ≡ exit_of Loose src lent
-        tables-are = tables ∙ read-leaves
+        tables-are = same ∙ read-leaves
 
         -- **the answer of `write`, and its output at exit, are those of T-13's laws**
         pub calls-write : w ≡ written_of src lent out

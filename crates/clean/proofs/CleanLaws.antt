@@ -3,6 +3,7 @@ use mathlib.Core.Path.{◌≡◌, refl, sym, ◌∙◌, ap, ap₂}
 use mathlib.Core.List.{List}
 use mathlib.Core.Bool.{true}
 use Prim.Native.Nat.{ℕ, zero, suc, ◌≤◌}
+use Rattle.std.specs.Prelude.{Result, Ok, Err}
 use native.Mathlib.Omega.{arith}
 use lib.ListN.{length}
 use Rattle.laws.proofs.Choice.{and_left, and_right, and_both}
@@ -15,20 +16,18 @@ use Rattle.sheet.specs.Tables.{Tables, row_count}
 use Rattle.sheet.specs.Reading.{Reading, sheet, refused, meaning, reading}
 use Rattle.sheet.proofs.Meaning.{reading-meaning}
 use Rattle.sheet.proofs.Modes.{reading-widens}
-use Rattle.made.specs.declared.Verdict.TheVariants.{Fine}
 use Rattle.made.specs.Made.{kind_of, count_at, rest_of, is_coded, Before, none_before, past_row, judge_rows, judge_of, used_of}
 use Rattle.made.proofs.UsedLaws.{fine-on, fine_before}
 use Rattle.layout.proofs.ReadMade.{reading-made}
 use Rattle.layout.proofs.ReadWritten.{read-written}
-use Rattle.writer.specs.declared.Written.{Written}
-use Rattle.writer.specs.declared.Written.TheVariants.{Wrote, TooLong, NoRoom, Refused}
+use Rattle.writer.specs.declared.Unwritten.{Unwritten}
 use Rattle.writer.specs.Write.{write_of}
 use Rattle.writer.proofs.WriteLaws.{judged-fine, rows-fine, wrote-only, write-fine, written_read}
 use Rattle.clean.specs.Clean.{text_of, clean, as_written, as_read, clean_of, are_listed}
 
 -- ---- listed codes: what exact mode asks of a sheet beyond well made
 
-listed-exact : (n : ℕ) (b : Before) (t : Tables) → judge_rows Loose n b t ≡ Fine → are_listed n t ≡ true → judge_rows Exact n b t ≡ Fine
+listed-exact : (n : ℕ) (b : Before) (t : Tables) → judge_rows Loose n b t ≡ Ok tt → are_listed n t ≡ true → judge_rows Exact n b t ≡ Ok tt
 unfolding judge_rows are_listed
 listed-exact zero b t e l = refl
 listed-exact (suc n) b t e l =
@@ -37,7 +36,7 @@ listed-exact (suc n) b t e l =
     let rest = listed-exact n (past_row b t) (rest_of t) f.1 (and_right c (are_listed n (rest_of t)) l) in
     fine_before Exact n b t f.0 f.2 (and_left c (are_listed n (rest_of t)) l) rest
 
-exact-listed : (n : ℕ) (b : Before) (t : Tables) → judge_rows Exact n b t ≡ Fine → are_listed n t ≡ true
+exact-listed : (n : ℕ) (b : Before) (t : Tables) → judge_rows Exact n b t ≡ Ok tt → are_listed n t ≡ true
 unfolding are_listed
 exact-listed zero b t e = refl
 exact-listed (suc n) b t e =
@@ -52,10 +51,10 @@ pub record Cleanable (bs : List ℕ) (h : Header) (o : Tables) : Type 0 where
   pub fits : length (text_of h o) ≤ file_most
 
 module _ {bs : List ℕ} {h : Header} {o : Tables} (c : Cleanable bs h o) where
-  made : (is_header h ≡ true) × (judge_rows Loose (row_count o) none_before o ≡ Fine) × (used_of (row_count o) o ≡ o)
+  made : (is_header h ≡ true) × (judge_rows Loose (row_count o) none_before o ≡ Ok tt) × (used_of (row_count o) o ≡ o)
   made = let m = reading-made Loose bs h o (reading-meaning Loose bs h o c.accepted).1 in (m.0, m.1, m.2)
 
-  pub cleanable-fine : judge_of Exact h (row_count o) o ≡ Fine
+  pub cleanable-fine : judge_of Exact h (row_count o) o ≡ Ok tt
   cleanable-fine = judged-fine Exact h (row_count o) o made.0 (listed-exact (row_count o) none_before o made.1 c.codes)
 
   -- its clean file is its sheet's text
@@ -63,7 +62,7 @@ module _ {bs : List ℕ} {h : Header} {o : Tables} (c : Cleanable bs h o) where
   unfolding clean_of
   cleaned =
       ap as_read c.accepted
-      ∙ ap (λ (w : Written). as_written w (text_of h o)) (write-fine h (row_count o) o (length (text_of h o)) cleanable-fine c.fits (omega arith))
+      ∙ ap (λ (w : Result ℕ Unwritten). as_written w (text_of h o)) (write-fine h (row_count o) o (length (text_of h o)) cleanable-fine c.fits (omega arith))
 
   -- which exact mode reads as the same header and elements
   pub text-exact : reading Exact (text_of h o) ≡ sheet h o
@@ -76,7 +75,7 @@ pub record Cleans (bs s : List ℕ) : Type 0 where
   pub can : Cleanable bs header elements
   pub is : s ≡ text_of header elements
 
-pub wrote-listed : (bs : List ℕ) (h : Header) (o : Tables) (room n : ℕ) → reading Loose bs ≡ sheet h o → write_of h (row_count o) o room ≡ Wrote n → Cleanable bs h o
+pub wrote-listed : (bs : List ℕ) (h : Header) (o : Tables) (room n : ℕ) → reading Loose bs ≡ sheet h o → write_of h (row_count o) o room ≡ Ok n → Cleanable bs h o
 unfolding write_of
 wrote-listed bs h o room n e q =
     let w = wrote-only (judge_of Exact h (row_count o) o) (length (text_of h o)) room n q in
@@ -86,18 +85,16 @@ pub clean-only : (bs s : List ℕ) → clean_of bs ≡ clean s → Cleans bs s
 unfolding clean_of
 clean-only bs s q = by (reading Loose bs) refl q
   where
-    wrote : (h : Header) (o : Tables) → reading Loose bs ≡ sheet h o → (w : Written) → write_of h (row_count o) o (length (text_of h o)) ≡ w → as_written w (text_of h o) ≡ clean s → Cleans bs s
-    wrote h o e (Wrote n) f p =
+    wrote : (h : Header) (o : Tables) → reading Loose bs ≡ sheet h o → (w : Result ℕ Unwritten) → write_of h (row_count o) o (length (text_of h o)) ≡ w → as_written w (text_of h o) ≡ clean s → Cleans bs s
+    wrote h o e (Ok n) f p =
         let q : clean (text_of h o) ≡ clean s = p in
         let z : s ≡ text_of h o = cc in
         record { header = h; elements = o; can = wrote-listed bs h o (length (text_of h o)) n e f; is = z }
-    wrote h o e TooLong f p = absurd (let y : ◌≡◌ {A = ℕ} 0 1 = cc in omega arith)
-    wrote h o e (NoRoom n) f p = absurd (let y : ◌≡◌ {A = ℕ} 0 1 = cc in omega arith)
-    wrote h o e (Refused v) f p = absurd (let y : ◌≡◌ {A = ℕ} 0 1 = cc in omega arith)
+    wrote h o e (Err x) f p = absurd cc
 
     by : (x : Reading) → reading Loose bs ≡ x → as_read x ≡ clean s → Cleans bs s
     by (sheet h o) e p = wrote h o e (write_of h (row_count o) o (length (text_of h o))) refl p
-    by (refused m k at) e p = absurd (let y : ◌≡◌ {A = ℕ} 0 1 = cc in omega arith)
+    by (refused m k at) e p = absurd cc
 
 -- ---- T-13, sentence by sentence
 

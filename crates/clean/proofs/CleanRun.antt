@@ -4,7 +4,7 @@ use mathlib.Core.Path.{◌≡◌, refl, sym, ◌∙◌, ap, ap₂}
 use mathlib.Core.List.{List}
 use mathlib.Core.Bool.{Bool, true, false}
 use Prim.Native.Nat.{ℕ, ◌≤◌}
-use native.Mathlib.Omega.{arith}
+use Rattle.std.specs.Prelude.{Result, Ok}
 use lib.ListN.{length, drop}
 use lib.Seq.{take_at}
 use Rattle.laws.specs.Lists.{over}
@@ -18,12 +18,10 @@ use Rattle.made.specs.Made.{judge_of, used_of}
 use Rattle.layout.specs.Sheet.{sheet_text}
 use Rattle.layout.proofs.UsedLaws.{text-used, read-used}
 use Rattle.reader.specs.Columns.{reading_column}
-use Rattle.reader.specs.Read.{needs_of, holds_all, read_with, answered, read_of, tables_in, counts_of}
+use Rattle.reader.specs.Read.{Answer, needs_of, holds_all, read_with, answered, read_of, tables_in, header_of, counts_of}
 use Rattle.reader.specs.Exit.{rooms_in, answer_to, at_exit}
-use Rattle.reader.specs.declared.Outcome.{Outcome}
 use Rattle.reader.proofs.ReadLaws.{is_read, is-no-room}
-use Rattle.writer.specs.declared.Written.{Written}
-use Rattle.writer.specs.declared.Written.TheVariants.{Wrote}
+use Rattle.writer.specs.declared.Unwritten.{Unwritten}
 use Rattle.writer.specs.Write.{write_of, output_of}
 use Rattle.writer.proofs.WriteLaws.{wrote-only, write-fine, write-used}
 use Rattle.clean.specs.Clean.{text_of, clean, clean_of, written_of, left_of, bytes_of}
@@ -45,11 +43,11 @@ module _ (bs : List ℕ) (h : Header) (o old : Tables) (e : reading Loose bs ≡
 
 module _ (bs : List ℕ) (t : Tables) (out : List ℕ) where
   -- the writer's answer and output, by the reader's answer and what the file means
-  abbrev written_by : Outcome → Reading → Written
-  written_by x y = write_of x.header (counts_of x.answer).rows (at_exit x.answer (tables_in y) t) (length out)
+  abbrev written_by : Answer → Reading → Result ℕ Unwritten
+  written_by x y = write_of (header_of x) (counts_of x).rows (at_exit x (tables_in y) t) (length out)
 
-  abbrev left_by : Outcome → Reading → List ℕ
-  left_by x y = output_of (written_by x y) (sheet_text x.header (counts_of x.answer).rows (at_exit x.answer (tables_in y) t)) out
+  abbrev left_by : Answer → Reading → List ℕ
+  left_by x y = output_of (written_by x y) (sheet_text (header_of x) (counts_of x).rows (at_exit x (tables_in y) t)) out
 
   -- a file that is read: the writer answers as for what was read alone
   module _ (h : Header) (o : Tables) (e : reading Loose bs ≡ sheet h o) (room : holds_all (needs_of o) (rooms_in t) ≡ true) where
@@ -62,12 +60,12 @@ module _ (bs : List ℕ) (t : Tables) (out : List ℕ) where
 
     left_is : left_of bs t out ≡ output_of (write_of h (row_count o) o (length out)) (text_of h o) out
     unfolding left_of written_of
-    left_is = ap₂ left_by read-in e ∙ ap₂ (λ (x : Written) (s : List ℕ). output_of x s out) (write-over bs h o t e (length out)) (text-over bs h o t e)
+    left_is = ap₂ left_by read-in e ∙ ap₂ (λ (x : Result ℕ Unwritten) (s : List ℕ). output_of x s out) (write-over bs h o t e (length out)) (text-over bs h o t e)
 
 -- what a refused reading answers is never written
-no-header : (n : ℕ) (t : Tables) (room m : ℕ) → write_of no_header n t room ≡ Wrote m → ⊥
+no-header : (n : ℕ) (t : Tables) (room m : ℕ) → write_of no_header n t room ≡ Ok m → ⊥
 unfolding write_of judge_of is_header
-no-header n t room m e = let y : ◌≡◌ {A = ℕ} 0 1 = cc in omega arith
+no-header n t room m e = cc
 
 -- a file that was cleaned: loose mode accepts it as h and o with only listed codes, its text fits the length limit, and the tables t and the output have room
 pub record Run (bs : List ℕ) (h : Header) (o t : Tables) (out : List ℕ) : Type 0 where
@@ -77,10 +75,10 @@ pub record Run (bs : List ℕ) (h : Header) (o t : Tables) (out : List ℕ) : Ty
 
 -- then `write` answers the length of the sheet's text, and the output holds it, and behind it what it held; the bytes that were written are that text
 module _ {bs : List ℕ} {h : Header} {o t : Tables} {out : List ℕ} (c : Run bs h o t out) where
-  wrote : write_of h (row_count o) o (length out) ≡ Wrote (length (text_of h o))
+  wrote : write_of h (row_count o) o (length out) ≡ Ok (length (text_of h o))
   wrote = write-fine h (row_count o) o (length out) (cleanable-fine c.can) c.can.fits c.room
 
-  pub run-writes : (written_of bs t out ≡ Wrote (length (text_of h o))) × (left_of bs t out ≡ over (text_of h o) out)
+  pub run-writes : (written_of bs t out ≡ Ok (length (text_of h o))) × (left_of bs t out ≡ over (text_of h o) out)
   run-writes = (written_is bs t out h o c.can.accepted c.tables ∙ wrote, left_is bs t out h o c.can.accepted c.tables ∙ rw wrote refl)
 
   pub run-bytes : bytes_of bs t out ≡ text_of h o
@@ -91,18 +89,18 @@ module _ {bs : List ℕ} {h : Header} {o t : Tables} {out : List ℕ} (c : Run b
   pub run-clean : clean_of bs ≡ clean (bytes_of bs t out)
   run-clean = cleaned c.can ∙ ap clean (sym run-bytes)
 
-wrote-room : (h : Header) (o : Tables) (room n : ℕ) → write_of h (row_count o) o room ≡ Wrote n → length (text_of h o) ≤ room
+wrote-room : (h : Header) (o : Tables) (room n : ℕ) → write_of h (row_count o) o room ≡ Ok n → length (text_of h o) ≤ room
 unfolding write_of
 wrote-room h o room n w = (wrote-only (judge_of Exact h (row_count o) o) (length (text_of h o)) room n w).space
 
 -- and where `write` answers a length, the file was cleaned
-pub writes-run : (bs : List ℕ) (t : Tables) (out : List ℕ) (n : ℕ) → written_of bs t out ≡ Wrote n → (h : Header) × (o : Tables) × Run bs h o t out
+pub writes-run : (bs : List ℕ) (t : Tables) (out : List ℕ) (n : ℕ) → written_of bs t out ≡ Ok n → (h : Header) × (o : Tables) × Run bs h o t out
 unfolding written_of read_of
 writes-run bs t out n q = by (reading Loose bs) refl
   where
     read : (h : Header) (o : Tables) → reading Loose bs ≡ sheet h o → (b : Bool) → holds_all (needs_of o) (rooms_in t) ≡ b → (h : Header) × (o : Tables) × Run bs h o t out
     read h o e true f =
-        let w : write_of h (row_count o) o (length out) ≡ Wrote n = sym (written_is bs t out h o e f) ∙ q in
+        let w : write_of h (row_count o) o (length out) ≡ Ok n = sym (written_is bs t out h o e f) ∙ q in
         (h, o, record { can = wrote-listed bs h o (length out) n e w; tables = f; room = wrote-room h o (length out) n w })
     read h o e false f =
         absurd (no-header (needs_of o).rows t (length out) n (sym (ap₂ (written_by bs t out) (is-no-room Loose bs (rooms_in t) h o e f) e) ∙ q))
@@ -136,8 +134,8 @@ module _ {bs : List ℕ} {h : Header} {o t : Tables} {out : List ℕ} (c : Run b
 
 -- **a file that exact mode accepts is its own clean file**, where tables and output have room
 pub exact-run : (bs : List ℕ) (h : Header) (o t : Tables) (out : List ℕ) → reading Exact bs ≡ sheet h o → holds_all (needs_of o) (rooms_in t) ≡ true → length bs ≤ length out
-    → (written_of bs t out ≡ Wrote (length bs)) × (left_of bs t out ≡ over bs out) × (bytes_of bs t out ≡ bs)
+    → (written_of bs t out ≡ Ok (length bs)) × (left_of bs t out ≡ over bs out) × (bytes_of bs t out ≡ bs)
 exact-run bs h o t out e tables room =
     let q = exact-text bs h o e in
     let r : Run bs h o t out = record { can = exact-cleanable bs h o e; tables = tables; room = rw q room } in
-    ((run-writes r).0 ∙ ap (λ (z : List ℕ). Wrote (length z)) q, (run-writes r).1 ∙ ap (λ (z : List ℕ). over z out) q, run-bytes r ∙ q)
+    ((run-writes r).0 ∙ ap (λ (z : List ℕ). Ok (length z)) q, (run-writes r).1 ∙ ap (λ (z : List ℕ). over z out) q, run-bytes r ∙ q)

@@ -1,10 +1,11 @@
 -- Clean files, computed: document 02, T-13. Assumes nothing.
 use Rattle.std.specs.Prelude.{ℕ, ◌≡◌, refl, List}
 use Rattle.laws.specs.Text.{text}
+use Rattle.record.specs.declared.refusal.Refusal.TheVariants.{Keyword}
 use Rattle.sheet.specs.Examples as Sheets
-use Rattle.made.specs.declared.Verdict.TheVariants.{Unlisted}
+use Rattle.made.specs.declared.Flaw.TheVariants.{Unlisted}
 use Rattle.layout.specs.Examples as Texts
-use Rattle.writer.specs.declared.Written.TheVariants.{Refused}
+use Rattle.writer.specs.declared.Unwritten.TheVariants.{Refused}
 use Rattle.writer.specs.Examples as Writings
 use Rattle.clean.specs.Clean.{Cleaning, clean, unread, unwritten, clean_of}
 
@@ -37,7 +38,7 @@ unfolding computed
 moved = refl
 
 -- the reading's refusal: no such keyword, in record 4, at byte 27; the writer's: a code that is not listed, in row 0
-refusals : (clean_of (text "MAPPA\nZ999_000100\n1000.000\nSIMBOLI\n") ≡ unread 7 4 27)
+refusals : (clean_of (text "MAPPA\nZ999_000100\n1000.000\nSIMBOLI\n") ≡ unread Keyword 4 27)
     × (clean_of (text "MAPPA\nZ999_000100\n1000.000\nSIMBOLO\n12\n0.000\n0.000\n0.000\nEOF\n") ≡ unwritten (Refused (Unlisted 0)))
 unfolding computed
 refusals = (refl, refl)

@@ -14,8 +14,7 @@ use Rattle.record.specs.declared.Mode.TheVariants.{Loose}
 use Rattle.kinds.specs.Kinds.{code_place, vertices_place, schedule, want_at}
 use Rattle.heading.specs.declared.Header.{Header}
 use Rattle.sheet.specs.Tables.{Tables}
-use Rattle.made.specs.declared.Verdict.TheVariants.{Fine}
-use Rattle.writer.specs.declared.Written.TheVariants.{Wrote}
+use Rattle.std.specs.Prelude.{Ok}
 use Rattle.writer.specs.Write.{output_of}
 use Rattle.made.specs.Made.{cell_at, count_at, kind_of, own_of, rest_of, has_field, in_range, is_made, Before, none_before, past_row, judge_rows, judge_of, used_of}
 use Rattle.made.proofs.OwnLaws.{cell-own, points-own, own_same}
@@ -49,7 +48,7 @@ good-line t e k =
       reals = r.points-real;
     }
 
-good-lines : (n : ℕ) (b : Before) (t : Tables) → judge_rows Loose n b t ≡ Fine → AllGood (polylines_of n t)
+good-lines : (n : ℕ) (b : Before) (t : Tables) → judge_rows Loose n b t ≡ Ok tt → AllGood (polylines_of n t)
 unfolding polylines_of AllGood
 good-lines zero b t e = tt
 good-lines (suc n) b t e =
@@ -65,13 +64,13 @@ unfolding cml_text
 cml-same n m t u e = rw e
 
 -- **unlike**: well made sheets that give the same bytes have the same lines
-pub cml-only : (h g : Header) (n m : ℕ) (t u : Tables) → judge_of Loose h n t ≡ Fine → judge_of Loose g m u ≡ Fine
+pub cml-only : (h g : Header) (n m : ℕ) (t u : Tables) → judge_of Loose h n t ≡ Ok tt → judge_of Loose g m u ≡ Ok tt
     → cml_text n t ≡ cml_text m u → polylines_of n t ≡ polylines_of m u
 unfolding cml_text
 cml-only h g n m t u e f q =
     elements-only (polylines_of n t) (polylines_of m u) (good-lines n none_before t (fine-rows h n t e)) (good-lines m none_before u (fine-rows g m u f)) q
 
-pub cml-unlike : (h g : Header) (n m : ℕ) (t u : Tables) → judge_of Loose h n t ≡ Fine → judge_of Loose g m u ≡ Fine
+pub cml-unlike : (h g : Header) (n m : ℕ) (t u : Tables) → judge_of Loose h n t ≡ Ok tt → judge_of Loose g m u ≡ Ok tt
     → (polylines_of n t ≡ polylines_of m u → ⊥) → cml_text n t ≡ cml_text m u → ⊥
 cml-unlike h g n m t u e f d q = d (cml-only h g n m t u e f q)
 
@@ -105,9 +104,9 @@ cml-used h n t room = rw (judge-used Loose h n t, cml-text-used n t)
 
 -- ---- the same of what is stored: where neither is refused
 
-module _ (h : Header) (n : ℕ) (t : Tables) (room k : ℕ) (e : cml_of h n t room ≡ Wrote k) where
+module _ (h : Header) (n : ℕ) (t : Tables) (room k : ℕ) (e : cml_of h n t room ≡ Ok k) where
   -- a sheet that is not refused is well made
-  pub cml-made : judge_of Loose h n t ≡ Fine
+  pub cml-made : judge_of Loose h n t ≡ Ok tt
   unfolding cml_of
   cml-made = (wrote-only (judge_of Loose h n t) (length (cml_text n t)) room k e).fine
 
@@ -118,7 +117,7 @@ module _ (h : Header) (n : ℕ) (t : Tables) (room k : ℕ) (e : cml_of h n t ro
       let s : length (cml_text n t) ≡ k = sym (wrote-only (judge_of Loose h n t) (length (cml_text n t)) room k e).long in
       rw e (take_at (cml_text n t) (drop (length (cml_text n t)) l) k s)
 
-module _ (h g : Header) (n m : ℕ) (t u : Tables) (room place j k : ℕ) (e : cml_of h n t room ≡ Wrote j) (f : cml_of g m u place ≡ Wrote k) (l d : List ℕ) where
+module _ (h g : Header) (n m : ℕ) (t u : Tables) (room place j k : ℕ) (e : cml_of h n t room ≡ Ok j) (f : cml_of g m u place ≡ Ok k) (l d : List ℕ) where
   abbrev first : List ℕ
   first = take j (output_of (cml_of h n t room) (cml_text n t) l)
 

@@ -8,28 +8,26 @@ use native.Mathlib.Omega.{arith}
 use lib.ListN.{length, drop, length-append, length-drop}
 use lib.Dec.{eqb, leb}
 use borrow.Author.Tests.{leb-true}
-use Rattle.laws.specs.Lists.{tail, over}
+use Rattle.laws.specs.Lists.{over}
 use Rattle.record.specs.declared.Mode.TheVariants.{Loose}
 use Rattle.record.specs.Refusals.{file_most}
 use Rattle.kinds.specs.Kinds.{vertices_place}
 use Rattle.heading.specs.declared.Header.{Header}
 use Rattle.sheet.specs.Tables.{Tables}
-use Rattle.made.specs.declared.Verdict.{Verdict}
-use Rattle.made.specs.declared.Verdict.TheVariants.{Fine}
+use Rattle.std.specs.Prelude.{Result, Ok}
+use Rattle.made.specs.declared.Flaw.{Flaw}
 use Rattle.made.specs.Made.{tables_of, kind_of, rest_of, is_made, Before, none_before, past_row, judge_rows, judge_of}
 use Rattle.made.proofs.UsedLaws.{fine-on}
-use Rattle.row.specs.declared.Stand.{Stand}
-use Rattle.row.specs.Walk.{cell_in, first_stand, next_stand, left_at}
+use Rattle.row.specs.Walk.{cell_in}
 use Rattle.row.proofs.SeekLaws.{fine-rows}
-use Rattle.row.proofs.Walk.{Walk, walk_start, walk-made, walk-on, one_more, tails_at, tails-are, left-next}
 use Rattle.writer.specs.Put.{Put}
-use Rattle.writer.specs.declared.Written.TheVariants.{Wrote}
 use Rattle.writer.specs.Write.{written_after}
 use Rattle.writer.proofs.Putting.{Putting, putting-start, putting-room, putting-on, putting-end}
 use Rattle.writer.proofs.RowFacts.{row_is, vertices-in}
+use Rattle.writer.proofs.Walk.{Passing, passing_start, one_more, passing-made, passing-on}
 use Rattle.writer.proofs.SheetWays.{wrote-whole}
 use Rattle.cml.specs.Element.{element_text, elements_text}
-use Rattle.cml.specs.Lines.{line_kind, polyline_of, polylines_of, cml_text, cml_of}
+use Rattle.cml.specs.Lines.{line_kind, polyline_of, polylines_of, cml_text}
 use Rattle.cml.specs.Spaced.{row_element, lines_most, Drawn}
 use Rattle.cml.proofs.CmlLaws.{line_code}
 use Rattle.cml.proofs.LineWays.{element-most}
@@ -57,89 +55,82 @@ cml-step n t = go (eqb (kind_of t) line_kind)
     go false = refl
 
 -- the first row of what is left, as the code hands it on
-abbrev pub here : Tables → Stand → Tables
-here t d = tables_of (tail t.rows d.row) [] [] (tail t.points d.points)
+abbrev pub here : Tables → Tables
+here u = tables_of u.rows [] [] u.points
 
-row-alone : (t : Tables) → row_element (tables_of t.rows [] [] t.points) ≡ row_element t
+row-alone : (t : Tables) → row_element (here t) ≡ row_element t
 unfolding row_element
 row-alone t = refl
 
-here-is : (t : Tables) (d : Stand) → row_element (here t d) ≡ row_element (tails_at t d)
-here-is t d = row-alone (tails_at t d)
+module _ {count k : ℕ} {u : Tables} (w : Passing Loose count k u) (h : k < count) where
+  pub passing-drawn : Drawn u.rows u.points
+  passing-drawn = drawn-row u (passing-made w h)
 
-module _ {t : Tables} {count : ℕ} {d : Stand} {k : ℕ} (w : Walk Loose t count d k) (h : k < count) where
-  pub walk-drawn : Drawn (tail t.rows d.row) (tail t.points d.points)
-  walk-drawn = drawn-row (tails_at t d) (walk-made w h)
-
-  pub lines-here : cml_text (count - k) (left_at t d) ≡ row_element (here t d) ++ cml_text (count - (k + 1)) (left_at t (next_stand t.rows d))
-  lines-here =
-      ap (λ (n : ℕ). cml_text n (left_at t d)) (one_more w h) ∙ cml-step (count - (k + 1)) (left_at t d)
-      ∙ rw (here-is t d, tails-are t d, left-next t d)
+  pub lines-here : cml_text (count - k) u ≡ row_element (here u) ++ cml_text (count - (k + 1)) (rest_of u)
+  lines-here = ap (λ (n : ℕ). cml_text n u) (one_more w h) ∙ cml-step (count - (k + 1)) u ∙ rw (row-alone u)
 
 lines-over : (t : Tables) (count k : ℕ) → count ≤ k → cml_text (count - k) t ≡ []
 unfolding cml_text polylines_of elements_text
 lines-over t count k h = let z : count - k ≡ 0 = omega arith in rw z
 
--- ---- the walk that measures
+-- ---- the loop that measures
 
-pub record Measured (t : Tables) (count : ℕ) (d : Stand) (total k : ℕ) : Type 0 where
-  pub walk : Walk Loose t count d k
+pub record Measured (t : Tables) (count : ℕ) (u : Tables) (total k : ℕ) : Type 0 where
+  pub passing : Passing Loose count k u
   pub small : total ≤ file_most
-  pub sum : length (cml_text count t) ≡ total + length (cml_text (count - k) (left_at t d))
+  pub sum : length (cml_text count t) ≡ total + length (cml_text (count - k) u)
 
-pub measured-start : (t : Tables) (count : ℕ) → judge_rows Loose count none_before t ≡ Fine → Measured t count first_stand 0 0
-measured-start t count e = record { walk = walk_start Loose t count e; small = omega arith; sum = rw (sub-zero count) (sym (zero-add (length (cml_text count t)))) }
+pub measured-start : (t : Tables) (count : ℕ) → judge_rows Loose count none_before t ≡ Ok tt → Measured t count t 0 0
+measured-start t count e = record { passing = passing_start Loose t count e; small = omega arith; sum = rw (sub-zero count) (sym (zero-add (length (cml_text count t)))) }
 
-module _ {t : Tables} {count : ℕ} {d : Stand} {total k : ℕ} (m : Measured t count d total k) where
-  module _ (h : k < count) {r : ℕ} (q : r ≡ length (row_element (here t d))) where
-    measured-row : length (cml_text count t) ≡ total + r + length (cml_text (count - (k + 1)) (left_at t (next_stand t.rows d)))
+module _ {t : Tables} {count : ℕ} {u : Tables} {total k : ℕ} (m : Measured t count u total k) where
+  module _ (h : k < count) {r : ℕ} (q : r ≡ length (row_element (here u))) where
+    measured-row : length (cml_text count t) ≡ total + r + length (cml_text (count - (k + 1)) (rest_of u))
     measured-row =
         omega (
           arith,
           m.sum,
-          ap length (lines-here m.walk h),
-          length-append (row_element (here t d)) (cml_text (count - (k + 1)) (left_at t (next_stand t.rows d))),
+          ap length (lines-here m.passing h),
+          length-append (row_element (here u)) (cml_text (count - (k + 1)) (rest_of u)),
           q,
         )
 
     pub measured-most : r < 500000
     measured-most =
-        let g = walk-drawn m.walk h in
-        omega (arith, q, element-most (tail t.rows d.row) (tail t.points d.points) g, g.vertices-most)
+        let g = passing-drawn m.passing h in
+        omega (arith, q, element-most u.rows u.points g, g.vertices-most)
 
-    pub measured-on : (e : Stand) → e ≡ next_stand t.rows d → total + r ≤ file_most → Measured t count e (total + r) (k + 1)
-    measured-on e f s = rw f (record { walk = walk-on m.walk h (next_stand t.rows d) refl; small = s; sum = measured-row })
+    pub measured-on : (v : Tables) → v ≡ rest_of u → total + r ≤ file_most → Measured t count v (total + r) (k + 1)
+    measured-on v f s = rw f (record { passing = passing-on m.passing h; small = s; sum = measured-row })
 
     pub measured-high : file_most < total + r → file_most + 1 ≡ min (length (cml_text count t)) (file_most + 1)
     measured-high s = omega (arith, measured-row)
 
   pub measured-end : count ≤ k → total ≡ min (length (cml_text count t)) (file_most + 1)
-  measured-end h = omega (arith, m.sum, m.small, ap length (lines-over (left_at t d) count k h))
+  measured-end h = omega (arith, m.sum, m.small, ap length (lines-over u count k h))
 
--- ---- the walk that writes
+-- ---- the loop that writes
 
-pub record Writing (t : Tables) (count : ℕ) (l : List ℕ) (d : Stand) (out : List ℕ) (next k : ℕ) : Type 0 where
-  pub walk : Walk Loose t count d k
-  pub puts : Putting l 0 (cml_text count t) out next (cml_text (count - k) (left_at t d))
+pub record Writing (t : Tables) (count : ℕ) (l : List ℕ) (u : Tables) (out : List ℕ) (next k : ℕ) : Type 0 where
+  pub passing : Passing Loose count k u
+  pub puts : Putting l 0 (cml_text count t) out next (cml_text (count - k) u)
 
-pub writing_start : (t : Tables) (count : ℕ) (l : List ℕ) → judge_rows Loose count none_before t ≡ Fine → length (cml_text count t) ≤ length l
-    → Writing t count l first_stand l 0 0
+pub writing_start : (t : Tables) (count : ℕ) (l : List ℕ) → judge_rows Loose count none_before t ≡ Ok tt → length (cml_text count t) ≤ length l
+    → Writing t count l t l 0 0
 writing_start t count l e h =
-    record { walk = walk_start Loose t count e; puts = rw (sub-zero count) (putting-start l 0 (cml_text count t) (omega arith)) }
+    record { passing = passing_start Loose t count e; puts = rw (sub-zero count) (putting-start l 0 (cml_text count t) (omega arith)) }
 
-module _ {t : Tables} {count : ℕ} {l : List ℕ} {d : Stand} {out : List ℕ} {next k : ℕ} (m : Writing t count l d out next k) where
+module _ {t : Tables} {count : ℕ} {l : List ℕ} {u : Tables} {out : List ℕ} {next k : ℕ} (m : Writing t count l u out next k) where
   module _ (h : k < count) where
-    pub writing-room : next + length (row_element (here t d)) ≤ length out
-    writing-room = putting-room m.puts (row_element (here t d)) _ (lines-here m.walk h)
+    pub writing-room : next + length (row_element (here u)) ≤ length out
+    writing-room = putting-room m.puts (row_element (here u)) _ (lines-here m.passing h)
 
-    pub writing-on : {e : Stand} {x : List ℕ} {r : ℕ} → e ≡ next_stand t.rows d → Put out next (row_element (here t d)) x r
-        → Writing t count l e x r (k + 1)
-    writing-on {e} {x} {r} f p =
-        rw f (record { walk = walk-on m.walk h (next_stand t.rows d) refl; puts = putting-on m.puts (row_element (here t d)) _ (lines-here m.walk h) p })
+    pub writing-on : {v : Tables} {x : List ℕ} {r : ℕ} → v ≡ rest_of u → Put out next (row_element (here u)) x r → Writing t count l v x r (k + 1)
+    writing-on {v} {x} {r} f p = rw f (record { passing = passing-on m.passing h; puts = putting-on m.puts (row_element (here u)) _ (lines-here m.passing h) p })
 
   module _ (h : count ≤ k) where
     written : Put l 0 (cml_text count t) out next
-    written = putting-end m.puts (lines-over (left_at t d) count k h)
+    written = putting-end m.puts (lines-over u count k h)
 
     pub writing-length : next ≡ length (cml_text count t)
     writing-length = written.next ∙ zero-add (length (cml_text count t))
@@ -149,7 +140,7 @@ module _ {t : Tables} {count : ℕ} {l : List ℕ} {d : Stand} {out : List ℕ} 
 
 -- ---- room whatever the numbers are
 
-lines-most : (n : ℕ) (b : Before) (t : Tables) → judge_rows Loose n b t ≡ Fine → length (cml_text n t) ≤ lines_most n (length t.points)
+lines-most : (n : ℕ) (b : Before) (t : Tables) → judge_rows Loose n b t ≡ Ok tt → length (cml_text n t) ≤ lines_most n (length t.points)
 unfolding cml_text polylines_of elements_text
 lines-most zero b t e = omega arith
 lines-most (suc n) b t e =
@@ -166,22 +157,17 @@ lines-most (suc n) b t e =
       length-drop (2 * cell_in t.rows vertices_place) t.points,
     )
 
-module _ (t : Tables) (count room : ℕ) (e : judge_rows Loose count none_before t ≡ Fine) {b : Bool} (q : b ≡ leb (lines_most count (length t.points)) (min file_most room)) (h : b ≡ true) where
+module _ (t : Tables) (count room : ℕ) (e : judge_rows Loose count none_before t ≡ Ok tt) {b : Bool} (q : b ≡ leb (lines_most count (length t.points)) (min file_most room)) (h : b ≡ true) where
   roomy : length (cml_text count t) ≤ min file_most room
   roomy = omega (arith, lines-most count none_before t e, leb-true (lines_most count (length t.points)) (min file_most room) (sym q ∙ h))
 
   pub roomy-room : length (cml_text count t) ≤ room
   roomy-room = omega (arith, roomy)
 
-  pub roomy-wrote : {n : ℕ} → n ≡ length (cml_text count t) → Wrote n ≡ written_after Fine (length (cml_text count t)) room
+  pub roomy-wrote : {n : ℕ} → n ≡ length (cml_text count t) → Ok n ≡ written_after (Ok tt) (length (cml_text count t)) room
   roomy-wrote {n} p = wrote-whole (length (cml_text count t)) room n (omega (arith, p, roomy)) (omega (arith, p, roomy)) (omega (arith, p, roomy))
 
--- ---- the answer is the verdict's that the code found
+-- ---- the rows of a sheet that was judged
 
-pub answered : (h : Header) (count : ℕ) (t : Tables) {v w : Verdict} → v ≡ judge_of Loose h count t → v ≡ w → (room : ℕ)
-    → written_after w (length (cml_text count t)) room ≡ cml_of h count t room
-unfolding cml_of
-answered h count t e f room = ap (λ (x : Verdict). written_after x (length (cml_text count t)) room) (sym f ∙ e)
-
-pub judged-lines : (h : Header) (count : ℕ) (t : Tables) {v : Verdict} → v ≡ judge_of Loose h count t → v ≡ Fine → judge_rows Loose count none_before t ≡ Fine
+pub judged-lines : (h : Header) (count : ℕ) (t : Tables) {v : Result Unit Flaw} → v ≡ judge_of Loose h count t → v ≡ Ok tt → judge_rows Loose count none_before t ≡ Ok tt
 judged-lines h count t e f = fine-rows h count t (sym e ∙ f)

@@ -1,14 +1,14 @@
 -- Lines written as CML, computed: document 02, T-11. Assumes nothing.
-use Rattle.std.specs.Prelude.{ℕ, zero, suc, ◌≡◌, refl, List, [], ◌∷◌, ◌++◌, length, ℤ, pos, negsuc}
+use Rattle.std.specs.Prelude.{ℕ, zero, suc, ◌≡◌, refl, List, [], ◌∷◌, ◌++◌, length, ℤ, pos, negsuc, Result, Ok, Err}
 use Rattle.laws.specs.Text.{text}
 use Rattle.heading.specs.declared.Header.{Header}
 use Rattle.sheet.specs.Tables.{Tables}
 use Rattle.spelling.specs.Spelling.{digits, places, count_text, minus, decimal, bare_real}
-use Rattle.made.specs.declared.Verdict.TheVariants.{BadHeader, Faulty}
+use Rattle.made.specs.declared.Flaw.TheVariants.{BadHeader, Faulty}
 use Rattle.made.specs.Made.{tables_of}
 use Rattle.made.specs.Examples.{header, symbol, line, book, ring, computed as computed_verdict}
-use Rattle.writer.specs.declared.Written.{Written}
-use Rattle.writer.specs.declared.Written.TheVariants.{Wrote, NoRoom, Refused}
+use Rattle.writer.specs.declared.Unwritten.{Unwritten}
+use Rattle.writer.specs.declared.Unwritten.TheVariants.{NoRoom, Refused}
 use Rattle.cml.specs.Element.{pair_text, parted_text, pairs_text, coord_text, coord_count, coords_text, outside_word, opening, start_tag, element_text, elements_text}
 use Rattle.cml.specs.Lines.{polylines_of, cml_text, cml_of}
 use Rattle.cml.specs.Spaced.{gap, gaps_to, mark, spaced_text}
@@ -18,7 +18,7 @@ unfoldable pub computed_text : ℕ → Tables → List ℕ
 unfolding cml_text polylines_of elements_text element_text start_tag opening outside_word coords_text coord_text pairs_text parted_text pair_text count_text bare_real digits minus decimal places
 computed_text count t = cml_text count t
 
-unfoldable pub computed : Header → ℕ → Tables → ℕ → Written
+unfoldable pub computed : Header → ℕ → Tables → ℕ → Result ℕ Unwritten
 unfolding cml_of computed_verdict computed_text
 computed h count t room = cml_of h count t room
 
@@ -71,12 +71,12 @@ no_lines = (refl, refl)
 abbrev one : Tables
 one = tables_of (line 2) [] [] (ring 0)
 
-room : (cml_of (header 1) 1 one 107 ≡ Wrote 107) × (cml_of (header 1) 1 one 108 ≡ Wrote 107) × (cml_of (header 1) 1 one 106 ≡ NoRoom 107)
-    × (cml_of (header 1) 1 (tables_of (symbol 12) [] [] []) 0 ≡ Wrote 0)
+room : (cml_of (header 1) 1 one 107 ≡ Ok 107) × (cml_of (header 1) 1 one 108 ≡ Ok 107) × (cml_of (header 1) 1 one 106 ≡ Err (NoRoom 107))
+    × (cml_of (header 1) 1 (tables_of (symbol 12) [] [] []) 0 ≡ Ok 0)
 unfolding computed
 room = (refl, refl, refl, refl)
 
 -- 6 first, then row by row 15, before the room
-refused : (cml_of (header 4) 1 one 0 ≡ Refused BadHeader) × (cml_of (header 1) 2 one 0 ≡ Refused (Faulty 1)) × (cml_of (header 1) 1 (tables_of (line 1) [] [] (ring 0)) 0 ≡ Refused (Faulty 0))
+refused : (cml_of (header 4) 1 one 0 ≡ Err (Refused BadHeader)) × (cml_of (header 1) 2 one 0 ≡ Err (Refused (Faulty 1))) × (cml_of (header 1) 1 (tables_of (line 1) [] [] (ring 0)) 0 ≡ Err (Refused (Faulty 0)))
 unfolding computed
 refused = (refl, refl, refl)

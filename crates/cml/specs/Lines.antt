@@ -1,11 +1,11 @@
 -- The lines of a sheet, and its text as CML: document 02, T-11. Assumes nothing: these are definitions.
-use Rattle.std.specs.Prelude.{ℕ, zero, suc, List, [], ◌∷◌, cond, length, eqb}
+use Rattle.std.specs.Prelude.{ℕ, zero, suc, List, [], ◌∷◌, cond, length, eqb, Result}
 use Rattle.record.specs.declared.Mode.TheVariants.{Loose}
 use Rattle.kinds.specs.Kinds.{code_place}
 use Rattle.heading.specs.declared.Header.{Header}
 use Rattle.sheet.specs.Tables.{Tables}
 use Rattle.made.specs.Made.{count_at, kind_of, points_of, rest_of, judge_of}
-use Rattle.writer.specs.declared.Written.{Written}
+use Rattle.writer.specs.declared.Unwritten.{Unwritten}
 use Rattle.writer.specs.Write.{written_after}
 use Rattle.cml.specs.Element.{Polyline, elements_text}
 
@@ -27,5 +27,5 @@ unfoldable pub cml_text : ℕ → Tables → List ℕ
 cml_text count t = elements_text (polylines_of count t)
 
 -- the answer, for an output of `room` bytes: the header (6), the sheet (15), the length (1), the room (14); any code is taken
-unfoldable pub cml_of : Header → ℕ → Tables → ℕ → Written
+unfoldable pub cml_of : Header → ℕ → Tables → ℕ → Result ℕ Unwritten
 cml_of h count t room = written_after (judge_of Loose h count t) (length (cml_text count t)) room

@@ -3,14 +3,13 @@
 // refusal alters nothing, and past the text nothing is altered.
 #![tactic(auto)]
 
-ghost use Rattle.std.specs.Prelude.{◌≡◌, true, leb, [], ◌++◌, ◌+◌, ◌*◌, ◌≤◌, min, length};
+ghost use Rattle.std.specs.Prelude.{◌≡◌, true, leb, [], ◌++◌, ◌+◌, ◌*◌, ◌≤◌, min, length, Ok};
 ghost use Rattle.laws.specs.Lists.{over};
 ghost use Rattle.record.specs.Refusals.{file_most};
 ghost use Rattle.record.specs.declared.Mode.TheVariants.{Loose};
 ghost use Rattle.number.specs.Number.{is_real};
 ghost use Rattle.spelling.specs.Spelling.{bare_real};
-ghost use Rattle.made.specs.declared.Verdict.TheVariants.{Fine};
-ghost use Rattle.made.specs.Made.{tables_of, are_reals, none_before, judge_rows};
+ghost use Rattle.made.specs.Made.{tables, tables_of, are_reals, none_before, judge_rows};
 ghost use Rattle.writer.specs.Write.{written_after, output_of};
 ghost use Rattle.row.specs.Walk.{cell_in};
 ghost use Rattle.writer.specs.Put.{Put};
@@ -18,12 +17,10 @@ ghost use Rattle.cml.specs.Element.{opening, start_tag, element_text};
 ghost use Rattle.cml.specs.Lines.{line_kind, polyline_of, cml_text, cml_of};
 ghost use Rattle.cml.specs.Spaced.{gap, gaps_to, mark, spaced_text, row_element, lines_most, Drawn};
 
-use heading::Header;
-use made::{Verdict, count_at, judge};
+use made::{Lent, Sheet, count_at, judge, rest_of};
 use record::{FILE_MOST, Mode};
-use row::{Stand, stand_next};
 use spelling::{bare_size, digit_count, put_bare, put_bytes, put_count};
-use writer::Written;
+use writer::Unwritten;
 
 // The vertices that a COORD holds at most.
 const COORD_MOST: usize = 1000;
@@ -85,11 +82,8 @@ fn put_coordinates(out: &mut [u8], at: usize, s: &[i64]) -> usize
     ensures { Put out.old at (spaced_text 0 s.now) out.new result }
 {
     let mut next = at;
-    let mut j = 0;
-    while j < s.len() {
-        let value = s[j];
+    for (j, &value) in s.iter().enumerate() {
         next = put_coordinate(out, next, j, value);
-        j += 1;
     }
     next
 }
@@ -154,33 +148,17 @@ fn put_row(out: &mut [u8], at: usize, rows: &[i64], points: &[i64]) -> usize
 }
 
 // The elements of all rows; the answer is the place behind them.
-fn put_lines(
-    out: &mut [u8],
-    count: usize,
-    rows: &[i64],
-    letters: &[u8],
-    islands: &[u16],
-    points: &[i64],
-) -> usize
-    requires points_value { judge_rows Loose count none_before (tables_of rows.now letters.now islands.now points.now) ≡ Fine }
-    requires points_in_bounds { length (cml_text count (tables_of rows.now letters.now islands.now points.now)) ≤ length out.old }
-    ensures value { result ≡ length (cml_text count (tables_of rows.now letters.now islands.now points.now)) }
-    ensures out_after { out.new ≡ over (cml_text count (tables_of rows.now letters.now islands.now points.now)) out.old }
+fn put_lines(out: &mut [u8], count: usize, lent: &Lent<'_>) -> usize
+    requires lent_value { judge_rows Loose count none_before (tables lent.now) ≡ Ok tt }
+    requires lent_in_bounds { length (cml_text count (tables lent.now)) ≤ length out.old }
+    ensures value { result ≡ length (cml_text count (tables lent.now)) }
+    ensures out_after { out.new ≡ over (cml_text count (tables lent.now)) out.old }
 {
-    let mut d = Stand {
-        row: 0,
-        letters: 0,
-        islands: 0,
-        points: 0,
-    };
+    let mut left = *lent;
     let mut next = 0;
-    let mut k = 0;
-    while k < count {
-        let r = d.row;
-        let p = d.points;
-        next = put_row(out, next, &rows[r..], &points[p..]);
-        d = stand_next(rows, d);
-        k += 1;
+    for _ in 0..count {
+        next = put_row(out, next, left.rows, left.points);
+        left = rest_of(&left);
     }
     next
 }
@@ -190,9 +168,7 @@ fn pair_size(x: i64, y: i64) -> usize
     requires { (is_real x ≡ true) × (is_real y ≡ true) }
     ensures { result ≡ length (bare_real x) + length (bare_real y) }
 {
-    let first = bare_size(x);
-    let second = bare_size(y);
-    first + second
+    bare_size(x) + bare_size(y)
 }
 
 // The bytes that stand before n vertices: one before each but the first, and 14 more where a COORD is full.
@@ -213,12 +189,8 @@ fn pairs_size(n: usize, s: &[i64]) -> usize
     ensures { result ≡ length (spaced_text 0 s.now) }
 {
     let mut total = 0;
-    let mut i = 0;
-    while i < n {
-        let x = s[2 * i];
-        let y = s[2 * i + 1];
-        total += pair_size(x, y);
-        i += 1;
+    for i in 0..n {
+        total += pair_size(s[2 * i], s[2 * i + 1]);
     }
     total + n + gaps_size(n)
 }
@@ -240,27 +212,18 @@ fn row_size(rows: &[i64], points: &[i64]) -> usize
 }
 
 // The bytes of all elements; one more than a file may have where they are too many.
-fn lines_size(count: usize, rows: &[i64], letters: &[u8], islands: &[u16], points: &[i64]) -> usize
-    requires { judge_rows Loose count none_before (tables_of rows.now letters.now islands.now points.now) ≡ Fine }
-    ensures { result ≡ min (length (cml_text count (tables_of rows.now letters.now islands.now points.now))) (file_most + 1) }
+fn lines_size(count: usize, lent: &Lent<'_>) -> usize
+    requires { judge_rows Loose count none_before (tables lent.now) ≡ Ok tt }
+    ensures { result ≡ min (length (cml_text count (tables lent.now))) (file_most + 1) }
 {
-    let mut d = Stand {
-        row: 0,
-        letters: 0,
-        islands: 0,
-        points: 0,
-    };
+    let mut left = *lent;
     let mut total = 0;
-    let mut k = 0;
-    while k < count {
-        let r = d.row;
-        let p = d.points;
-        total += row_size(&rows[r..], &points[p..]);
+    for _ in 0..count {
+        total += row_size(left.rows, left.points);
         if total > FILE_MOST {
             return FILE_MOST + 1;
         }
-        d = stand_next(rows, d);
-        k += 1;
+        left = rest_of(&left);
     }
     total
 }
@@ -269,67 +232,38 @@ fn lines_size(count: usize, rows: &[i64], letters: &[u8], islands: &[u16], point
 fn is_roomy(count: usize, coordinates: usize, room: usize) -> bool
     ensures { result ≡ leb (lines_most count coordinates) (min file_most room) }
 {
-    if count > FILE_MOST {
+    if count > FILE_MOST || coordinates > FILE_MOST {
         return false;
     }
-    if coordinates > FILE_MOST {
-        return false;
-    }
-    let most = FRAME_MOST * count + COORDINATE_MOST * coordinates;
-    if most > FILE_MOST {
-        return false;
-    }
-    if most > room {
-        return false;
-    }
-    true
+    FRAME_MOST * count + COORDINATE_MOST * coordinates <= FILE_MOST.min(room)
 }
 
 // The length, the room, then the text of a sheet that was judged.
-fn lines_judged(
-    count: usize,
-    rows: &[i64],
-    letters: &[u8],
-    islands: &[u16],
-    points: &[i64],
-    out: &mut [u8],
-) -> Written
-    requires { judge_rows Loose count none_before (tables_of rows.now letters.now islands.now points.now) ≡ Fine }
-    ensures value { result ≡ written_after Fine (length (cml_text count (tables_of rows.now letters.now islands.now points.now))) (length out.old) }
-    ensures out_after { out.new ≡ output_of result (cml_text count (tables_of rows.now letters.now islands.now points.now)) out.old }
+fn lines_judged(count: usize, lent: &Lent<'_>, out: &mut [u8]) -> Result<usize, Unwritten>
+    requires { judge_rows Loose count none_before (tables lent.now) ≡ Ok tt }
+    ensures value { result ≡ written_after (Ok tt) (length (cml_text count (tables lent.now))) (length out.old) }
+    ensures out_after { out.new ≡ output_of result (cml_text count (tables lent.now)) out.old }
 {
-    if is_roomy(count, points.len(), out.len()) {
-        let length = put_lines(out, count, rows, letters, islands, points);
-        return Written::Wrote(length);
+    if is_roomy(count, lent.points.len(), out.len()) {
+        return Ok(put_lines(out, count, lent));
     }
-    let needed = lines_size(count, rows, letters, islands, points);
+    let needed = lines_size(count, lent);
     if needed > FILE_MOST {
-        return Written::TooLong;
+        return Err(Unwritten::TooLong);
     }
     if needed > out.len() {
-        return Written::NoRoom(needed);
+        return Err(Unwritten::NoRoom(needed));
     }
-    put_lines(out, count, rows, letters, islands, points);
-    Written::Wrote(needed)
+    put_lines(out, count, lent);
+    Ok(needed)
 }
 
 // Writes the lines of a sheet to the start of `out`, one element for each LINEA row, where the sheet is well made and there is room.
-pub fn cml_lines(
-    header: Header,
-    count: usize,
-    rows: &[i64],
-    letters: &[u8],
-    islands: &[u16],
-    points: &[i64],
-    out: &mut [u8],
-) -> Written
-    ensures value { result ≡ cml_of header count (tables_of rows.now letters.now islands.now points.now) (length out.old) }
-    ensures out_after { out.new ≡ output_of result (cml_text count (tables_of rows.now letters.now islands.now points.now)) out.old }
+#[tactic(auto, unfolding(crate::specs::Lines::cml_of))]
+pub fn cml_lines(sheet: &Sheet<'_>, out: &mut [u8]) -> Result<usize, Unwritten>
+    ensures value { result ≡ cml_of sheet.now.header sheet.now.count (tables sheet.now.lent) (length out.old) }
+    ensures out_after { out.new ≡ output_of result (cml_text sheet.now.count (tables sheet.now.lent)) out.old }
 {
-    match judge(Mode::Loose, header, count, rows, letters, islands, points) {
-        Verdict::Fine => lines_judged(count, rows, letters, islands, points, out),
-        Verdict::BadHeader => Written::Refused(Verdict::BadHeader),
-        Verdict::Faulty(k) => Written::Refused(Verdict::Faulty(k)),
-        Verdict::Unlisted(k) => Written::Refused(Verdict::Unlisted(k)),
-    }
+    judge(Mode::Loose, sheet)?;
+    lines_judged(sheet.count, &sheet.lent, out)
 }

@@ -10,6 +10,7 @@ use borrow.Author.Tests.{ne_eqb, le-leb, eqb-true}
 use Rattle.laws.specs.Lists.{run, all}
 use Rattle.laws.proofs.Choice.{and-false}
 use Rattle.laws.proofs.ListLaws.{left-none}
+use Rattle.std.specs.Prelude.{is_some, Some, None}
 use Rattle.record.specs.declared.Mode.{Mode}
 use Rattle.record.specs.declared.Mode.TheVariants.{Loose, Exact, Former}
 use Rattle.record.specs.Record.{is_exact, is_former}
@@ -20,9 +21,7 @@ use Rattle.column.specs.Spots.{spot_after, is_free, spot_in, may_end, is_stuck, 
 use Rattle.column.specs.declared.Spot.TheVariants.{Stuck, IntegerPad, LastDigits, LooseInteger, AtMost, Tail}
 use Rattle.column.proofs.ColumnLaws.{stuck-never, column-alike, stretch-column}
 use Rattle.column.specs.Column.{IsColumn}
-use Rattle.number.specs.declared.Whole.{Whole}
-use Rattle.number.specs.declared.Whole.TheVariants as Whole
-use Rattle.column.specs.Columns.{is_whole, accepts_integer, integer_column}
+use Rattle.column.specs.Columns.{accepts_integer, integer_column}
 use Rattle.column.proofs.Alike.{alike, never, both, and-true, or-true, or-false, digit_not, blank-no-digit}
 
 -- ---- loose
@@ -71,7 +70,7 @@ loose-takes mode (b ∷ c) = go (blank b) refl (digit b) refl (loose-takes mode 
         rw (f, e, le-leb 1 (suc (run digit c)) (omega arith), leb-suc-suc (run digit c) 3) (at-most-takes mode 3 c)
     go false f false e ih = rw (f, e) (stuck-never mode c)
 
-cond-said : (b : Bool) (v : ℕ) → is_whole (cond b (Whole.Is v) Whole.Malformed) ≡ b
+cond-said : (b : Bool) (v : ℕ) → is_some (cond b (Some v) None) ≡ b
 cond-said true v = refl
 cond-said false v = refl
 

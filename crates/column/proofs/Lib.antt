@@ -5,5 +5,4 @@ pub mod Integers
 pub mod LooseReals
 pub mod ExactReals
 pub mod PlacedLaws
-mod StepWays
 mod ColumnWays

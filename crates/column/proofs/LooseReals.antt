@@ -11,16 +11,15 @@ use lib.Dec.{eqb, leb, leb-zero, leb-suc-zero, leb-suc-suc, eqb-suc-suc, eqb-zer
 use borrow.Author.Tests.{le-leb, leb-true}
 use Rattle.laws.specs.Lists.{run}
 use Rattle.laws.proofs.Choice.{and_both, and-false}
+use Rattle.std.specs.Prelude.{is_some, Some, None}
 use Rattle.record.specs.declared.Mode.{Mode}
 use Rattle.record.specs.Record.{is_exact}
 use Rattle.number.specs.Words.{blank, unled}
 use Rattle.number.specs.Number.{digit, ended, sign_of, signs, signed, thousandths, is_token, real_is, real_at, real_signed, real_of}
-use Rattle.number.specs.declared.Decimal.{Decimal}
-use Rattle.number.specs.declared.Decimal.TheVariants as Decimal
 use Rattle.column.specs.Spots.{spot_after, is_free, spot_in, may_end, takes}
 use Rattle.column.specs.declared.Spot.TheVariants.{LooseReal, AfterSign, UpToPoint, Decimals}
 use Rattle.column.proofs.ColumnLaws.{stuck-never}
-use Rattle.column.specs.Columns.{is_decimal, accepts_real}
+use Rattle.column.specs.Columns.{accepts_real}
 use Rattle.column.proofs.Alike.{alike, both, and-true, digit_not, run-digit, run-other, sign-not}
 use Rattle.column.proofs.Integers.{at-most-takes}
 
@@ -146,7 +145,7 @@ token-row mode sign u =
     rw (← room n (eqb sign 0), add-one n)
     (shuffle (leb 1 n) (leb n 8) (eqb (get_or u n 0) 46) (eqb (run digit (drop (suc n) u)) 3) (leb (cond (eqb sign 0) 0 1 + n + 4) 12) (ended mode (drop (n + 4) u)) ∙ rw (add-four n))
 
-pub cond-said : (b : Bool) (z : ℤ) → is_decimal (cond b (Decimal.Is z) Decimal.Malformed) ≡ b
+pub cond-said : (b : Bool) (z : ℤ) → is_some (cond b (Some z) None) ≡ b
 cond-said true z = refl
 cond-said false z = refl
 

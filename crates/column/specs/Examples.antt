@@ -1,5 +1,5 @@
 -- The columns of document 02, T-04, computed in one table: contents, by what they are read as and in which mode, and the column of each, or 0 where it is accepted.
-use Rattle.std.specs.Prelude.{ℕ, zero, suc, ◌≡◌, refl, List, [], ◌∷◌, map}
+use Rattle.std.specs.Prelude.{ℕ, zero, suc, ◌≡◌, refl, List, [], ◌∷◌, map, Result}
 use Prim.Native.String.{String}
 use Rattle.laws.specs.Text.{text}
 use Rattle.record.specs.declared.Mode.{Mode}
@@ -8,12 +8,11 @@ use Rattle.record.specs.Record.{ends_cr, content, content_is, line_is, line_of}
 use Rattle.laws.specs.Lists.{run, all}
 use Rattle.number.specs.Examples.{computed_integer, computed_real}
 use Rattle.token.specs.declared.Want.TheVariants.{Int, Real}
-use Rattle.column.specs.declared.PlacedInteger.{PlacedInteger}
 use Rattle.column.specs.Spots.{spot_after, is_free, spot_in, is_stuck, stretch, integer_start, real_start}
-use Rattle.column.specs.Columns.{integer_column, real_column, record_column, refusal_column, integer_placed, real_placed, column_of_integer, column_of_real}
+use Rattle.column.specs.Columns.{integer_column, real_column, record_column, refusal_column, integer_placed, real_placed, column_of}
 
 -- the definitions opened, so that they compute
-unfoldable pub computed_placed : Mode → List ℕ → PlacedInteger
+unfoldable pub computed_placed : Mode → List ℕ → Result ℕ ℕ
 unfolding integer_placed real_placed integer_column real_column stretch is_stuck spot_in is_free spot_after integer_start real_start computed_integer computed_real
 computed_placed mode c = integer_placed mode c
 
@@ -22,10 +21,10 @@ unfolding refusal_column record_column integer_column real_column stretch is_stu
 computed_refusal mode m bs = refusal_column mode Int m bs
 
 abbrev integers : Mode → List String → List ℕ
-integers mode ss = map (λ s. column_of_integer (integer_placed mode (text s))) ss
+integers mode ss = map (λ s. column_of (integer_placed mode (text s))) ss
 
 abbrev reals : Mode → List String → List ℕ
-reals mode ss = map (λ s. column_of_real (real_placed mode (text s))) ss
+reals mode ss = map (λ s. column_of (real_placed mode (text s))) ss
 
 blanks : ℕ → List ℕ
 blanks zero = []
@@ -45,7 +44,7 @@ columns :
     ≡ 9 ∷ 6 ∷ 6 ∷ 1 ∷ 9 ∷ 9 ∷ 1 ∷ 3 ∷ 2 ∷ 6 ∷ 7 ∷ 8 ∷ 0 ∷ [])
     × (reals Former ("1.2345" ∷ "1.000m" ∷ "1.000 m" ∷ "1.000  2.000" ∷ "" ∷ [])
     ≡ 6 ∷ 6 ∷ 0 ∷ 0 ∷ 1 ∷ [])
-    × (column_of_integer (integer_placed Loose (blanks 255)) ≡ 256) × (column_of_real (real_placed Loose (blanks 255)) ≡ 256)
+    × (column_of (integer_placed Loose (blanks 255)) ≡ 256) × (column_of (real_placed Loose (blanks 255)) ≡ 256)
 unfolding computed_placed blanks
 columns = (refl, refl, refl, refl, refl, refl, refl, refl)
 

@@ -2,33 +2,20 @@
 // All of it is proved, and no public function has a `requires`. It is worked out where a number is refused, and nowhere else.
 #![tactic(auto)]
 
-ghost use Rattle.std.specs.Prelude.{◌≡◌, cond, drop, eqb};
+ghost use Rattle.std.specs.Prelude.{◌≡◌, suc, cond, drop, eqb};
+ghost use Rattle.record.specs.Record.{is_exact};
 ghost use Rattle.number.specs.Number.{digit};
 ghost use Rattle.column.specs.Spots.{is_sign, spot_after, is_free, spot_in, is_stuck, stretch};
 ghost use Rattle.column.specs.declared.Spot.TheVariants as Spot;
 ghost use Rattle.column.specs.Columns.{integer_column, real_column, content_column, record_column, refusal_column, integer_placed, real_placed};
 
-use number::{Decimal, Whole, integer, real};
-use record::refusal::NUMBER;
-use record::{Line, Mode, is_exact, is_former, line_at};
+use number::{integer, real};
+use record::refusal::Refusal;
+use record::{Mode, is_exact, is_former, line_at};
 use token::Want;
 
-// A content as an integer, or the column where it is malformed.
-#[derive(Clone, Copy)]
-pub enum PlacedInteger {
-    Is(usize),
-    Malformed(usize),
-}
-
-// A content as a real, in thousandths, or the column where it is malformed.
-#[derive(Clone, Copy)]
-pub enum PlacedReal {
-    Is(i64),
-    Malformed(usize),
-}
-
 // What may come next in a number: `spot_after` says it of each.
-#[derive(Clone, Copy)]
+#[derive(Clone, Copy, Debug, PartialEq, Eq)]
 pub enum Spot {
     Stuck,
     IntegerPad(usize),
@@ -51,23 +38,14 @@ pub enum Spot {
 fn by(b: u8, k: u8, to: Spot, or: Spot) -> Spot
     ensures { result ≡ cond (eqb b k) to or }
 {
-    if b == k {
-        return to;
-    }
-    or
+    if b == k { to } else { or }
 }
 
 // On by a digit.
 fn by_digit(b: u8, to: Spot) -> Spot
     ensures { result ≡ cond (digit b) to Spot.Stuck }
 {
-    if b < b'0' {
-        return Spot::Stuck;
-    }
-    if b > b'9' {
-        return Spot::Stuck;
-    }
-    to
+    if b.is_ascii_digit() { to } else { Spot::Stuck }
 }
 
 // On by a digit that is no zero.
@@ -81,15 +59,10 @@ fn by_figure(b: u8, to: Spot) -> Spot
 fn by_sign(b: u8, to: Spot, or: Spot) -> Spot
     ensures { result ≡ cond (is_sign b) to or }
 {
-    if b == b'+' {
-        return to;
-    }
-    if b == b'-' {
-        return to;
-    }
-    or
+    if b == b'+' || b == b'-' { to } else { or }
 }
 
+#[tactic(auto, unfolding(crate::specs::Spots::spot_after))]
 fn after_integer_pad(k: usize, b: u8) -> Spot
     ensures { result ≡ spot_after (Spot.IntegerPad k) b }
 {
@@ -104,6 +77,7 @@ fn after_integer_pad(k: usize, b: u8) -> Spot
     )
 }
 
+#[tactic(auto, unfolding(crate::specs::Spots::spot_after))]
 fn after_real_pad(k: usize, b: u8) -> Spot
     ensures { result ≡ spot_after (Spot.RealPad k) b }
 {
@@ -119,6 +93,7 @@ fn after_real_pad(k: usize, b: u8) -> Spot
     )
 }
 
+#[tactic(auto, unfolding(crate::specs::Spots::spot_after))]
 fn after_negative(k: usize, b: u8) -> Spot
     ensures { result ≡ spot_after (Spot.Negative k) b }
 {
@@ -128,6 +103,7 @@ fn after_negative(k: usize, b: u8) -> Spot
     by_figure(b, Spot::ToPoint(k))
 }
 
+#[tactic(auto, unfolding(crate::specs::Spots::spot_after))]
 fn after_not_all_zero(k: usize, b: u8) -> Spot
     ensures { result ≡ spot_after (Spot.NotAllZero k) b }
 {
@@ -142,6 +118,7 @@ fn after_not_all_zero(k: usize, b: u8) -> Spot
     )
 }
 
+#[tactic(auto, unfolding(crate::specs::Spots::spot_after))]
 fn after_at_most(k: usize, b: u8) -> Spot
     ensures { result ≡ spot_after (Spot.AtMost k) b }
 {
@@ -151,6 +128,7 @@ fn after_at_most(k: usize, b: u8) -> Spot
     by(b, b' ', Spot::Tail, by_digit(b, Spot::AtMost(k - 1)))
 }
 
+#[tactic(auto, unfolding(crate::specs::Spots::spot_after))]
 fn after_up_to_point(k: usize, b: u8) -> Spot
     ensures { result ≡ spot_after (Spot.UpToPoint k) b }
 {
@@ -165,6 +143,7 @@ fn after_up_to_point(k: usize, b: u8) -> Spot
     )
 }
 
+#[tactic(auto, unfolding(crate::specs::Spots::spot_after))]
 fn after_loose_real(b: u8) -> Spot
     ensures { result ≡ spot_after Spot.LooseReal b }
 {
@@ -173,26 +152,18 @@ fn after_loose_real(b: u8) -> Spot
 }
 
 // Where a byte leads.
+#[tactic(auto, unfolding(crate::specs::Spots::spot_after))]
 fn step(at: Spot, b: u8) -> Spot
     ensures { result ≡ spot_after at b }
 {
     match at {
-        Spot::Stuck => Spot::Stuck,
+        Spot::Stuck | Spot::LastDigits(0) => Spot::Stuck,
         Spot::IntegerPad(k) => after_integer_pad(k, b),
-        Spot::LastDigits(k) => {
-            if k == 0 {
-                return Spot::Stuck;
-            }
-            by_digit(b, Spot::LastDigits(k - 1))
-        }
+        Spot::LastDigits(k) => by_digit(b, Spot::LastDigits(k - 1)),
         Spot::RealPad(k) => after_real_pad(k, b),
         Spot::Negative(k) => after_negative(k, b),
-        Spot::ToPoint(k) => {
-            if k == 0 {
-                return by(b, b'.', Spot::LastDigits(3), Spot::Stuck);
-            }
-            by_digit(b, Spot::ToPoint(k - 1))
-        }
+        Spot::ToPoint(0) => by(b, b'.', Spot::LastDigits(3), Spot::Stuck),
+        Spot::ToPoint(k) => by_digit(b, Spot::ToPoint(k - 1)),
         Spot::NegativeZero => by(b, b'.', Spot::NotAllZero(2), Spot::Stuck),
         Spot::NotAllZero(k) => after_not_all_zero(k, b),
         Spot::LooseInteger => by(b, b' ', Spot::LooseInteger, by_digit(b, Spot::AtMost(3))),
@@ -200,27 +171,22 @@ fn step(at: Spot, b: u8) -> Spot
         Spot::LooseReal => after_loose_real(b),
         Spot::AfterSign => by_digit(b, Spot::UpToPoint(6)),
         Spot::UpToPoint(k) => after_up_to_point(k, b),
-        Spot::Decimals(k) => {
-            if k == 0 {
-                return by_digit(b, Spot::AtMost(0));
-            }
-            by_digit(b, Spot::Decimals(k - 1))
-        }
+        Spot::Decimals(0) => by_digit(b, Spot::AtMost(0)),
+        Spot::Decimals(k) => by_digit(b, Spot::Decimals(k - 1)),
         Spot::Tail => by(b, b' ', Spot::Tail, Spot::Stuck),
     }
 }
 
 // Behind a blank behind a number, where the former reading takes any bytes.
+#[tactic(auto, unfolding(crate::specs::Spots::is_free))]
 fn is_free(at: Spot, mode: Mode) -> bool
     ensures { result ≡ is_free mode at }
 {
-    match at {
-        Spot::Tail => is_former(mode),
-        _ => false,
-    }
+    matches!(at, Spot::Tail) && is_former(mode)
 }
 
 // Where it leads in a mode.
+#[tactic(auto, unfolding(crate::specs::Spots::spot_in))]
 fn step_in(at: Spot, b: u8, mode: Mode) -> Spot
     ensures { result ≡ spot_in mode at b }
 {
@@ -230,69 +196,67 @@ fn step_in(at: Spot, b: u8, mode: Mode) -> Spot
     step(at, b)
 }
 
+#[tactic(auto, unfolding(crate::specs::Spots::is_stuck))]
 fn is_stuck(at: Spot) -> bool
     ensures { result ≡ is_stuck at }
 {
-    match at {
-        Spot::Stuck => true,
-        _ => false,
-    }
+    matches!(at, Spot::Stuck)
 }
 
 // How many bytes go, before no number goes on so.
+#[tactic(auto, using(crate::proofs::ColumnWays::stretch_ways))]
 fn stretch_of(c: &[u8], start: Spot, mode: Mode) -> usize
     ensures { result ≡ stretch mode start c.now }
 {
     let mut at = start;
-    let mut i = 0;
-    while i < c.len() {
-        at = step_in(at, c[i], mode);
+    for (i, &b) in c.iter().enumerate() {
+        at = step_in(at, b, mode);
         if is_stuck(at) {
             return i;
         }
-        i += 1;
     }
-    i
+    c.len()
+}
+
+// The column of a number that is malformed, by where its form starts in exact mode and in the others.
+#[tactic(auto, using(crate::proofs::ColumnWays::stretch_fits))]
+fn number_column(c: &[u8], mode: Mode, exact: Spot, loose: Spot) -> usize
+    ensures { result ≡ suc (stretch mode (cond (is_exact mode) exact loose) c.now) }
+{
+    let start = if is_exact(mode) { exact } else { loose };
+    stretch_of(c, start, mode) + 1
 }
 
 // The column of an integer that is malformed.
+#[tactic(auto, unfolding(crate::specs::Columns::integer_column, crate::specs::Spots::integer_start))]
 fn integer_column(c: &[u8], mode: Mode) -> usize
     ensures { result ≡ integer_column mode c.now }
 {
-    if is_exact(mode) {
-        return stretch_of(c, Spot::IntegerPad(3), mode) + 1;
-    }
-    stretch_of(c, Spot::LooseInteger, mode) + 1
+    number_column(c, mode, Spot::IntegerPad(3), Spot::LooseInteger)
 }
 
 // The column of a real that is malformed.
+#[tactic(auto, unfolding(crate::specs::Columns::real_column, crate::specs::Spots::real_start))]
 fn real_column(c: &[u8], mode: Mode) -> usize
     ensures { result ≡ real_column mode c.now }
 {
-    if is_exact(mode) {
-        return stretch_of(c, Spot::RealPad(7), mode) + 1;
-    }
-    stretch_of(c, Spot::LooseReal, mode) + 1
+    number_column(c, mode, Spot::RealPad(7), Spot::LooseReal)
 }
 
-// A content as an integer, with the column where it is malformed.
-pub fn placed_integer(c: &[u8], mode: Mode) -> PlacedInteger
+// A content as an integer, or the column where it is malformed.
+#[tactic(auto, unfolding(crate::specs::Columns::integer_placed))]
+pub fn placed_integer(c: &[u8], mode: Mode) -> Result<usize, usize>
     ensures { result ≡ integer_placed mode c.now }
 {
-    match integer(c, mode) {
-        Whole::Is(n) => PlacedInteger::Is(n),
-        Whole::Malformed => PlacedInteger::Malformed(integer_column(c, mode)),
-    }
+    integer(c, mode).ok_or_else(|| integer_column(c, mode))
 }
 
-// A content as a real, with the column where it is malformed.
-pub fn placed_real(c: &[u8], mode: Mode) -> PlacedReal
+// A content as a real, in thousandths, or the column where it is malformed.
+#[tactic(auto, unfolding(crate::specs::Columns::real_placed))]
+pub fn placed_real(c: &[u8], mode: Mode) -> Result<i64, usize>
     ensures { result ≡ real_placed mode c.now }
 {
-    match real(c, mode) {
-        Decimal::Is(z) => PlacedReal::Is(z),
-        Decimal::Malformed => PlacedReal::Malformed(real_column(c, mode)),
-    }
+    real(c, mode).ok_or_else(|| real_column(c, mode))
 }
 
 // The column of a content, by what it was to be read as.
@@ -300,31 +264,29 @@ fn content_column(c: &[u8], mode: Mode, want: Want) -> usize
     ensures { result ≡ content_column mode want c.now }
 {
     match want {
-        Want::Key => 0,
-        Want::Text => 0,
+        Want::Key | Want::Text => 0,
         Want::Int => integer_column(c, mode),
         Want::Real => real_column(c, mode),
     }
 }
 
 // The same of the record at the front of the bytes.
+#[tactic(auto, unfolding(crate::specs::Columns::record_column), using(crate::proofs::ColumnWays::line_counted))]
 fn record_column(bs: &[u8], mode: Mode, want: Want) -> usize
     ensures { result ≡ record_column mode want bs.now }
 {
     match line_at(bs, mode, false) {
-        Line::Bad(_) => 0,
-        Line::Got { len, width: _ } => content_column(&bs[..len], mode, want),
+        Err(_) => 0,
+        Ok(line) => content_column(&bs[..line.len], mode, want),
     }
 }
 
-// The column of a refusal, whose record begins at `at` and was to be read so: 0 but for 8.
+// The column of a refusal, whose record begins at `at` and was to be read so: 0 but for 8. Callers may hand in any number.
+#[tactic(auto, using(crate::proofs::ColumnWays::refusal_ways))]
 pub fn column_at(src: &[u8], at: usize, mode: Mode, want: Want, number: usize) -> usize
     ensures { result ≡ refusal_column mode want number (drop at src.now) }
 {
-    if number != NUMBER {
-        return 0;
-    }
-    if at > src.len() {
+    if number != Refusal::Number.number() || at > src.len() {
         return 0;
     }
     record_column(&src[at..], mode, want)

@@ -8,60 +8,44 @@ ghost use Rattle.record.specs.declared.Mode.TheVariants.{Former};
 ghost use Rattle.record.specs.Refusals.{file_most};
 ghost use Rattle.sheet.specs.Reading.{reading};
 ghost use Rattle.reader.specs.Columns.{reading_column};
-ghost use Rattle.made.specs.Made.{tables_of};
+ghost use Rattle.made.specs.Made.{tables};
 ghost use Rattle.layout.specs.Sheet.{sheet_text};
 ghost use Rattle.listing.specs.Listing.{input_most};
 ghost use Rattle.listing.specs.Listed.{listed_of, listed_in};
 ghost use Rattle.conversion.specs.Conversion.{clean_text, converted_text, conversion_of};
 
-use heading::Header;
-use listing::{INPUT_MOST, Listed, refused_text};
-use made::fault_of;
-use reader::{Answer, read_as};
+use listing::{
+    INPUT_MOST, ISLANDS_ROOM, LETTERS_ROOM, NoRoom, POINTS_ROOM, ROWS_ROOM, refused_text,
+};
+use made::{Lent, Sheet, fault_of};
+use reader::{Reading, Unread, read_as};
 use record::Mode;
-use record::refusal::TOO_LONG;
-use writer::{Written, write};
+use record::refusal::Refusal;
+use writer::{Unwritten, write};
 
 // No conversion is longer.
 pub const CLEAN_MOST: usize = 53248;
 
-// Tables for any input: a row takes 28 bytes of it at least, a letter one, an island count two, each number of a point six.
-const ROWS_ROOM: usize = 4380;
-
-const LETTERS_ROOM: usize = 8192;
-
-const ISLANDS_ROOM: usize = 4096;
-
-const POINTS_ROOM: usize = 1365;
-
 // The clean file of a sheet, or the writer's refusal as a line.
-fn clean_text(
-    header: Header,
-    count: usize,
-    rows: &[i64],
-    letters: &[u8],
-    islands: &[u16],
-    points: &[i64],
-    out: &mut [u8],
-) -> Listed
-    requires { length (sheet_text header count (tables_of rows.now letters.now islands.now points.now)) ≤ file_most }
-    ensures value { result ≡ listed_of (clean_text header count (tables_of rows.now letters.now islands.now points.now)) (length out.old) }
-    ensures out_after { out.new ≡ listed_in result (clean_text header count (tables_of rows.now letters.now islands.now points.now)) out.old }
+fn clean_text(sheet: &Sheet<'_>, out: &mut [u8]) -> Result<usize, NoRoom>
+    requires { length (sheet_text sheet.now.header sheet.now.count (tables sheet.now.lent)) ≤ file_most }
+    ensures value { result ≡ listed_of (clean_text sheet.now.header sheet.now.count (tables sheet.now.lent)) (length out.old) }
+    ensures out_after { out.new ≡ listed_in result (clean_text sheet.now.header sheet.now.count (tables sheet.now.lent)) out.old }
 {
-    match write(header, count, rows, letters, islands, points, out) {
-        Written::Wrote(used) => Listed::Wrote(used),
-        Written::NoRoom(needed) => Listed::NoRoom(needed),
+    match write(sheet, out) {
+        Ok(used) => Ok(used),
+        Err(Unwritten::NoRoom(needed)) => Err(NoRoom(needed)),
         // No text of such a sheet is so long.
-        Written::TooLong => Listed::NoRoom(0),
-        Written::Refused(verdict) => {
-            let fault = fault_of(verdict);
+        Err(Unwritten::TooLong) => Err(NoRoom(0)),
+        Err(Unwritten::Refused(flaw)) => {
+            let fault = fault_of(Err(flaw));
             refused_text(fault.number, fault.row, 0, 0, out)
         }
     }
 }
 
 // What an input of at most 8,192 bytes is converted to.
-fn converted_text(src: &[u8], out: &mut [u8]) -> Listed
+fn converted_text(src: &[u8], out: &mut [u8]) -> Result<usize, NoRoom>
     requires { length src.now ≤ input_most }
     ensures value { result ≡ listed_of (converted_text (reading_column Former src.now) (reading Former src.now)) (length out.old) }
     ensures out_after { out.new ≡ listed_in result (converted_text (reading_column Former src.now) (reading Former src.now)) out.old }
@@ -70,7 +54,7 @@ fn converted_text(src: &[u8], out: &mut [u8]) -> Listed
     let mut letters = [0u8; LETTERS_ROOM];
     let mut islands = [0u16; ISLANDS_ROOM];
     let mut points = [0i64; POINTS_ROOM];
-    let outcome = read_as(
+    let answer = read_as(
         Mode::Former,
         src,
         &mut rows,
@@ -78,30 +62,40 @@ fn converted_text(src: &[u8], out: &mut [u8]) -> Listed
         &mut islands,
         &mut points,
     );
-    let answer = outcome.answer;
-    let header = outcome.header;
-    let column = outcome.column;
     match answer {
-        Answer::Refused {
-            number,
-            record,
-            offset,
-        } => refused_text(number, record, offset, column, out),
+        Ok(Reading { header, needs }) => {
+            let lent = Lent {
+                rows: &rows,
+                letters: &letters,
+                islands: &islands,
+                points: &points,
+            };
+            let sheet = Sheet {
+                header,
+                count: needs.rows,
+                lent,
+            };
+            clean_text(&sheet, out)
+        }
         // The tables hold any such input.
-        Answer::NoRoom(_) => Listed::NoRoom(0),
-        Answer::Read(needs) => clean_text(
-            header, needs.rows, &rows, &letters, &islands, &points, out,
+        Err(Unread::NoRoom(_)) => Err(NoRoom(0)),
+        Err(Unread::Refused(stopped, column)) => refused_text(
+            stopped.refusal.number(),
+            stopped.record,
+            stopped.offset,
+            column,
+            out,
         ),
     }
 }
 
 // Writes what the conversion program writes for this input to the start of `out`, where there is room.
-pub fn convert_text(src: &[u8], out: &mut [u8]) -> Listed
+pub fn convert_text(src: &[u8], out: &mut [u8]) -> Result<usize, NoRoom>
     ensures value { result ≡ listed_of (conversion_of src.now) (length out.old) }
     ensures out_after { out.new ≡ listed_in result (conversion_of src.now) out.old }
 {
     if src.len() > INPUT_MOST {
-        return refused_text(TOO_LONG, 0, 0, 0, out);
+        return refused_text(Refusal::TooLong.number(), 0, 0, 0, out);
     }
     converted_text(src, out)
 }

@@ -2,7 +2,7 @@
 #![tactic(auto)]
 
 use conversion::{CLEAN_MOST, convert_text};
-use listing::{INPUT_MOST, Listed};
+use listing::INPUT_MOST;
 use std::io;
 use std::io::{Read, Write};
 
@@ -14,8 +14,8 @@ fn main(rt: HostRuntime) -> io::Result<()> {
     rt.stdin().take(INPUT_ROOM as u64).read_to_end(&mut src)?;
     let mut text = [0u8; CLEAN_MOST];
     match convert_text(&src, &mut text) {
-        Listed::Wrote(size) => rt.stdout().write_all(&text[..size]),
+        Ok(size) => rt.stdout().write_all(&text[..size]),
         // The array holds any conversion.
-        Listed::NoRoom(_) => Ok(()),
+        Err(_) => Ok(()),
     }
 }

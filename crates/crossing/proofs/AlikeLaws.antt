@@ -11,9 +11,12 @@ use borrow.Author.Tests.{ltb-true}
 use Rattle.plane.specs.Rings.{x-at, y-at, held, all_near, narrow}
 use Rattle.plane.proofs.RingLaws.{held-has}
 use Rattle.plane.proofs.AlikeLaws.{all-near-alike, same_alike}
-use Rattle.crossing.specs.declared.RingVerdict.TheVariants.{Simple, Faulty, Wide, Missing}
+use Rattle.std.proofs.Common.{Option, Some, None, Result, Ok, Err}
+use Rattle.plane.specs.declared.NoArea.{NoArea}
+use Rattle.plane.specs.declared.NoArea.TheVariants.{Wide, Missing}
+use Rattle.crossing.specs.declared.FaultyPair.{FaultyPair}
 use Rattle.crossing.specs.Edges.{point_at}
-use Rattle.crossing.specs.Search.{faulty-pair, least, second-edge, first_edge, searched, verdict_of}
+use Rattle.crossing.specs.Search.{fault_at, faulty-pair, least, second-edge, first_edge, searched, verdict_of}
 
 least-alike : (f g : ℕ → Bool) (a n : ℕ) → ((i : ℕ) → a ≤ i → i < a + n → f i ≡ g i) → least f a n ≡ least g a n
 unfolding least
@@ -36,8 +39,8 @@ module _ (ps qs : List ℤ) (p q e : ℕ) (pairs : (i j : ℕ) → i < e → j <
   searched-alike = rw first_alike (go (ltb (first_edge qs q e) e) refl)
     where
       go : (b : Bool) → ltb (first_edge qs q e) e ≡ b
-          → cond b (Faulty (first_edge qs q e) (second-edge ps p e (first_edge qs q e))) Simple ≡ cond b (Faulty (first_edge qs q e) (second-edge qs q e (first_edge qs q e))) Simple
-      go true h = ap (Faulty (first_edge qs q e)) (second_alike (first_edge qs q e) (ltb-true (first_edge qs q e) e h))
+          → cond b (fault_at (first_edge qs q e) (second-edge ps p e (first_edge qs q e))) None ≡ cond b (fault_at (first_edge qs q e) (second-edge qs q e (first_edge qs q e))) None
+      go true h = ap (fault_at (first_edge qs q e)) (second_alike (first_edge qs q e) (ltb-true (first_edge qs q e) e h))
       go false h = refl
 
 -- the verdicts on them: both are held or neither is, and where they are, they are near and faulty alike
@@ -48,7 +51,7 @@ unfolding verdict_of narrow
 verdict-by ps qs p q n h a = rw h (go (held (length qs) q n) refl)
   where
     go : (b : Bool) → held (length qs) q n ≡ b
-        → cond b (cond (b && all_near ps p n) (searched ps p (n - 1)) Wide) Missing ≡ cond b (cond (b && all_near qs q n) (searched qs q (n - 1)) Wide) Missing
+        → cond b (cond (b && all_near ps p n) (Ok (searched ps p (n - 1))) (Err Wide)) (Err Missing) ≡ cond b (cond (b && all_near qs q n) (Ok (searched qs q (n - 1))) (Err Wide)) (Err Missing)
     go true e = let x = a e in rw (x.0, searched-alike ps qs p q (n - 1) x.1)
     go false e = refl
 

@@ -1,5 +1,5 @@
 -- The laws of `least`, and the first faulty pair by them. Assumes nothing.
-use mathlib.Core.Path.{◌≡◌, refl, sym, subst, subst₂}
+use mathlib.Core.Path.{◌≡◌, refl, sym, ap, subst, subst₂}
 use mathlib.Core.Logic.{⊎_elim}
 use mathlib.Core.List.{List}
 use mathlib.Core.Bool.{Bool, true, false}
@@ -10,8 +10,11 @@ use lib.Dec.{ltb}
 use lib.IntN.{ℤ}
 use borrow.Author.Tests.{lt-ltb, le-ltb, ltb-true, ltb-false}
 use Rattle.laws.proofs.Choice.{cond-elim}
-use Rattle.crossing.specs.declared.RingVerdict.TheVariants.{Simple, Faulty}
-use Rattle.crossing.specs.Search.{faulty-pair, least, second-edge, first_edge, searched, FirstFault, FirstPair}
+use Rattle.std.proofs.Common.{Option, Some, None, Result, Ok, Err}
+use Rattle.plane.specs.declared.NoArea.{NoArea}
+use Rattle.plane.specs.declared.NoArea.TheVariants.{Wide, Missing}
+use Rattle.crossing.specs.declared.FaultyPair.{FaultyPair}
+use Rattle.crossing.specs.Search.{fault_at, faulty-pair, least, second-edge, first_edge, searched, FirstFault, FirstPair}
 
 module _ (p : ℕ → Bool) where
   pub least-none : (a f : ℕ) → ((k : ℕ) → a ≤ k → k < a + f → p k ≡ false) → least p a f ≡ a + f
@@ -108,29 +111,30 @@ module _ (ps : List ℤ) (from edges : ℕ) where
       }
 
   -- the pair that is answered
-  pub pair_is : (i j : ℕ) → searched ps from edges ≡ Faulty i j → FirstPair ps from edges i j
+  pub pair_is : (i j : ℕ) → searched ps from edges ≡ fault_at i j → FirstPair ps from edges i j
   unfolding searched
   pair_is i j q = go (ltb (first_edge ps from edges) edges) refl
     where
       go : (t : Bool) → ltb (first_edge ps from edges) edges ≡ t → FirstPair ps from edges i j
       go true e =
-          let r : searched ps from edges ≡ Faulty (first_edge ps from edges) (second-edge ps from edges (first_edge ps from edges)) = rw e refl in
-          let x : first_edge ps from edges ≡ i = cc in
-          let y : second-edge ps from edges (first_edge ps from edges) ≡ j = cc in
+          let r : searched ps from edges ≡ fault_at (first_edge ps from edges) (second-edge ps from edges (first_edge ps from edges)) = rw e refl in
+          let w : ◌≡◌ {A = FaultyPair} (record { first = first_edge ps from edges; second = second-edge ps from edges (first_edge ps from edges) }) (record { first = i; second = j }) = cc in
+          let x : first_edge ps from edges ≡ i = ap (λ (p : FaultyPair). p.first) w in
+          let y : second-edge ps from edges (first_edge ps from edges) ≡ j = ap (λ (p : FaultyPair). p.second) w in
           subst₂ (FirstPair ps from edges) x y (found e)
       go false e =
-          let r : searched ps from edges ≡ Simple = rw e refl in
+          let r : searched ps from edges ≡ None = rw e refl in
           let z : ◌≡◌ {A = ℕ} 0 1 = cc in
           absurd (omega arith)
 
   -- a ring that is called simple has no faulty pair
-  pub simple-is : searched ps from edges ≡ Simple → (k l : ℕ) → k ≤ l → l < edges → faulty-pair ps from edges k l ≡ false
+  pub simple-is : searched ps from edges ≡ None → (k l : ℕ) → k ≤ l → l < edges → faulty-pair ps from edges k l ≡ false
   unfolding searched first_edge
   simple-is q k l x y = go (ltb (first_edge ps from edges) edges) refl
     where
       go : (t : Bool) → ltb (first_edge ps from edges) edges ≡ t → faulty-pair ps from edges k l ≡ false
       go true e =
-          let r : searched ps from edges ≡ Faulty (first_edge ps from edges) (second-edge ps from edges (first_edge ps from edges)) = rw e refl in
+          let r : searched ps from edges ≡ fault_at (first_edge ps from edges) (second-edge ps from edges (first_edge ps from edges)) = rw e refl in
           let z : ◌≡◌ {A = ℕ} 0 1 = cc in
           absurd (omega arith)
       go false e =

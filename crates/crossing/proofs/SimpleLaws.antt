@@ -13,9 +13,12 @@ use Rattle.laws.proofs.Choice.{true≢false, false≢true, and_left, and_right, 
 use Rattle.laws.proofs.Bits.{eq_z-yes, eq_z-same}
 use Rattle.plane.specs.Rings.{narrow}
 use Rattle.crossing.specs.declared.Point.{Point}
-use Rattle.crossing.specs.declared.RingVerdict.TheVariants.{Simple, Faulty}
+use Rattle.std.proofs.Common.{Option, Some, None, Result, Ok, Err}
+use Rattle.plane.specs.declared.NoArea.{NoArea}
+use Rattle.plane.specs.declared.NoArea.TheVariants.{Wide, Missing}
+use Rattle.crossing.specs.declared.FaultyPair.{FaultyPair}
 use Rattle.crossing.specs.Edges.{point_at, equal-ends}
-use Rattle.crossing.specs.Search.{faulty-pair, verdict_of}
+use Rattle.crossing.specs.Search.{fault_at, faulty-pair, verdict_of}
 use Rattle.crossing.specs.Shared.{Shared, OnlyAt}
 use Rattle.crossing.specs.SimpleRing.{SimpleRing, Broken, ends-equal, next_more, closing-more, others-share}
 use Rattle.crossing.proofs.EdgeLaws.{faulty-itself, faulty-next, faulty-ends, faulty-other}
@@ -85,7 +88,7 @@ module _ (ps : List ℤ) (from edges i j : ℕ) where
 
 -- ---- a ring that is called simple
 
-module _ (ps : List ℤ) (from n : ℕ) (simple : verdict_of ps from n ≡ Simple) where
+module _ (ps : List ℤ) (from n : ℕ) (simple : verdict_of ps from n ≡ Ok None) where
   pub simple-ends : (k : ℕ) → k < n - 1 → equal-ends (point_at ps (from + k)) (point_at ps (from + (k + 1))) ≡ false
   simple-ends k h = faulty-itself ps from (n - 1) k k (omega arith) ∙ verdict-simple-is ps from n simple k k (omega arith) h
 
@@ -115,7 +118,7 @@ module _ (ps : List ℤ) (from n : ℕ) (simple : verdict_of ps from n ≡ Simpl
 
 -- ---- a ring that is called faulty
 
-module _ (ps : List ℤ) (from n i j : ℕ) (faulty : verdict_of ps from n ≡ Faulty i j) where
+module _ (ps : List ℤ) (from n i j : ℕ) (faulty : verdict_of ps from n ≡ Ok (fault_at i j)) where
   -- the pair that is answered breaks the words
   pub faulty-broken : Broken ps from (n - 1) i j
   faulty-broken = let r = verdict-faulty-is ps from n i j faulty in pair-broken ps from (n - 1) i j r.ordered r.faulty
@@ -128,5 +131,5 @@ module _ (ps : List ℤ) (from n i j : ℕ) (faulty : verdict_of ps from n ≡ F
   faulty-not-simple = broken-not-simple ps from (n - 1) i j (verdict-faulty-is ps from n i j faulty).inside faulty-broken
 
 -- a ring that is not refused is called simple exactly if it is
-pub simple-iff : (ps : List ℤ) (from n : ℕ) → narrow ps from n ≡ true → (verdict_of ps from n ≡ Simple) ↔ SimpleRing ps from (n - 1)
+pub simple-iff : (ps : List ℤ) (from n : ℕ) → narrow ps from n ≡ true → (verdict_of ps from n ≡ Ok None) ↔ SimpleRing ps from (n - 1)
 simple-iff ps from n h = (simple-ring ps from n, λ r. verdict-not-faulty ps from n h (λ i j q. faulty-not-simple ps from n i j q r))

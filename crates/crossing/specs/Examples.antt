@@ -1,16 +1,17 @@
 -- Marked example (i) of document 01, by computation, a ring for each rule of the ring check, and edges with a point that they share.
-use Rattle.std.specs.Prelude.{◌≡◌, refl, true, false, List, [], ◌∷◌, ℕ, ℤ, pos, negsuc}
+use Rattle.std.specs.Prelude.{◌≡◌, refl, true, false, List, [], ◌∷◌, ℕ, ℤ, pos, negsuc, Option, None, Result, Ok, Err}
 use Rattle.std.proofs.Common.{arith}
 use Rattle.plane.specs.Rings.{held, near, near_first, all_near, narrow}
 use Rattle.crossing.specs.declared.Point.{Point}
-use Rattle.crossing.specs.declared.RingVerdict.{RingVerdict}
-use Rattle.crossing.specs.declared.RingVerdict.TheVariants.{Simple, Faulty, Wide, Missing}
+use Rattle.plane.specs.declared.NoArea.{NoArea}
+use Rattle.plane.specs.declared.NoArea.TheVariants.{Wide, Missing}
+use Rattle.crossing.specs.declared.FaultyPair.{FaultyPair}
 use Rattle.crossing.specs.Edges.{edges-meet, boxes-overlap, beside-line, spans-overlap, one_side, neighbours-overlap, equal-ends, side, dot}
-use Rattle.crossing.specs.Search.{verdict_of, verdict-told, searched, first_edge, second-edge, least, faulty-pair}
+use Rattle.crossing.specs.Search.{fault_at, verdict_of, verdict-told, searched, first_edge, second-edge, least, faulty-pair}
 use Rattle.crossing.specs.Shared.{Shared}
 
 -- `verdict_of` with every definition opened, so that it computes
-unfoldable pub computed : List ℤ → ℕ → ℕ → RingVerdict
+unfoldable pub computed : List ℤ → ℕ → ℕ → Result (Option FaultyPair) NoArea
 unfolding verdict_of searched held narrow near near_first all_near first_edge second-edge least faulty-pair edges-meet boxes-overlap beside-line spans-overlap one_side neighbours-overlap equal-ends side dot
 computed ps from n = verdict_of ps from n
 
@@ -18,7 +19,7 @@ bowtie : List ℤ
 bowtie = pos 0 ∷ pos 0 ∷ pos 10 ∷ pos 10 ∷ pos 10 ∷ pos 0 ∷ pos 0 ∷ pos 10 ∷ pos 0 ∷ pos 0 ∷ []
 
 -- (i)
-bowtie-pair : verdict_of bowtie 0 5 ≡ Faulty 0 2
+bowtie-pair : verdict_of bowtie 0 5 ≡ Ok (fault_at 0 2)
 unfolding computed bowtie
 bowtie-pair = refl
 
@@ -30,7 +31,7 @@ square : List ℤ
 square = pos 5000000000 ∷ negsuc 4 ∷ pos 5000000010 ∷ negsuc 4 ∷ pos 5000000010 ∷ pos 5 ∷ pos 5000000000 ∷ pos 5 ∷ pos 5000000000 ∷ negsuc 4 ∷ []
 
 -- far from the origin
-square-simple : verdict_of square 0 5 ≡ Simple
+square-simple : verdict_of square 0 5 ≡ Ok None
 unfolding computed square
 square-simple = refl
 
@@ -38,7 +39,7 @@ triangle : List ℤ
 triangle = pos 0 ∷ pos 0 ∷ pos 4 ∷ pos 0 ∷ pos 0 ∷ pos 3 ∷ pos 0 ∷ pos 0 ∷ []
 
 -- three edges, all neighbours
-triangle-simple : verdict_of triangle 0 4 ≡ Simple
+triangle-simple : verdict_of triangle 0 4 ≡ Ok None
 unfolding computed triangle
 triangle-simple = refl
 
@@ -46,7 +47,7 @@ flat : List ℤ
 flat = pos 0 ∷ pos 0 ∷ pos 4 ∷ pos 0 ∷ pos 9 ∷ pos 0 ∷ pos 0 ∷ pos 0 ∷ []
 
 -- the first edge and the last are neighbours, and overlap
-flat-pair : verdict_of flat 0 4 ≡ Faulty 0 2
+flat-pair : verdict_of flat 0 4 ≡ Ok (fault_at 0 2)
 unfolding computed flat
 flat-pair = refl
 
@@ -54,7 +55,7 @@ spike : List ℤ
 spike = pos 0 ∷ pos 0 ∷ pos 9 ∷ pos 0 ∷ pos 4 ∷ pos 0 ∷ pos 4 ∷ pos 9 ∷ pos 0 ∷ pos 0 ∷ []
 
 -- edge 1 runs back along edge 0
-spike-pair : verdict_of spike 0 5 ≡ Faulty 0 1
+spike-pair : verdict_of spike 0 5 ≡ Ok (fault_at 0 1)
 unfolding computed spike
 spike-pair = refl
 
@@ -62,7 +63,7 @@ still : List ℤ
 still = pos 0 ∷ pos 0 ∷ pos 9 ∷ pos 0 ∷ pos 9 ∷ pos 0 ∷ pos 0 ∷ pos 9 ∷ pos 0 ∷ pos 0 ∷ []
 
 -- edge 1 has no length, and edges 0 and 2, which are no neighbours, share its point: (0, 2) comes before (1, 1)
-still-pair : verdict_of still 0 5 ≡ Faulty 0 2
+still-pair : verdict_of still 0 5 ≡ Ok (fault_at 0 2)
 unfolding computed still
 still-pair = refl
 
@@ -70,7 +71,7 @@ start : List ℤ
 start = pos 0 ∷ pos 0 ∷ pos 0 ∷ pos 0 ∷ pos 9 ∷ pos 0 ∷ pos 0 ∷ pos 9 ∷ pos 0 ∷ pos 0 ∷ []
 
 -- edge 0 has no length, and is the pair of itself
-start-pair : verdict_of start 0 5 ≡ Faulty 0 0
+start-pair : verdict_of start 0 5 ≡ Ok (fault_at 0 0)
 unfolding computed start
 start-pair = refl
 
@@ -78,7 +79,7 @@ wide : List ℤ
 wide = pos 0 ∷ pos 0 ∷ pos 20000001 ∷ pos 0 ∷ pos 0 ∷ pos 9 ∷ pos 0 ∷ pos 0 ∷ []
 
 -- refusal 17
-wide-refused : verdict_of wide 0 4 ≡ Wide
+wide-refused : verdict_of wide 0 4 ≡ Err Wide
 unfolding computed wide
 wide-refused = refl
 
@@ -90,12 +91,12 @@ touching : List ℤ
 touching = pos 0 ∷ pos 0 ∷ pos 10 ∷ pos 0 ∷ pos 10 ∷ pos 10 ∷ pos 5 ∷ pos 0 ∷ pos 0 ∷ pos 10 ∷ pos 0 ∷ pos 0 ∷ []
 
 -- edge 2 ends on edge 0, between its ends: their boxes touch, and an end on the line is on neither side of it
-touching-pair : verdict_of touching 0 6 ≡ Faulty 0 2
+touching-pair : verdict_of touching 0 6 ≡ Ok (fault_at 0 2)
 unfolding computed touching
 touching-pair = refl
 
 -- the same ring from its vertex 3: edge 0 begins on edge 2
-touching-turned : verdict_of (pos 5 ∷ pos 0 ∷ pos 0 ∷ pos 10 ∷ pos 0 ∷ pos 0 ∷ pos 10 ∷ pos 0 ∷ pos 10 ∷ pos 10 ∷ pos 5 ∷ pos 0 ∷ []) 0 6 ≡ Faulty 0 2
+touching-turned : verdict_of (pos 5 ∷ pos 0 ∷ pos 0 ∷ pos 10 ∷ pos 0 ∷ pos 0 ∷ pos 10 ∷ pos 0 ∷ pos 10 ∷ pos 10 ∷ pos 5 ∷ pos 0 ∷ []) 0 6 ≡ Ok (fault_at 0 2)
 unfolding computed
 touching-turned = refl
 
@@ -103,7 +104,7 @@ corner : List ℤ
 corner = pos 0 ∷ pos 0 ∷ pos 4 ∷ pos 4 ∷ pos 8 ∷ pos 0 ∷ pos 8 ∷ pos 8 ∷ pos 4 ∷ pos 4 ∷ pos 0 ∷ pos 8 ∷ pos 0 ∷ pos 0 ∷ []
 
 -- a vertex that is met again: boxes that share a corner only
-corner-pair : verdict_of corner 0 7 ≡ Faulty 0 3
+corner-pair : verdict_of corner 0 7 ≡ Ok (fault_at 0 3)
 unfolding computed corner
 corner-pair = refl
 
@@ -113,17 +114,17 @@ gate =
     pos 0 ∷ pos 0 ∷ []
 
 -- edges on one line, and an end on another edge's line, with no shared point: their boxes lie apart
-gate-simple : verdict_of gate 0 9 ≡ Simple
+gate-simple : verdict_of gate 0 9 ≡ Ok None
 unfolding computed gate
 gate-simple = refl
 
 -- neighbours may go straight on
-straight-simple : verdict_of (pos 0 ∷ pos 0 ∷ pos 4 ∷ pos 0 ∷ pos 9 ∷ pos 0 ∷ pos 9 ∷ pos 9 ∷ pos 0 ∷ pos 0 ∷ []) 0 5 ≡ Simple
+straight-simple : verdict_of (pos 0 ∷ pos 0 ∷ pos 4 ∷ pos 0 ∷ pos 9 ∷ pos 0 ∷ pos 9 ∷ pos 9 ∷ pos 0 ∷ pos 0 ∷ []) 0 5 ≡ Ok None
 unfolding computed
 straight-simple = refl
 
 -- exactly 20,000,000 mm pass; a ring that the table does not hold
-limits : (verdict_of (pos 0 ∷ pos 0 ∷ pos 20000000 ∷ pos 0 ∷ pos 0 ∷ pos 9 ∷ pos 0 ∷ pos 0 ∷ []) 0 4 ≡ Simple) × (verdict_of triangle 1 4 ≡ Missing)
+limits : (verdict_of (pos 0 ∷ pos 0 ∷ pos 20000000 ∷ pos 0 ∷ pos 0 ∷ pos 9 ∷ pos 0 ∷ pos 0 ∷ []) 0 4 ≡ Ok None) × (verdict_of triangle 1 4 ≡ Err Missing)
 unfolding computed triangle
 limits = (refl, refl)
 

@@ -23,22 +23,14 @@ pub(crate) fn block_length(edges: usize) -> usize
     requires { edges < 9223372036854775808 }
     ensures { BlockLength edges result }
 {
-    let share = edges / BOXES + 1;
-    if share < SHORTEST {
-        return SHORTEST;
-    }
-    share
+    (edges / BOXES + 1).max(SHORTEST)
 }
 
 fn block_end(first: usize, size: usize, stop: usize) -> usize
     requires { first + size < 18446744073709551616 }
     ensures { BlockEnd first size stop result }
 {
-    let end = first + size;
-    if end < stop {
-        return end;
-    }
-    stop
+    stop.min(first + size)
 }
 
 // A vertex's x along axis 0, its y along axis 1.
@@ -124,10 +116,7 @@ fn is_beyond(boxes: &[i64], at: usize, a: i64, b: i64) -> bool
     requires { at + 1 < length boxes.now }
     ensures { result ≡ beyond (get_or boxes.now at (pos 0)) (get_or boxes.now (at + 1) (pos 0)) a b }
 {
-    if boxes[at + 1] < lower(a, b) {
-        return true;
-    }
-    higher(a, b) < boxes[at]
+    boxes[at + 1] < lower(a, b) || higher(a, b) < boxes[at]
 }
 
 // Whether box k lies beyond one side of the box of the edge from a to b.
@@ -135,10 +124,7 @@ fn is_apart(boxes: &[i64], k: usize, a: Point, b: Point) -> bool
     requires { 4 * k + 3 < length boxes.now }
     ensures { result ≡ box-apart boxes.now k a b }
 {
-    if is_beyond(boxes, 4 * k, a.x, b.x) {
-        return true;
-    }
-    is_beyond(boxes, 4 * k + 2, a.y, b.y)
+    is_beyond(boxes, 4 * k, a.x, b.x) || is_beyond(boxes, 4 * k + 2, a.y, b.y)
 }
 
 // Whether the edge from a to b and edge k, no neighbours, share a point.
@@ -239,10 +225,7 @@ pub(crate) fn onward(
     requires { (i < j) × (j ≤ edges) × (2 * (from + (edges + 1)) ≤ length points.now) × (all_near points.now from (edges + 1) ≡ true) × (a ≡ point_at points.now (from + i)) × (b ≡ point_at points.now (from + (i + 1))) × BlockLength edges size × Boxes points.now from edges size boxes.now }
     ensures { Skip (faulty-pair points.now from edges i) j edges result }
 {
-    if j < i + 2 {
-        return j;
-    }
-    if j + 1 >= edges {
+    if j < i + 2 || j + 1 >= edges {
         return j;
     }
     next_meeting(points, from, edges, j, a, b, size, boxes)

@@ -9,10 +9,10 @@ ghost use Rattle.std.specs.Prelude.{◌≡◌, Bool, true, ℕ, ◌+◌, ◌*◌
 ghost use Rattle.laws.specs.Whole.{Within};
 ghost use Rattle.plane.specs.Rings.{all_near};
 ghost use Rattle.crossing.specs.Edges.{span, Close, point_at, side, dot, equal-ends, neighbours-overlap, spans-overlap, beside-line, boxes-overlap, edges-meet};
-ghost use Rattle.crossing.specs.Search.{faulty-pair, FirstFault, verdict_of};
+ghost use Rattle.crossing.specs.Search.{faulty-pair, searched, verdict_of};
 
 use crate::blocks::{BOX_NUMBERS, block_length, onward, put_boxes};
-use plane::{higher, is_narrow, lower};
+use plane::{NoArea, higher, is_narrow, is_ring, lower};
 
 #[derive(Clone, Copy)]
 pub struct Point {
@@ -20,22 +20,11 @@ pub struct Point {
     pub y: i64,
 }
 
-#[derive(Clone, Copy)]
-struct Pair {
-    first: usize,
-    second: usize,
-}
-
-#[derive(Clone, Copy)]
-pub enum RingVerdict {
-    // No pair of edges is faulty.
-    Simple,
-    // The first faulty pair: lowest first edge, then lowest second.
-    Faulty(usize, usize),
-    // Refusal 17: a vertex lies too far from the ring's first.
-    Wide,
-    // The table holds no such ring.
-    Missing,
+// A pair of edges that is faulty, the first not behind the second.
+#[derive(Clone, Copy, Debug, PartialEq, Eq)]
+pub struct FaultyPair {
+    pub first: usize,
+    pub second: usize,
 }
 
 // Vertex v of the table.
@@ -82,10 +71,7 @@ fn dot_of(a: Point, b: Point, c: Point) -> i64
 fn equal_ends(a: Point, b: Point) -> bool
     ensures { result ≡ equal-ends a b }
 {
-    if a.x == b.x {
-        return a.y == b.y;
-    }
-    false
+    a.x == b.x && a.y == b.y
 }
 
 // Whether the neighbours AB, BC share more than B.
@@ -93,10 +79,7 @@ fn neighbours_overlap(a: Point, b: Point, c: Point) -> bool
     requires { Close b a × Close b c }
     ensures { result ≡ neighbours-overlap a b c }
 {
-    if side_of(b, a, c) == 0 {
-        return 0 < dot_of(a, b, c);
-    }
-    false
+    side_of(b, a, c) == 0 && 0 < dot_of(a, b, c)
 }
 
 // Whether c and d lie strictly on one side of the line through a and b.
@@ -106,32 +89,20 @@ fn beside_line(a: Point, b: Point, c: Point, d: Point) -> bool
 {
     let s = side_of(a, b, c);
     let t = side_of(a, b, d);
-    if 0 < s {
-        return 0 < t;
-    }
-    if s < 0 {
-        return t < 0;
-    }
-    false
+    if 0 < s { 0 < t } else { s < 0 && t < 0 }
 }
 
 // Whether the spans from a to b and from c to d, ends counted, share a number.
 fn spans_overlap(a: i64, b: i64, c: i64, d: i64) -> bool
     ensures { result ≡ spans-overlap a b c d }
 {
-    if lower(a, b) <= higher(c, d) {
-        return lower(c, d) <= higher(a, b);
-    }
-    false
+    lower(a, b) <= higher(c, d) && lower(c, d) <= higher(a, b)
 }
 
 fn boxes_overlap(a: Point, b: Point, c: Point, d: Point) -> bool
     ensures { result ≡ boxes-overlap a b c d }
 {
-    if spans_overlap(a.x, b.x, c.x, d.x) {
-        return spans_overlap(a.y, b.y, c.y, d.y);
-    }
-    false
+    spans_overlap(a.x, b.x, c.x, d.x) && spans_overlap(a.y, b.y, c.y, d.y)
 }
 
 // Whether the edges AB and CD, which are no neighbours, share a point. The boxes come first: most pairs end there.
@@ -142,10 +113,7 @@ fn edges_meet(a: Point, b: Point, c: Point, d: Point) -> bool
     if !boxes_overlap(a, b, c, d) {
         return false;
     }
-    if beside_line(a, b, c, d) {
-        return false;
-    }
-    !beside_line(c, d, a, b)
+    !beside_line(a, b, c, d) && !beside_line(c, d, a, b)
 }
 
 // Whether edge i, from a to b, and edge j, not before it, are a faulty pair.
@@ -169,18 +137,16 @@ fn faulty_pair(
         return neighbours_overlap(a, b, d);
     }
     let c = vertex(points, from + j);
-    if i == 0 {
-        if j + 1 == edges {
-            return neighbours_overlap(c, d, b);
-        }
+    if i == 0 && j + 1 == edges {
+        return neighbours_overlap(c, d, b);
     }
     edges_meet(a, b, c, d)
 }
 
-// The first faulty pair: each edge in turn with itself and those after it, the search left at once. With none the first is `edges`. The boxes serve `onward` alone.
-fn search(points: &[i64], from: usize, edges: usize) -> Pair
+// The first faulty pair: each edge in turn with itself and those after it, the search left at once. The boxes serve `onward` alone.
+fn search(points: &[i64], from: usize, edges: usize) -> Option<FaultyPair>
     requires { (2 * (from + (edges + 1)) ≤ length points.now) × (all_near points.now from (edges + 1) ≡ true) }
-    ensures { FirstFault points.now from edges result.first result.second }
+    ensures { result ≡ searched points.now from edges }
 {
     let size = block_length(edges);
     let mut boxes = [0i64; BOX_NUMBERS];
@@ -199,25 +165,25 @@ fn search(points: &[i64], from: usize, edges: usize) -> Pair
         }
         i += 1;
     }
-    Pair {
+    if i == edges {
+        return None;
+    }
+    Some(FaultyPair {
         first: i,
         second: j,
-    }
+    })
 }
 
-// The ring check of the ring of `count` vertices from vertex `from` on: its count - 1 edges.
-pub fn first_fault(points: &[i64], from: usize, count: usize) -> RingVerdict
+// The ring check of the ring of `count` vertices from vertex `from` on: of its count - 1 edges the first faulty pair, lowest first edge, then lowest second.
+#[tactic(auto, unfolding(crate::specs::Search::verdict_of))]
+pub fn first_fault(points: &[i64], from: usize, count: usize) -> Result<Option<FaultyPair>, NoArea>
     ensures { result ≡ verdict_of points.now from count }
 {
-    if !plane::is_ring(points, from, count) {
-        return RingVerdict::Missing;
+    if !is_ring(points, from, count) {
+        return Err(NoArea::Missing);
     }
     if !is_narrow(points, from, count) {
-        return RingVerdict::Wide;
+        return Err(NoArea::Wide);
     }
-    let found = search(points, from, count - 1);
-    if found.first < count - 1 {
-        return RingVerdict::Faulty(found.first, found.second);
-    }
-    RingVerdict::Simple
+    Ok(search(points, from, count - 1))
 }

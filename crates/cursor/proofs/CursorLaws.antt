@@ -9,13 +9,13 @@ use lib.Dec.{leb, ltb}
 use denote.Ref.{Bor}
 use Rattle.laws.specs.Lists.{run, all, same}
 use Rattle.laws.proofs.Choice.{cond-elim}
-use Rattle.record.specs.Refusals.{too_long, cut, file_most, record_most}
+use Rattle.std.specs.Prelude.{Result, Ok, Err}
+use Rattle.record.specs.Refusals.{file_most, record_most, number_of}
 use Rattle.record.specs.declared.Mode.{Mode}
 use Rattle.record.specs.declared.Line.{Line}
-use Rattle.record.specs.declared.Line.TheVariants.{Got, Bad}
 use Rattle.record.specs.declared.Found.{Found}
-use Rattle.record.specs.declared.Found.TheVariants.{Record, Refused}
-use Rattle.record.specs.Record.{is_exact, plain, not_lf, word_eof, ends_cr, content_is, line_is, line_of, placed, record_at}
+use Rattle.record.specs.declared.refusal.Refusal.{Refusal}
+use Rattle.record.specs.Record.{is_exact, plain, not_lf, word_eof, ends_cr, content_is, line_is, line_of, found, placed, record_at}
 use Rattle.record.specs.RecordView.{Lies}
 use Rattle.record.proofs.RecordLaws.{record-long, record-end, record-lies}
 use Rattle.cursor.specs.declared.Cursor.{Cursor}
@@ -27,70 +27,63 @@ size c = length c.src.now
 
 module _ (c : Cursor) (due : Bool) where
   -- at or past the end of the file it answers 2
-  pub at-end : size c ≤ file_most → size c ≤ c.at → handed c due ≡ Refused cut
+  pub at-end : size c ≤ file_most → size c ≤ c.at → handed c due ≡ Err Refusal.Cut
   at-end h k = record-end c.src.now c.at c.mode due h k
 
   -- for a file that is too long always 1
-  pub too_long_lem : file_most < size c → handed c due ≡ Refused too_long
+  pub too_long_lem : file_most < size c → handed c due ≡ Err Refusal.TooLong
   too_long_lem h = record-long c.src.now c.at c.mode due h
 
-  module _ (number : ℕ) (e : handed c due ≡ Refused number) where
+  module _ (refusal : Refusal) (e : handed c due ≡ Err refusal) where
     -- a refusal does not move the place
     pub refused-stays : moved_on c due ≡ c
-    refused-stays = ap (λ (r : Found). record { src = c.src; at = place_after r c.at; mode = c.mode }) e
+    refused-stays = ap (λ (r : Result Found Refusal). record { src = c.src; at = place_after r c.at; mode = c.mode }) e
 
     -- so the same request is refused the same way again
-    pub refused-again : handed (moved_on c due) due ≡ Refused number
+    pub refused-again : handed (moved_on c due) due ≡ Err refusal
     refused-again = ap (λ (d : Cursor). handed d due) refused-stays ∙ e
 
   -- a record that is found is at the place and inside the file, and the place after it is its next one
-  pub found-lies : (start len next : ℕ) → handed c due ≡ Record start len next → Lies c.src.now c.at start len next × ((moved_on c due).at ≡ next)
-  found-lies start len next e = (record-lies c.src.now c.at c.mode due start len next e, ap (λ (r : Found). place_after r c.at) e)
+  pub found-lies : (start len next : ℕ) → handed c due ≡ found start len next → Lies c.src.now c.at start len next × ((moved_on c due).at ≡ next)
+  found-lies start len next e = (record-lies c.src.now c.at c.mode due start len next e, ap (λ (r : Result Found Refusal). place_after r c.at) e)
 
   -- the place never goes back, and never leaves the file
   pub place-on : (c.at ≤ (moved_on c due).at) × (c.at ≤ size c → (moved_on c due).at ≤ size c)
   place-on = go (handed c due) refl
     where
-      go : (r : Found) → handed c due ≡ r → (c.at ≤ (moved_on c due).at) × (c.at ≤ size c → (moved_on c due).at ≤ size c)
-      go (Record start len next) e = let f = found-lies start len next e in (omega (arith, f.0.on, f.1), λ _. omega (arith, f.0.within, f.1))
-      go (Refused number) e = let f = ap (λ (d : Cursor). d.at) (refused-stays number e) in (omega arith, λ k. omega arith)
+      go : (r : Result Found Refusal) → handed c due ≡ r → (c.at ≤ (moved_on c due).at) × (c.at ≤ size c → (moved_on c due).at ≤ size c)
+      go (Ok r) e = let f = found-lies r.start r.len r.next e in (omega (arith, f.0.on, f.1), λ _. omega (arith, f.0.within, f.1))
+      go (Err refusal) e = let f = ap (λ (d : Cursor). d.at) (refused-stays refusal e) in (omega arith, λ k. omega arith)
 
 -- ---- the refusals' numbers
 
-abbrev Told : ℕ → Type 0
-Told number = (1 ≤ number) × (number ≤ 5)
+abbrev Told : {A : Type 0} → Result A Refusal → Type 0
+Told (Ok x) = Unit {0}
+Told (Err refusal) = (1 ≤ number_of refusal) × (number_of refusal ≤ 5)
 
-abbrev LineTold : Line → Type 0
-LineTold (Got len width) = Unit {0}
-LineTold (Bad number) = Told number
-
-abbrev FoundTold : Found → Type 0
-FoundTold (Record start len next) = Unit {0}
-FoundTold (Refused number) = Told number
-
-content-told : (body : List ℕ) (width : ℕ) → LineTold (content_is body width)
+content-told : (body : List ℕ) (width : ℕ) → Told (content_is body width)
 unfolding content_is
 content-told body width =
-    cond-elim LineTold (leb (length body) record_most) _ _ (λ _. cond-elim LineTold (all plain body) _ _ (λ _. tt) (λ _. (omega arith, omega arith))) (λ _. (omega arith, omega arith))
+    cond-elim Told (leb (length body) record_most) _ _ (λ _. cond-elim Told (all plain body) _ _ (λ _. tt) (λ _. (omega arith, omega arith))) (λ _. (omega arith, omega arith))
 
-line-told : (mode : Mode) (due : Bool) (bs : List ℕ) → LineTold (line_of mode due bs)
+line-told : (mode : Mode) (due : Bool) (bs : List ℕ) → Told (line_of mode due bs)
 unfolding line_of line_is
 line-told mode due bs =
-    cond-elim LineTold (ltb (run not_lf bs) (length bs)) _ _
-    (λ _. cond-elim LineTold (ends_cr (take (run not_lf bs) bs) || not (is_exact mode)) _ _ (λ _. content-told _ _) (λ _. (omega arith, omega arith)))
-    (λ _. cond-elim LineTold (not (is_exact mode) && due && same bs word_eof) _ _ (λ _. tt) (λ _. (omega arith, omega arith)))
+    cond-elim Told (ltb (run not_lf bs) (length bs)) _ _
+    (λ _. cond-elim Told (ends_cr (take (run not_lf bs) bs) || not (is_exact mode)) _ _ (λ _. content-told _ _) (λ _. (omega arith, omega arith)))
+    (λ _. cond-elim Told (not (is_exact mode) && due && same bs word_eof) _ _ (λ _. tt) (λ _. (omega arith, omega arith)))
 
-found-told : (s : List ℕ) (at : ℕ) (mode : Mode) (due : Bool) → FoundTold (record_at s at mode due)
+found-told : (s : List ℕ) (at : ℕ) (mode : Mode) (due : Bool) → Told (record_at s at mode due)
 unfolding record_at
-found-told s at mode due = cond-elim FoundTold (leb (length s) file_most) _ _ (λ _. go (line_of mode due (drop at s)) (line-told mode due (drop at s))) (λ _. (omega arith, omega arith))
+found-told s at mode due = cond-elim Told (leb (length s) file_most) _ _ (λ _. go (line_of mode due (drop at s)) (line-told mode due (drop at s))) (λ _. (omega arith, omega arith))
   where
-    go : (l : Line) → LineTold l → FoundTold (placed at l)
-    go (Got len width) p = tt
-    go (Bad number) p = p
+    go : (l : Result Line Refusal) → Told l → Told (placed at l)
+    go (Ok line) p = tt
+    go (Err refusal) p = p
 
 -- a cursor refuses by the numbers 1 to 5
-pub refused-number : (c : Cursor) (due : Bool) (number : ℕ) → handed c due ≡ Refused number → (1 ≤ number) × (number ≤ 5)
-refused-number c due number e = subst FoundTold e (found-told c.src.now c.at c.mode due)
+pub refused-number : (c : Cursor) (due : Bool) (refusal : Refusal) → handed c due ≡ Err refusal → (1 ≤ number_of refusal) × (number_of refusal ≤ 5)
+refused-number c due refusal e = subst Told e (found-told c.src.now c.at c.mode due)
 
 -- ---- the record of a number
 
@@ -101,18 +94,18 @@ turns (suc n) c = turns n (moved_on c false)
 
 module _ (due : Bool) (start len next : ℕ) where
   abbrev Hands : ℕ → Cursor → Type 0
-  Hands n c = nth_from c.src.now c.mode due n c.at ≡ Record start len next → handed (turns n c) due ≡ Record start len next
+  Hands n c = nth_from c.src.now c.mode due n c.at ≡ found start len next → handed (turns n c) due ≡ found start len next
 
   hands : (n : ℕ) (c : Cursor) → Hands n c
   unfolding nth_from
   hands zero c e = e
   hands (suc n) c e = go (hands n (moved_on c false)) (handed c false) refl e
     where
-      go : Hands n (moved_on c false) → (r : Found) → handed c false ≡ r → passing r (nth_from c.src.now c.mode due n) ≡ Record start len next → handed (turns n (moved_on c false)) due ≡ Record start len next
-      go f (Record a l x) q z = f (ap (λ (r : Found). nth_from c.src.now c.mode due n (place_after r c.at)) q ∙ z)
-      go f (Refused number) q z = absurd (let y : ◌≡◌ {A = ℕ} 0 1 = cc in omega arith)
+      go : Hands n (moved_on c false) → (r : Result Found Refusal) → handed c false ≡ r → passing r (nth_from c.src.now c.mode due n) ≡ found start len next → handed (turns n (moved_on c false)) due ≡ found start len next
+      go f (Ok r) q z = f (ap (λ (r : Result Found Refusal). nth_from c.src.now c.mode due n (place_after r c.at)) q ∙ z)
+      go f (Err refusal) q z = absurd (let y : ◌≡◌ {A = ℕ} 0 1 = cc in omega arith)
 
   -- what `nth` finds, a cursor hands out after n requests
-  pub nth-handed : (src : Bor (List ℕ)) (mode : Mode) (n : ℕ) → nth_record src.now mode n due ≡ Record start len next
-      → handed (turns n (at_start src mode)) due ≡ Record start len next
+  pub nth-handed : (src : Bor (List ℕ)) (mode : Mode) (n : ℕ) → nth_record src.now mode n due ≡ found start len next
+      → handed (turns n (at_start src mode)) due ≡ found start len next
   nth-handed src mode n = hands n (at_start src mode)

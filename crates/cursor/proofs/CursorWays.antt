@@ -1,38 +1,29 @@
 -- One lemma for each way through the code of `nth`, its premises the facts that the code has there. Assumes nothing.
-use Prim.Native.Nat.{ℕ, suc, ◌+◌, ◌-◌, ◌≤◌, ◌<◌}
+use Prim.Native.Nat.{ℕ, suc, ◌+◌, ◌-◌, ◌<◌, ◌≤◌}
 use mathlib.Core.Path.{◌≡◌, sym, ◌∙◌, ap}
-use mathlib.Core.List.{List}
 use mathlib.Core.Bool.{Bool, false}
 use native.Mathlib.Omega.{arith}
-use Rattle.record.specs.declared.Mode.{Mode}
+use Rattle.std.proofs.Common.{Result, Ok, Err}
 use Rattle.record.specs.declared.Found.{Found}
-use Rattle.record.specs.declared.Found.TheVariants.{Record, Refused}
-use Rattle.record.specs.Record.{record_at}
-use Rattle.cursor.specs.declared.Served.{Served}
-use Rattle.cursor.specs.Cursor.{place_after, step_at, passing, nth_from, nth_record}
+use Rattle.record.specs.declared.refusal.Refusal.{Refusal}
+use Rattle.cursor.specs.declared.Cursor.{Cursor}
+use Rattle.cursor.specs.Cursor.{handed, moved_on, passing, nth_from}
 
-module _ (s : List ℕ) (mode : Mode) (due : Bool) (n : ℕ) where
-  pub nth-start : (0 ≤ n) × (nth_record s mode n due ≡ nth_from s mode due (n - 0) 0)
-  nth-start = let e : n ≡ n - 0 = omega arith in (omega arith, ap (λ (k : ℕ). nth_from s mode due k 0) e)
+-- `w` is wanted: from the cursor on, the record of the number that is left after `i` of `n`
+module _ (due : Bool) (n i : ℕ) (c : Cursor) (w : Result Found Refusal) (left : w ≡ nth_from c.src.now c.mode due (n - i) c.at) where
+  turn : i < n → w ≡ passing (handed c false) (nth_from c.src.now c.mode due (n - (i + 1)))
+  unfolding nth_from
+  turn h = let e : n - i ≡ suc (n - (i + 1)) = omega arith in left ∙ ap (λ (k : ℕ). nth_from c.src.now c.mode due k c.at) e
 
-  module _ (i at : ℕ) (inv : (i ≤ n) × (nth_record s mode n due ≡ nth_from s mode due (n - i) at)) (st : Served) where
-    turn : i < n → nth_record s mode n due ≡ passing (record_at s at mode false) (nth_from s mode due (n - (i + 1)))
-    unfolding nth_from
-    turn h = let e : n - i ≡ suc (n - (i + 1)) = omega arith in inv.1 ∙ ap (λ (k : ℕ). nth_from s mode due k at) e
+  pub nth_on : i < n → {f : Found} {d : Cursor} → handed c false ≡ Ok f → d ≡ moved_on c false → w ≡ nth_from d.src.now d.mode due (n - (i + 1)) d.at
+  nth_on h {f} {d} e q =
+      turn h
+      ∙ ap (λ (r : Result Found Refusal). passing r (nth_from c.src.now c.mode due (n - (i + 1)))) e
+      ∙ rw (q, e)
 
-    module _ (h : i < n) (q : st ≡ step_at s at mode false) where
-      pub nth_on : {start len next : ℕ} → st.found ≡ Record start len next
-          → (i + 1 ≤ n) × (nth_record s mode n due ≡ nth_from s mode due (n - (i + 1)) st.at)
-      nth_on f =
-          let e = sym (ap (λ (t : Served). t.found) q) ∙ f in
-          let on = ap (λ (t : Served). t.at) q ∙ ap (λ (r : Found). place_after r at) e in
-          (omega arith, turn h ∙ ap (λ (r : Found). passing r (nth_from s mode due (n - (i + 1)))) e ∙ sym (ap (nth_from s mode due (n - (i + 1))) on))
+  pub nth-refused : i < n → {e : Refusal} → handed c false ≡ Err e → Err e ≡ w
+  nth-refused h e = sym (turn h ∙ ap (λ (r : Result Found Refusal). passing r (nth_from c.src.now c.mode due (n - (i + 1)))) e)
 
-      pub nth-refused : {number : ℕ} → st.found ≡ Refused number → Refused number ≡ nth_record s mode n due
-      nth-refused f =
-          let e = sym (ap (λ (t : Served). t.found) q) ∙ f in
-          sym (turn h ∙ ap (λ (r : Found). passing r (nth_from s mode due (n - (i + 1)))) e)
-
-    pub nth_last : n ≤ i → st ≡ step_at s at mode due → st.found ≡ nth_record s mode n due
-    unfolding nth_from
-    nth_last h q = let e : n - i ≡ 0 = omega arith in ap (λ (t : Served). t.found) q ∙ sym (inv.1 ∙ ap (λ (k : ℕ). nth_from s mode due k at) e)
+  pub nth_last : n ≤ i → handed c due ≡ w
+  unfolding nth_from
+  nth_last h = let e : n - i ≡ 0 = omega arith in sym (left ∙ ap (λ (k : ℕ). nth_from c.src.now c.mode due k c.at) e)

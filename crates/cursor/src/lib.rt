@@ -4,8 +4,9 @@
 #![tactic(auto)]
 
 ghost use Rattle.std.specs.Prelude.{◌≡◌};
-ghost use Rattle.cursor.specs.Cursor.{place_after, at_start, handed, moved_on, step_at, nth_record};
+ghost use Rattle.cursor.specs.Cursor.{at_start, handed, moved_on, step_at, nth_record};
 
+use record::refusal::Refusal;
 use record::{Found, Mode, record_at};
 
 // The caller's file, the place in it of the next record, and the mode.
@@ -16,21 +17,11 @@ pub struct Cursor<'a> {
     pub mode: Mode,
 }
 
-// An answer, and the place after it.
+// An answer, and the place after it, which a refusal leaves where it was.
 #[derive(Clone, Copy)]
 pub struct Served {
-    pub found: Found,
+    pub found: Result<Found, Refusal>,
     pub at: usize,
-}
-
-// The place after an answer at a place: past the record that is found, and the same where it is refused.
-fn place_after(found: Found, at: usize) -> usize
-    ensures { result ≡ place_after found at }
-{
-    match found {
-        Found::Record { next, .. } => next,
-        Found::Refused(_) => at,
-    }
 }
 
 // A cursor at the file's start.
@@ -41,12 +32,12 @@ pub fn new<'a>(src: &'a [u8], mode: Mode) -> Cursor<'a>
 }
 
 // Hands out the record at the cursor's place, and moves past it. A refusal does not move it.
-pub fn next<'s, 'a>(c: &'s mut Cursor<'a>, due: bool) -> Found
+pub fn next<'s, 'a>(c: &'s mut Cursor<'a>, due: bool) -> Result<Found, Refusal>
     ensures { (result ≡ handed c.old due) × (c.new ≡ moved_on c.old due) }
 {
-    let found = record_at(c.src, c.at, c.mode, due);
-    c.at = place_after(found, c.at);
-    found
+    let found = record_at(c.src, c.at, c.mode, due)?;
+    c.at = found.next;
+    Ok(found)
 }
 
 // One request at a place, with plain parameters: for a caller that keeps the place itself, and for covered functions.
@@ -61,20 +52,12 @@ pub fn next_at(src: &[u8], at: usize, mode: Mode, due: bool) -> Served
 // The record of a number, from 0: for a caller that has a number, as from a refusal, and wants the record's bytes.
 // The records before it are asked for as no keywords: only the loose `EOF` would differ, and nothing follows that one.
 // The first that is refused is the answer.
-pub fn nth(src: &[u8], mode: Mode, n: usize, due: bool) -> Found
+pub fn nth(src: &[u8], mode: Mode, n: usize, due: bool) -> Result<Found, Refusal>
     ensures { result ≡ nth_record src.now mode n due }
 {
-    let mut at = 0;
-    let mut i = 0;
-    while i < n {
-        let step = next_at(src, at, mode, false);
-        let found = step.found;
-        match found {
-            Found::Record { .. } => at = step.at,
-            Found::Refused(number) => return Found::Refused(number),
-        }
-        i += 1;
+    let mut c = new(src, mode);
+    for _ in 0..n {
+        next(&mut c, false)?;
     }
-    let last = next_at(src, at, mode, due);
-    last.found
+    next(&mut c, due)
 }

@@ -9,6 +9,7 @@ use lib.ListN.{length, get_or, take, drop, take-append-drop, length-drop, get_or
 use lib.Seq.{length-take-le, take_at, drop_at, drop-append_seam}
 use lib.IntN.{ℤ, pos, neg_ℤ, nat_abs, ◌+ℤ◌}
 use borrow.Author.Tests.{leb-true, le-leb, ne_eqb}
+use Rattle.std.proofs.Common.{Result, Ok, Err}
 use Rattle.laws.specs.Lists.{below, over}
 use Rattle.laws.proofs.Choice.{and_left, and_right, and_both}
 use Rattle.laws.proofs.ListLaws.{below_at, below_all}
@@ -20,13 +21,11 @@ use Rattle.heading.specs.declared.Header.{Header}
 use Rattle.plane.specs.Moved.{moved}
 use Rattle.plane.proofs.MovedLaws.{length_moved}
 use Rattle.sheet.specs.Tables.{Tables}
-use Rattle.made.specs.declared.Verdict.{Verdict}
-use Rattle.made.specs.declared.Verdict.TheVariants.{Fine, BadHeader, Faulty, Unlisted}
+use Rattle.made.specs.declared.Flaw.{Flaw}
 use Rattle.made.specs.Made.{nat_of, cell_at, count_at, kind_of, islands_of, points_of, rest_of, has_field, in_range, is_cell, cell_test, are_numbers, are_letters, are_counts, are_reals, are_closed, ring_sizes, are_points, is_made, none_before, judge_rows, judge_of, used_of, Before, past_row}
 use Rattle.made.proofs.RowWays.{made_held}
 use Rattle.made.proofs.UsedLaws.{fine-on}
 use Rattle.row.proofs.SeekLaws.{fine-rows}
-use Rattle.edit.specs.declared.Edited.TheVariants.{Done}
 use Rattle.edit.specs.Rows.{every_row, each_row}
 use Rattle.edit.specs.Moves.{move_most, is_part, is_moved, part_at, moved_cell, moved_cells, moved_row, moved_rows, cell_stays, row_stays, rows_stay, moved_tables, is_move, moved_after, move_of}
 use Rattle.edit.specs.Used.{vertex_count}
@@ -199,7 +198,7 @@ module _ (dx dy : ℤ) where
       let at : get_or (moved_row dx dy t.rows ++ u) p (pos 0) ≡ moved_cell dx dy (kind_of t) p (cell_at t p) = get_or-append (moved_row dx dy t.rows) u (pos 0) p (omega (arith, k)) ∙ row-cell dx dy t.rows r.row p l in
       rw (kind-kept dx dy t.rows u r.row, at) (not-or (is_moved (kind_of t) p) _ (λ e. cell-real dx dy (kind_of t) p (cell_at t p) e (was-real t m p e))))
 
-  rows-stay-back : (n : ℕ) (b : Before) (t : Tables) → judge_rows Loose n b t ≡ Fine → rows_stay (neg_ℤ dx) (neg_ℤ dy) n (moved_rows dx dy n t.rows) ≡ true
+  rows-stay-back : (n : ℕ) (b : Before) (t : Tables) → judge_rows Loose n b t ≡ Ok tt → rows_stay (neg_ℤ dx) (neg_ℤ dy) n (moved_rows dx dy n t.rows) ≡ true
   unfolding every_row each_row
   rows-stay-back zero b t e = refl
   rows-stay-back (suc n) b t e =
@@ -210,7 +209,7 @@ module _ (dx dy : ℤ) where
       (ap (rows_stay (neg_ℤ dx) (neg_ℤ dy) n) (drop_at (moved_row dx dy t.rows) u row_width (length-row dx dy t.rows (made_held t g.0).row)) ∙ rows-stay-back n (past_row b t) (rest_of t) g.1)
 
 -- the points that well made rows use are reals
-pub used-real : (n : ℕ) (b : Before) (t : Tables) → judge_rows Loose n b t ≡ Fine → are_reals (used_of n t).points ≡ true
+pub used-real : (n : ℕ) (b : Before) (t : Tables) → judge_rows Loose n b t ≡ Ok tt → are_reals (used_of n t).points ≡ true
 unfolding used_of are_reals
 used-real zero b t e = refl
 used-real (suc n) b t e =
@@ -218,20 +217,18 @@ used-real (suc n) b t e =
     reals-append (points_of t) (used_of n (rest_of t)).points ∙ and_both (are_reals (points_of t)) (are_reals (used_of n (rest_of t)).points) (own-real t g.0) (used-real n (past_row b t) (rest_of t) g.1)
 
 -- **an accepted move followed by its opposite** is accepted, and gives the sheet as it stood
-module _ (h : Header) (n : ℕ) (t : Tables) (dx dy : ℤ) (a : move_of h n t dx dy ≡ Done n) where
-  both : (judge_of Loose h n t ≡ Fine) × (is_move dx dy n t ≡ true)
+module _ (h : Header) (n : ℕ) (t : Tables) (dx dy : ℤ) (a : move_of h n t dx dy ≡ Ok n) where
+  both : (judge_of Loose h n t ≡ Ok tt) × (is_move dx dy n t ≡ true)
   unfolding move_of
   both = go (judge_of Loose h n t) refl (is_move dx dy n t) refl a
     where
-      go : (v : Verdict) → judge_of Loose h n t ≡ v → (b : Bool) → is_move dx dy n t ≡ b → moved_after v n b ≡ Done n → (judge_of Loose h n t ≡ Fine) × (is_move dx dy n t ≡ true)
-      go Fine p true q e = (p, q)
-      go Fine p false q e = absurd (let z : ◌≡◌ {A = ℕ} 0 1 = cc in omega arith)
-      go BadHeader p b q e = absurd (let z : ◌≡◌ {A = ℕ} 0 1 = cc in omega arith)
-      go (Faulty k) p b q e = absurd (let z : ◌≡◌ {A = ℕ} 0 1 = cc in omega arith)
-      go (Unlisted k) p b q e = absurd (let z : ◌≡◌ {A = ℕ} 0 1 = cc in omega arith)
+      go : (v : Result Unit Flaw) → judge_of Loose h n t ≡ v → (b : Bool) → is_move dx dy n t ≡ b → moved_after v n b ≡ Ok n → (judge_of Loose h n t ≡ Ok tt) × (is_move dx dy n t ≡ true)
+      go (Ok u) p true q e = (p, q)
+      go (Ok u) p false q e = absurd (let z : ◌≡◌ {A = ℕ} 0 1 = cc in omega arith)
+      go (Err f) p b q e = absurd (let z : ◌≡◌ {A = ℕ} 0 1 = cc in omega arith)
 
   fits : (row_width * n ≤ length t.rows) × (2 * vertex_count n t.rows ≤ length t.points)
-  fits = judged-long h n t dx dy Fine (sym both.0) refl
+  fits = judged-long h n t dx dy (Ok tt) (sym both.0) refl
 
   pub back-given : moved_tables (neg_ℤ dx) (neg_ℤ dy) n (moved_tables dx dy n t) ≡ t
   back-given = tables-back dx dy n t fits.0 fits.1
@@ -248,6 +245,6 @@ module _ (h : Header) (n : ℕ) (t : Tables) (dx dy : ℤ) (a : move_of h n t dx
       (and_both (rows_stay (neg_ℤ dx) (neg_ℤ dy) n (moved_rows dx dy n t.rows)) _ (rows-stay-back dx dy n none_before t j)
       (ap (λ (s : List ℤ). are_reals (moved (neg_ℤ dx) (neg_ℤ dy) s)) (used-moved-points dx dy n t fits.0 fits.1) ∙ ap are_reals (points-back dx dy (used_of n t).points) ∙ used-real n none_before t j)))
 
-  pub back-accepted : move_of h n (moved_tables dx dy n t) (neg_ℤ dx) (neg_ℤ dy) ≡ Done n
+  pub back-accepted : move_of h n (moved_tables dx dy n t) (neg_ℤ dx) (neg_ℤ dy) ≡ Ok n
   unfolding move_of
   back-accepted = rw (moved-fine Loose h n t dx dy both.0 both.1, is-back)

@@ -6,11 +6,11 @@ use native.Mathlib.Omega.{arith}
 use lib.ListN.{get_or, take, drop}
 use lib.Seq.{take-add, drop-drop}
 use lib.IntN.{ℤ, pos}
+use Rattle.std.proofs.Common.{Result, Ok, Err}
 use Rattle.laws.specs.Lists.{over}
 use Rattle.record.specs.declared.Mode.{Mode}
 use Rattle.kinds.specs.Kinds.{row_width, letters_place, islands_place, vertices_place}
 use Rattle.sheet.specs.Tables.{Tables, ◌then◌, Starts}
-use Rattle.made.specs.declared.Verdict.TheVariants.{Fine}
 use Rattle.made.specs.Made.{nat_of, count_at, first_of, rest_of, counts_of, Before, past_row, judge_rows, used_of}
 use Rattle.made.proofs.RowWays.{Held, made_held}
 use Rattle.made.proofs.OwnLaws.{cell-alike, first-own, rest-own}
@@ -116,7 +116,7 @@ module _ {A : Type 0} {col : Tables → List A} {g : Tables → ℕ} {tot : ℕ 
   tot-back (suc n) s t = c.more n (taken_back s t) ∙ ap₂ (λ (x y : ℕ). x + y) (c.back-g s t) (ap (tot n) (back-rest s t) ∙ tot-back n s (rest_of t)) ∙ sym (c.more n t)
 
   -- the others have what all have, less what the row has
-  pub tot-without : (mode : Mode) (n k : ℕ) (b : Before) (t : Tables) → judge_rows mode (suc n) b t ≡ Fine → k ≤ n → tot n (without k t) + g (rest_at k t) ≡ tot (suc n) t
+  pub tot-without : (mode : Mode) (n k : ℕ) (b : Before) (t : Tables) → judge_rows mode (suc n) b t ≡ Ok tt → k ≤ n → tot n (without k t) + g (rest_at k t) ≡ tot (suc n) t
   unfolding without rest_at
   tot-without mode n zero b t e h = omega (arith, tot-back n (counts_of t) (rest_of t), c.more n t)
   tot-without mode zero (suc k) b t e h = absurd (omega arith)
@@ -134,7 +134,7 @@ module _ {A : Type 0} {col : Tables → List A} {g : Tables → ℕ} {tot : ℕ 
   tot-upto (suc n) (suc k) t h = omega (arith, c.more n t, c.more k t, tot-upto n k (rest_of t) (omega arith))
 
   -- closed up
-  pub closed : (mode : Mode) (n k : ℕ) (b : Before) (t : Tables) → judge_rows mode (suc n) b t ≡ Fine → k ≤ n
+  pub closed : (mode : Mode) (n k : ℕ) (b : Before) (t : Tables) → judge_rows mode (suc n) b t ≡ Ok tt → k ≤ n
       → closed_up (tot k t) (g (rest_at k t)) (tot (suc n) t) (col t) ≡ over (col (used_of n (without k t))) (col t)
   closed mode n k b t e h =
       let z : tot (suc n) t - g (rest_at k t) ≡ tot n (without k t) = omega (arith, tot-without mode n k b t e h) in

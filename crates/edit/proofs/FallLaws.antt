@@ -7,12 +7,12 @@ use native.Mathlib.Omega.{arith}
 use lib.ListN.{length, get_or, take, drop, length-drop}
 use lib.Seq.{take-add, drop-drop, length-take-le}
 use lib.IntN.{ℤ, pos, ◌+ℤ◌, ◌-ℤ◌}
+use Rattle.std.proofs.Common.{Result, Ok, Err}
 use Rattle.laws.proofs.Parts.{num, sum, diff, eq-parts}
 use Rattle.record.specs.declared.Mode.{Mode}
 use Rattle.kinds.specs.Kinds.{row_width, code_place, letters_place, islands_place, vertices_place, first_letter_place, first_island_place, first_point_place}
 use Rattle.sheet.specs.Tables.{Tables, Starts, ◌plus◌, move_at, move_from, moved_on, starting_at}
 use Rattle.sheet.proofs.StartLaws.{moved-own, moved_at}
-use Rattle.made.specs.declared.Verdict.TheVariants.{Fine}
 use Rattle.made.specs.Made.{nat_of, count_at, kind_of, own_of, rest_of, is_made, are_starts, Before, past_row, is_coded, judge_rows}
 use Rattle.made.proofs.RowWays.{made_held}
 use Rattle.made.proofs.UsedLaws.{fine-on, fine_before}
@@ -83,7 +83,7 @@ past-on s b c t q =
     rw (q, own letters_place (pos 0) (omega arith), own islands_place (pos 0) (omega arith), own vertices_place (pos 0) (omega arith), x, y, z)
 
 -- **rows that come to stand behind fewer are fine there**, whatever the number of the first
-pub fine_back : (mode : Mode) (s : Starts) (n : ℕ) (b c : Before) (t : Tables) → c.starts ≡ s plus b.starts → judge_rows mode n c (starting_at s t) ≡ Fine → judge_rows mode n b t ≡ Fine
+pub fine_back : (mode : Mode) (s : Starts) (n : ℕ) (b c : Before) (t : Tables) → c.starts ≡ s plus b.starts → judge_rows mode n c (starting_at s t) ≡ Ok tt → judge_rows mode n b t ≡ Ok tt
 unfolding judge_rows
 fine_back mode s zero b c t q e = refl
 fine_back mode s (suc n) b c t q e =

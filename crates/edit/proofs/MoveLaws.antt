@@ -9,6 +9,7 @@ use lib.ListN.{length, get_or, take, drop, length-append, length-drop, take-appe
 use lib.Seq.{length-take-le, get_or-take, take_all, drop-drop}
 use lib.IntN.{ℤ, pos, ◌+ℤ◌, ◌-ℤ◌}
 use borrow.Author.Tests.{leb-true, le-leb, lt-leb, ne_eqb, eqb-true}
+use Rattle.std.proofs.Common.{Result, Ok, Err}
 use Rattle.laws.specs.Lists.{below}
 use Rattle.laws.specs.Whole.{eq_z}
 use Rattle.laws.proofs.Choice.{true≢false, and_left, and_right, and_both, and-false, cond-first}
@@ -23,7 +24,7 @@ use Rattle.heading.specs.Heading.{is_header}
 use Rattle.plane.specs.Moved.{moved}
 use Rattle.plane.proofs.MovedLaws.{length_moved, x-moved, y-moved}
 use Rattle.sheet.specs.Tables.{Tables, ◌then◌, Starts}
-use Rattle.made.specs.declared.Verdict.TheVariants.{Fine, BadHeader}
+use Rattle.made.specs.declared.Flaw.TheVariants.{BadHeader}
 use Rattle.made.specs.Made.{tables_of, nat_of, cell_at, count_at, kind_of, letters_of, islands_of, points_of, first_of, rest_of, has_field, in_range, is_cell, is_cell_at, cell_test, are_numbers, are_letters, sum as total_of, are_counts, are_reals, is_closed, are_closed, ring_sizes, are_points, is_made, are_starts, Before, none_before, past_row, is_coded, judge_rows, judge_of, used_of}
 use Rattle.made.proofs.RowWays.{Held, made_held, border-outer}
 use Rattle.made.proofs.OwnLaws.{first-first, cell-first, made-first, first_then, rest_then}
@@ -338,8 +339,8 @@ module _ (dx dy : ℤ) where
       let f : (are_reals (moved dx dy (points_of t)) && are_reals (moved dx dy q)) ≡ true = sym (ap are_reals (moved-append dx dy v (points_of t) q k) ∙ reals-append (moved dx dy (points_of t)) (moved dx dy q)) ∙ e in
       (and_left (are_reals (moved dx dy (points_of t))) (are_reals (moved dx dy q)) f, and_right (are_reals (moved dx dy (points_of t))) (are_reals (moved dx dy q)) f)
 
-  pub rows-moved-fine : (mode : Mode) (n : ℕ) (b : Before) (t : Tables) → judge_rows mode n b t ≡ Fine → rows_stay dx dy n t.rows ≡ true → are_reals (moved dx dy (used_of n t).points) ≡ true
-      → judge_rows mode n b (moved_tables dx dy n t) ≡ Fine
+  pub rows-moved-fine : (mode : Mode) (n : ℕ) (b : Before) (t : Tables) → judge_rows mode n b t ≡ Ok tt → rows_stay dx dy n t.rows ≡ true → are_reals (moved dx dy (used_of n t).points) ≡ true
+      → judge_rows mode n b (moved_tables dx dy n t) ≡ Ok tt
   unfolding judge_rows every_row
   rows-moved-fine mode zero b t e s p = refl
   rows-moved-fine mode (suc n) b t e s p =
@@ -362,7 +363,7 @@ module _ (dx dy : ℤ) where
       (ap₂ (judge_rows mode n) past (moved-rest dx dy t r u) ∙ rows-moved-fine mode n (past_row b t) (rest_of t) g.1 (and_right (row_stays dx dy t.rows) (rows_stay dx dy n (drop row_width t.rows)) s) q.1)
 
 -- **a well made sheet that is moved is well made**, in every mode
-module _ (mode : Mode) (h : Header) (n : ℕ) (t : Tables) (dx dy : ℤ) (e : judge_of mode h n t ≡ Fine) (m : is_move dx dy n t ≡ true) where
+module _ (mode : Mode) (h : Header) (n : ℕ) (t : Tables) (dx dy : ℤ) (e : judge_of mode h n t ≡ Ok tt) (m : is_move dx dy n t ≡ true) where
   pub move-has : (rows_stay dx dy n t.rows ≡ true) × (are_reals (moved dx dy (used_of n t).points) ≡ true)
   unfolding is_move
   move-has =
@@ -370,8 +371,8 @@ module _ (mode : Mode) (h : Header) (n : ℕ) (t : Tables) (dx dy : ℤ) (e : ju
       let b = and_right (is_part dy) (rows_stay dx dy n t.rows && are_reals (moved dx dy (used_of n t).points)) a in
       (and_left (rows_stay dx dy n t.rows) (are_reals (moved dx dy (used_of n t).points)) b, and_right (rows_stay dx dy n t.rows) (are_reals (moved dx dy (used_of n t).points)) b)
 
-  pub moved-fine : judge_of mode h n (moved_tables dx dy n t) ≡ Fine
+  pub moved-fine : judge_of mode h n (moved_tables dx dy n t) ≡ Ok tt
   unfolding judge_of
   moved-fine =
-      let j = cond-first (is_header h) (judge_rows mode n none_before t) BadHeader Fine (λ z. let y : ◌≡◌ {A = ℕ} 0 1 = cc in omega arith) e in
+      let j = cond-first (is_header h) (judge_rows mode n none_before t) (Err BadHeader) (Ok tt) (λ z. let y : ◌≡◌ {A = ℕ} 0 1 = cc in omega arith) e in
       rw j.0 (rows-moved-fine dx dy mode n none_before t j.1 move-has.0 move-has.1)

@@ -6,13 +6,14 @@ use Prim.Native.Nat.{ℕ, zero, suc, ◌+◌, ◌-◌, ◌≤◌}
 use native.Mathlib.Omega.{arith}
 use lib.ListN.{length, drop}
 use lib.Seq.{take-take}
+use Rattle.std.proofs.Common.{Result, Ok, Err}
 use Rattle.laws.proofs.Choice.{cond-first}
 use Rattle.record.specs.declared.Mode.{Mode}
 use Rattle.kinds.specs.Kinds.{own_width, code_place, letters_place, islands_place, vertices_place}
 use Rattle.heading.specs.declared.Header.{Header}
 use Rattle.heading.specs.Heading.{is_header}
 use Rattle.sheet.specs.Tables.{Tables, ◌then◌, over_of, Starts, ◌plus◌, starting_at}
-use Rattle.made.specs.declared.Verdict.TheVariants.{Fine, BadHeader}
+use Rattle.made.specs.declared.Flaw.TheVariants.{BadHeader}
 use Rattle.made.specs.Made.{tables_of, kind_of, count_at, first_of, rest_of, alone_of, is_made, counts_of, Before, none_before, past_row, is_coded, judge_rows, judge_of, used_of}
 use Rattle.made.proofs.RowWays.{made_held}
 use Rattle.made.proofs.OwnLaws.{Own, own-alike, first_alike, cell-alike, made_alike, starts-alike, first-own, rest-own, letters-own, islands-own, points-own}
@@ -31,7 +32,7 @@ plus_comm a b =
     let z : a.points + b.points ≡ b.points + a.points = omega arith in
     rw (x, y, z)
 
-pub fine-without : (mode : Mode) (n k : ℕ) (b : Before) (t : Tables) → judge_rows mode (suc n) b t ≡ Fine → k ≤ n → judge_rows mode n b (without k t) ≡ Fine
+pub fine-without : (mode : Mode) (n k : ℕ) (b : Before) (t : Tables) → judge_rows mode (suc n) b t ≡ Ok tt → k ≤ n → judge_rows mode n b (without k t) ≡ Ok tt
 unfolding without
 fine-without mode n zero b t e h =
     let f = fine-on mode n b t e in
@@ -68,7 +69,7 @@ module _ {A : Type 0} (f : Tables → A) (own : Says f) where
   back-says : (s : Starts) (t : Tables) → is_made t ≡ true → f (taken_back s t) ≡ f t
   back-says s t m = sym (own.placed s (taken_back s t) (back-made s t ∙ m)) ∙ ap f (back-starting s t)
 
-  elements-back : (mode : Mode) (n : ℕ) (b : Before) (s : Starts) (t : Tables) → judge_rows mode n b t ≡ Fine → elements_of f n (taken_back s t) ≡ elements_of f n t
+  elements-back : (mode : Mode) (n : ℕ) (b : Before) (s : Starts) (t : Tables) → judge_rows mode n b t ≡ Ok tt → elements_of f n (taken_back s t) ≡ elements_of f n t
   unfolding elements_of
   elements-back mode zero b s t e = refl
   elements-back mode (suc n) b s t e =
@@ -76,7 +77,7 @@ module _ {A : Type 0} (f : Tables → A) (own : Says f) where
       ap₂ (λ (x : A) (l : List A). x ∷ l) (back-says s t g.0) (ap (elements_of f n) (back-rest s t) ∙ elements-back mode n (past_row b t) s (rest_of t) g.1)
 
   -- **the others, in order**
-  pub elements-without : (mode : Mode) (n k : ℕ) (b : Before) (t : Tables) → judge_rows mode (suc n) b t ≡ Fine → k ≤ n → elements_of f n (without k t) ≡ less_one k (elements_of f (suc n) t)
+  pub elements-without : (mode : Mode) (n k : ℕ) (b : Before) (t : Tables) → judge_rows mode (suc n) b t ≡ Ok tt → k ≤ n → elements_of f n (without k t) ≡ less_one k (elements_of f (suc n) t)
   unfolding elements_of less_one without
   elements-without mode n zero b t e h = elements-back mode n (past_row b t) (counts_of t) (rest_of t) (fine-on mode n b t e).1
   elements-without mode zero (suc k) b t e h = absurd (omega arith)
@@ -88,7 +89,7 @@ module _ {A : Type 0} (f : Tables → A) (own : Says f) where
       (ap (elements_of f n) (rest-own t w held) ∙ elements-without mode n k (past_row b t) (rest_of t) g.1 (omega arith))
 
   -- whatever stands behind the used part
-  pub elements-used : (mode : Mode) (n : ℕ) (b : Before) (t u : Tables) → judge_rows mode n b t ≡ Fine → elements_of f n (used_of n t then u) ≡ elements_of f n t
+  pub elements-used : (mode : Mode) (n : ℕ) (b : Before) (t u : Tables) → judge_rows mode n b t ≡ Ok tt → elements_of f n (used_of n t then u) ≡ elements_of f n t
   unfolding elements_of used_of
   elements-used mode zero b t u e = refl
   elements-used mode (suc n) b t u e =
@@ -107,18 +108,18 @@ alone-says t m =
 
 -- ---- the sheet
 
-module _ (mode : Mode) (h : Header) (n : ℕ) (t : Tables) (k : ℕ) (e : judge_of mode h (suc n) t ≡ Fine) (l : k ≤ n) where
-  both : (is_header h ≡ true) × (judge_rows mode (suc n) none_before t ≡ Fine)
+module _ (mode : Mode) (h : Header) (n : ℕ) (t : Tables) (k : ℕ) (e : judge_of mode h (suc n) t ≡ Ok tt) (l : k ≤ n) where
+  both : (is_header h ≡ true) × (judge_rows mode (suc n) none_before t ≡ Ok tt)
   unfolding judge_of
-  both = cond-first (is_header h) (judge_rows mode (suc n) none_before t) BadHeader Fine (λ z. let y : ◌≡◌ {A = ℕ} 0 1 = cc in omega arith) e
+  both = cond-first (is_header h) (judge_rows mode (suc n) none_before t) (Err BadHeader) (Ok tt) (λ z. let y : ◌≡◌ {A = ℕ} 0 1 = cc in omega arith) e
 
   abbrev w : Tables
   w = without k t
 
-  fine-w : judge_rows mode n none_before w ≡ Fine
+  fine-w : judge_rows mode n none_before w ≡ Ok tt
   fine-w = fine-without mode n k none_before t both.1 l
 
-  judged-w : judge_of mode h n w ≡ Fine
+  judged-w : judge_of mode h n w ≡ Ok tt
   unfolding judge_of
   judged-w = rw both.0 fine-w
 
@@ -133,9 +134,9 @@ module _ (mode : Mode) (h : Header) (n : ℕ) (t : Tables) (k : ℕ) (e : judge_
   pub removed-is : removed_tables (suc n) k t ≡ used_of n w then behind
   removed-is = ap (λ (j : ℕ). over_of (used_of j w) t) less
 
-  fine-used : judge_rows mode n none_before (used_of n w) ≡ Fine
+  fine-used : judge_rows mode n none_before (used_of n w) ≡ Ok tt
   unfolding judge_of
-  fine-used = (cond-first (is_header h) (judge_rows mode n none_before (used_of n w)) BadHeader Fine (λ z. let y : ◌≡◌ {A = ℕ} 0 1 = cc in omega arith) (judge-used mode h n w ∙ judged-w)).1
+  fine-used = (cond-first (is_header h) (judge_rows mode n none_before (used_of n w)) (Err BadHeader) (Ok tt) (λ z. let y : ◌≡◌ {A = ℕ} 0 1 = cc in omega arith) (judge-used mode h n w ∙ judged-w)).1
 
   -- the others use what they used
   pub removed-used : used_of n (removed_tables (suc n) k t) ≡ used_of n w
@@ -144,7 +145,7 @@ module _ (mode : Mode) (h : Header) (n : ℕ) (t : Tables) (k : ℕ) (e : judge_
       ∙ sym (used-then mode n none_before (used_of n w) (behind_of n w) fine-used) ∙ ap (used_of n) (used-behind n w)
 
   -- **it is well made**
-  pub removed-fine : judge_of mode h n (removed_tables (suc n) k t) ≡ Fine
+  pub removed-fine : judge_of mode h n (removed_tables (suc n) k t) ≡ Ok tt
   removed-fine = sym (judge-used mode h n (removed_tables (suc n) k t)) ∙ ap (judge_of mode h n) removed-used ∙ judge-used mode h n w ∙ judged-w
 
   -- **its elements are the others in order**: what any definition on a row says of them

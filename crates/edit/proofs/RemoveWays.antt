@@ -8,6 +8,7 @@ use lib.ListN.{length, get_or, take, drop, length-append, length-drop, get_or-ap
 use lib.Seq.{get_or-drop, get_or-take, length-take-le, take-append-add, take_at, drop_at}
 use lib.IntN.{ℤ, pos, negsuc}
 use lib.Signed.{mag, le_z}
+use Rattle.std.proofs.Common.{Result, Ok, Err}
 use Rattle.laws.specs.Lists.{tail}
 use Rattle.laws.proofs.Choice.{and_both}
 use Rattle.laws.proofs.ListLaws.{rest-is, left-none}
@@ -17,13 +18,12 @@ use Rattle.record.specs.declared.Mode.TheVariants.{Loose}
 use Rattle.kinds.specs.Kinds.{row_width, letters_place, islands_place, vertices_place, first_letter_place, first_island_place, first_point_place}
 use Rattle.heading.specs.declared.Header.{Header}
 use Rattle.sheet.specs.Tables.{Tables, Starts}
-use Rattle.made.specs.declared.Verdict.TheVariants.{Fine}
 use Rattle.made.specs.Made.{nat_of, count_at, starts_at, counts_of, none_before, judge_rows, used_of}
 use Rattle.made.proofs.UsedLaws.{total, used-front, Long, fine-long}
 use Rattle.made.proofs.StartLaws.{Starting, starts-are, starts-total, past_rows}
 use Rattle.row.specs.declared.Stand.{Stand}
-use Rattle.row.specs.declared.Sought.{Sought}
-use Rattle.row.specs.declared.Sought.TheVariants.{At}
+use Rattle.row.specs.declared.Stand.{Stand}
+use Rattle.row.specs.declared.Unfound.{Unfound}
 use Rattle.row.specs.Walk.{word_most, cell_in, stand_of, Stands}
 use Rattle.row.specs.Seek.{sought_of}
 use Rattle.row.proofs.Walk.{walk-to, walk-own}
@@ -49,7 +49,7 @@ counted_is z m r e = let f : r ≡ nat_of z = rw (back z m) at e in (f, rw f (co
 
 -- ---- where rows stand and end, by the sums of the counts
 
-module _ (n : ℕ) (t : Tables) (e : judge_rows Loose n none_before t ≡ Fine) where
+module _ (n : ℕ) (t : Tables) (e : judge_rows Loose n none_before t ≡ Ok tt) where
   starting : (k : ℕ) → k < n → Starting (past_rows k none_before t).starts (drop (row_width * k) t.rows)
   starting k h = starts-are (past_rows k none_before t).starts (drop (row_width * k) t.rows) (starts-total Loose n none_before t e k h)
 
@@ -104,14 +104,14 @@ module _ (n : ℕ) (t : Tables) (e : judge_rows Loose n none_before t ≡ Fine) 
 
 -- ---- the row that is taken out
 
-module _ (n k : ℕ) (t : Tables) (e : judge_rows Loose n none_before t ≡ Fine) (h : k < n) (d : Stand) (q : d ≡ stand_of k t.rows) where
+module _ (n k : ℕ) (t : Tables) (e : judge_rows Loose n none_before t ≡ Ok tt) (h : k < n) (d : Stand) (q : d ≡ stand_of k t.rows) where
   abbrev m : ℕ
   m = n - 1
 
   all-rows : suc m ≡ n
   all-rows = omega arith
 
-  fine-all : judge_rows Loose (suc m) none_before t ≡ Fine
+  fine-all : judge_rows Loose (suc m) none_before t ≡ Ok tt
   fine-all = ap (λ (j : ℕ). judge_rows Loose j none_before t) all-rows ∙ e
 
   d-is : d ≡ record { row = row_width * k; letters = total letters_place k t; islands = total islands_place k t; points = 2 * total vertices_place k t }
@@ -270,10 +270,10 @@ module _ (n k : ℕ) (t : Tables) (e : judge_rows Loose n none_before t ≡ Fine
 
 -- ---- a sheet
 
-module _ (h : Header) (n : ℕ) (t : Tables) (k : ℕ) (r : Sought) (e : r ≡ sought_of h n t k) where
-  pub remove-after : (w : Sought) → r ≡ w → removed_after n w ≡ remove_of h n t k
+module _ (h : Header) (n : ℕ) (t : Tables) (k : ℕ) (r : Result Stand Unfound) (e : r ≡ sought_of h n t k) where
+  pub remove-after : (w : Result Stand Unfound) → r ≡ w → removed_after n w ≡ remove_of h n t k
   unfolding remove_of
   remove-after w f = rw (← e, f)
 
-  pub remove-asks : (d : Stand) → r ≡ At d → (judge_rows Loose n none_before t ≡ Fine) × (k < n) × (d ≡ stand_of k t.rows)
+  pub remove-asks : (d : Stand) → r ≡ Ok d → (judge_rows Loose n none_before t ≡ Ok tt) × (k < n) × (d ≡ stand_of k t.rows)
   remove-asks d f = let s = stood h n t k d r e f in (fine-rows h n t s.fine, s.row, s.is)

@@ -11,18 +11,18 @@ use mir.Syntax.{w64}
 use mir.Val.{SFits}
 use mir.Facts.{to_z-of_z}
 use borrow.Author.Tests.{not-true, not-false}
+use Rattle.std.proofs.Common.{Result, Ok, Err}
 use Rattle.record.specs.declared.Mode.TheVariants.{Loose}
 use Rattle.kinds.specs.Kinds.{row_width, vertices_place}
 use Rattle.heading.specs.declared.Header.{Header}
 use Rattle.plane.specs.Moved.{moved}
 use Rattle.plane.proofs.MovedLaws.{length_moved}
 use Rattle.sheet.specs.Tables.{Tables}
-use Rattle.made.specs.declared.Verdict.{Verdict}
-use Rattle.made.specs.declared.Verdict.TheVariants.{Fine}
+use Rattle.made.specs.declared.Flaw.{Flaw}
 use Rattle.made.specs.Made.{rest_of, none_before, are_reals, judge_of, used_of}
 use Rattle.made.proofs.UsedLaws.{total, used-front, fine-long}
 use Rattle.row.proofs.SeekLaws.{fine-rows}
-use Rattle.edit.specs.declared.Edited.TheVariants.{Done, MovedOff}
+use Rattle.edit.specs.declared.Unedited.TheVariants.{MovedOff}
 use Rattle.edit.specs.Moves.{is_part, rows_stay, moved_rows, moved_tables, is_move, moved_after, move_of}
 use Rattle.edit.specs.Used.{vertex_count, points_used, is_move_of, moved_points}
 use Rattle.edit.proofs.PartWays.{bits}
@@ -106,25 +106,25 @@ used-points n t = ap (λ (x : Tables). x.points) (used-front n t) ∙ rw (total-
 
 -- ---- a sheet
 
-module _ (h : Header) (count : ℕ) (t : Tables) (dx dy : ℤ) (v : Verdict) (e : v ≡ judge_of Loose h count t) where
-  pub judged-long : v ≡ Fine → (row_width * count ≤ length t.rows) × (2 * vertex_count count t.rows ≤ length t.points)
+module _ (h : Header) (count : ℕ) (t : Tables) (dx dy : ℤ) (v : Result Unit Flaw) (e : v ≡ judge_of Loose h count t) where
+  pub judged-long : v ≡ Ok tt → (row_width * count ≤ length t.rows) × (2 * vertex_count count t.rows ≤ length t.points)
   judged-long f = let l = fine-long Loose count none_before t (fine-rows h count t (sym e ∙ f)) in (l.rows_in, omega (arith, l.points-in, total-is count t))
 
-  pub move-after : (w : Verdict) → v ≡ w → moved_after w count (is_move dx dy count t) ≡ move_of h count t dx dy
+  pub move-after : (w : Result Unit Flaw) → v ≡ w → moved_after w count (is_move dx dy count t) ≡ move_of h count t dx dy
   unfolding move_of
   move-after w f = rw (← e, f)
 
-  module _ (f : v ≡ Fine) (fx : SFits w64 dx) (fy : SFits w64 dy) (b : Bool) (q : b ≡ is_move_of (bits dx) (bits dy) count t.rows t.points) where
+  module _ (f : v ≡ Ok tt) (fx : SFits w64 dx) (fy : SFits w64 dy) (b : Bool) (q : b ≡ is_move_of (bits dx) (bits dy) count t.rows t.points) where
     is-move : is_move dx dy count t ≡ b
     unfolding is_move is_move_of
     is-move = rw (used-points count t) (sym (rw (to_z-of_z fx, to_z-of_z fy) at q))
 
     module _ (rows points : List ℤ) (er : rows ≡ cond b (moved_rows (bits dx) (bits dy) count t.rows) t.rows)
         (ep : points ≡ cond b (moved_points (bits dx) (bits dy) count t.rows t.points) t.points) where
-      pub sheet-moved : b ≡ true → (Done count ≡ move_of h count t dx dy) × ((rows ≡ (moved_tables dx dy count t).rows) × (points ≡ (moved_tables dx dy count t).points))
+      pub sheet-moved : b ≡ true → (Ok count ≡ move_of h count t dx dy) × ((rows ≡ (moved_tables dx dy count t).rows) × (points ≡ (moved_tables dx dy count t).points))
       unfolding moved_tables
       sheet-moved y =
-          (ap (λ (x : Bool). cond x (Done count) MovedOff) (sym (is-move ∙ y)) ∙ move-after Fine f, (rw (to_z-of_z fx, to_z-of_z fy, y) at er, (rw (to_z-of_z fx, to_z-of_z fy, y) at ep) ∙ rw (used-points count t)))
+          (ap (λ (x : Bool). cond x (Ok count) (Err MovedOff)) (sym (is-move ∙ y)) ∙ move-after (Ok tt) f, (rw (to_z-of_z fx, to_z-of_z fy, y) at er, (rw (to_z-of_z fx, to_z-of_z fy, y) at ep) ∙ rw (used-points count t)))
 
-      pub sheet-off : b ≡ false → (MovedOff ≡ move_of h count t dx dy) × ((rows ≡ t.rows) × (points ≡ t.points))
-      sheet-off y = (ap (λ (x : Bool). cond x (Done count) MovedOff) (sym (is-move ∙ y)) ∙ move-after Fine f, (rw y at er, rw y at ep))
+      pub sheet-off : b ≡ false → (Err MovedOff ≡ move_of h count t dx dy) × ((rows ≡ t.rows) × (points ≡ t.points))
+      sheet-off y = (ap (λ (x : Bool). cond x (Ok count) (Err MovedOff)) (sym (is-move ∙ y)) ∙ move-after (Ok tt) f, (rw y at er, rw y at ep))

@@ -5,11 +5,12 @@ use Rattle.laws.specs.Text.{text}
 use Rattle.heading.specs.declared.Header.{Header}
 use Rattle.plane.specs.Moved.{moved}
 use Rattle.sheet.specs.Tables.{Tables}
-use Rattle.made.specs.declared.Verdict.TheVariants.{BadHeader, Faulty}
+use Rattle.made.specs.declared.Flaw.TheVariants.{BadHeader, Faulty}
 use Rattle.made.specs.Made.{tables_of, used_of}
 use Rattle.made.specs.Examples.{header, computed as computed_verdict}
-use Rattle.edit.specs.declared.Edited.{Edited}
-use Rattle.edit.specs.declared.Edited.TheVariants.{Done, MovedOff, Refused}
+use Rattle.std.specs.Prelude.{Result, Ok, Err}
+use Rattle.edit.specs.declared.Unedited.{Unedited}
+use Rattle.edit.specs.declared.Unedited.TheVariants.{MovedOff, Refused}
 use Rattle.edit.specs.Answers.{tables_at, number_of, row_of, count_of}
 use Rattle.edit.specs.Rows.{every_row, each_row}
 use Rattle.edit.specs.Moves.{is_part, is_moved, part_at, moved_cell, moved_cells, moved_row, moved_tables, row_stays, is_move, move_of}
@@ -46,16 +47,16 @@ sheet_of x y z =
     (z ∷ pos 0 ∷ pos 9 ∷ pos 0 ∷ pos 5 ∷ [])
 
 -- the definitions opened, so that they compute
-unfoldable pub computed : Header → ℕ → Tables → ℤ → ℤ → Edited × Tables
+unfoldable pub computed : Header → ℕ → Tables → ℤ → ℤ → Result ℕ Unedited × Tables
 unfolding move_of is_move moved_tables each_row every_row row_stays is_part moved used_of computed_row computed_verdict
 computed h count t dx dy = (move_of h count t dx dy, moved_tables dx dy count t)
 
-pub move_sheet : ℕ → Tables → ℤ → ℤ → Edited
+pub move_sheet : ℕ → Tables → ℤ → ℤ → Result ℕ Unedited
 unfolding computed
 move_sheet count t dx dy = move_of (header 1) count t dx dy
 
 -- what is behind the rows and behind their points stays
-all_moved : (move_sheet 2 (sheet_of (pos 3000) (negsuc 4) (pos 0)) (pos 1000) (negsuc 1) ≡ Done 2)
+all_moved : (move_sheet 2 (sheet_of (pos 3000) (negsuc 4) (pos 0)) (pos 1000) (negsuc 1) ≡ Ok 2)
     × (moved_tables (pos 1000) (negsuc 1) 2 (sheet_of (pos 3000) (negsuc 4) (pos 0))
     ≡ tables_of (row 2 (pos 18) (pos 4) (pos 4000) (negsuc 6) (pos 0) (pos 0) 1 0 0 0 0 0 ++ row 5 (pos 0) (pos 0) (pos 0) (pos 0) (pos 0) (pos 0) 0 0 2 1 0 0 ++ pos 77 ∷ []) (text "7?") (4 ∷ [])
     (pos 1000 ∷ negsuc 1 ∷ pos 1009 ∷ negsuc 1 ∷ pos 5 ∷ []))
@@ -70,36 +71,36 @@ unfolding computed
 first-moved = refl
 
 -- a position to the ends of the real range, and one past them
-position-ends : (move_sheet 1 (sheet_of (pos 0) (pos 0) (pos 0)) (pos 99999999999) (negsuc 9999999998) ≡ Done 1) × (move_sheet 1 (sheet_of (pos 1) (pos 0) (pos 0)) (pos 99999999999) (pos 0) ≡ MovedOff)
-    × (move_sheet 1 (sheet_of (pos 0) (negsuc 0) (pos 0)) (pos 0) (negsuc 9999999998) ≡ MovedOff) × (move_sheet 1 (sheet_of (pos 0) (pos 0) (pos 0)) (negsuc 9999999999) (pos 0) ≡ MovedOff)
-    × (move_sheet 1 (sheet_of (pos 0) (pos 0) (pos 0)) (pos 0) (pos 100000000000) ≡ MovedOff)
+position-ends : (move_sheet 1 (sheet_of (pos 0) (pos 0) (pos 0)) (pos 99999999999) (negsuc 9999999998) ≡ Ok 1) × (move_sheet 1 (sheet_of (pos 1) (pos 0) (pos 0)) (pos 99999999999) (pos 0) ≡ Err MovedOff)
+    × (move_sheet 1 (sheet_of (pos 0) (negsuc 0) (pos 0)) (pos 0) (negsuc 9999999998) ≡ Err MovedOff) × (move_sheet 1 (sheet_of (pos 0) (pos 0) (pos 0)) (negsuc 9999999999) (pos 0) ≡ Err MovedOff)
+    × (move_sheet 1 (sheet_of (pos 0) (pos 0) (pos 0)) (pos 0) (pos 100000000000) ≡ Err MovedOff)
 unfolding move_sheet
 position-ends = (refl, refl, refl, refl, refl)
 
 -- the same of a vertex: the line's second, at (9, 0)
-vertex-ends : (move_sheet 2 (sheet_of (pos 0) (pos 0) (pos 0)) (pos 99999999990) (pos 0) ≡ Done 2) × (move_sheet 2 (sheet_of (pos 0) (pos 0) (pos 0)) (pos 99999999991) (pos 0) ≡ MovedOff)
-    × (move_sheet 2 (sheet_of (pos 9) (pos 0) (negsuc 0)) (negsuc 9999999997) (pos 0) ≡ Done 2) × (move_sheet 2 (sheet_of (pos 9) (pos 0) (negsuc 0)) (negsuc 9999999998) (pos 0) ≡ MovedOff)
+vertex-ends : (move_sheet 2 (sheet_of (pos 0) (pos 0) (pos 0)) (pos 99999999990) (pos 0) ≡ Ok 2) × (move_sheet 2 (sheet_of (pos 0) (pos 0) (pos 0)) (pos 99999999991) (pos 0) ≡ Err MovedOff)
+    × (move_sheet 2 (sheet_of (pos 9) (pos 0) (negsuc 0)) (negsuc 9999999997) (pos 0) ≡ Ok 2) × (move_sheet 2 (sheet_of (pos 9) (pos 0) (negsuc 0)) (negsuc 9999999998) (pos 0) ≡ Err MovedOff)
 unfolding move_sheet
 vertex-ends = (refl, refl, refl, refl)
 
 -- from one end of the range to the other; and on an empty sheet one millimetre more is refused too
-whole-range : (move_sheet 1 (sheet_of (negsuc 9999999998) (pos 99999999999) (pos 0)) (pos 109999999998) (negsuc 109999999997) ≡ Done 1)
-    × (move_sheet 0 (tables_of [] [] [] []) (pos 109999999998) (negsuc 109999999997) ≡ Done 0) × (move_sheet 0 (tables_of [] [] [] []) (pos 109999999999) (pos 0) ≡ MovedOff)
-    × (move_sheet 0 (tables_of [] [] [] []) (pos 0) (negsuc 109999999998) ≡ MovedOff)
+whole-range : (move_sheet 1 (sheet_of (negsuc 9999999998) (pos 99999999999) (pos 0)) (pos 109999999998) (negsuc 109999999997) ≡ Ok 1)
+    × (move_sheet 0 (tables_of [] [] [] []) (pos 109999999998) (negsuc 109999999997) ≡ Ok 0) × (move_sheet 0 (tables_of [] [] [] []) (pos 109999999999) (pos 0) ≡ Err MovedOff)
+    × (move_sheet 0 (tables_of [] [] [] []) (pos 0) (negsuc 109999999998) ≡ Err MovedOff)
 unfolding move_sheet
 whole-range = (refl, refl, refl, refl)
 
 -- missing fields are not judged, and stay 0
-missing-fields : move_sheet 2 (sheet_of (negsuc 0) (pos 0) (negsuc 9)) (pos 99999999990) (pos 0) ≡ Done 2
+missing-fields : move_sheet 2 (sheet_of (negsuc 0) (pos 0) (negsuc 9)) (pos 99999999990) (pos 0) ≡ Ok 2
 unfolding move_sheet
 missing-fields = refl
 
 -- 6, then 15, then 24
-order : (move_of (header 4) 3 (sheet_of (pos 0) (pos 0) (pos 0)) (pos 109999999999) (pos 0) ≡ Refused BadHeader) × (move_sheet 3 (sheet_of (pos 0) (pos 0) (pos 0)) (pos 109999999999) (pos 0) ≡ Refused (Faulty 2))
+order : (move_of (header 4) 3 (sheet_of (pos 0) (pos 0) (pos 0)) (pos 109999999999) (pos 0) ≡ Err (Refused BadHeader)) × (move_sheet 3 (sheet_of (pos 0) (pos 0) (pos 0)) (pos 109999999999) (pos 0) ≡ Err (Refused (Faulty 2)))
 unfolding move_sheet computed
 order = (refl, refl)
 
 -- the paper's numbers; a refusal leaves the tables as they were
-told : (number_of MovedOff ≡ 24) × (count_of (Done 2) ≡ 2) × (count_of MovedOff ≡ 0) × (number_of (Refused (Faulty 2)) ≡ 15) × (row_of (Refused (Faulty 2)) ≡ 2)
-    × (tables_at MovedOff (tables_of [] [] [] []) (sheet_of (pos 0) (pos 0) (pos 0)) ≡ sheet_of (pos 0) (pos 0) (pos 0))
+told : (number_of (Err MovedOff) ≡ 24) × (count_of (Ok 2) ≡ 2) × (count_of (Err MovedOff) ≡ 0) × (number_of (Err (Refused (Faulty 2))) ≡ 15) × (row_of (Err (Refused (Faulty 2))) ≡ 2)
+    × (tables_at (Err MovedOff) (tables_of [] [] [] []) (sheet_of (pos 0) (pos 0) (pos 0)) ≡ sheet_of (pos 0) (pos 0) (pos 0))
 told = (refl, refl, refl, refl, refl, refl)

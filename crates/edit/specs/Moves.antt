@@ -1,6 +1,6 @@
 -- A sheet that is moved (document 02, T-08): "Moving adds one whole-millimetre pair to every vertex, position, inner point and label point; sizes,
 -- angles and missing fields don't change". Assumes nothing: these are definitions.
-use Rattle.std.specs.Prelude.{ℕ, suc, List, [], ◌∷◌, Bool, cond, not, ◌&&◌, ◌||◌, get_or, take, leb, eqb, ℤ, pos, nat_abs, ◌+ℤ◌}
+use Rattle.std.specs.Prelude.{ℕ, suc, List, [], ◌∷◌, Bool, cond, not, ◌&&◌, ◌||◌, get_or, take, leb, eqb, ℤ, pos, nat_abs, ◌+ℤ◌, Result, Ok, Err}
 use Rattle.laws.specs.Lists.{below, over}
 use Rattle.record.specs.declared.Mode.TheVariants.{Loose}
 use Rattle.number.specs.Number.{is_real}
@@ -8,12 +8,11 @@ use Rattle.kinds.specs.Kinds.{row_width, x_place, x2_place, y2_place}
 use Rattle.heading.specs.declared.Header.{Header}
 use Rattle.plane.specs.Moved.{moved}
 use Rattle.sheet.specs.Tables.{Tables}
-use Rattle.made.specs.declared.Verdict.{Verdict}
-use Rattle.made.specs.declared.Verdict.TheVariants.{Fine, BadHeader, Faulty, Unlisted}
+use Rattle.made.specs.declared.Flaw.{Flaw}
 use Rattle.made.specs.Made.{nat_of, has_field, are_reals, judge_of, used_of}
-use Rattle.edit.specs.declared.Edited.{Edited}
+use Rattle.edit.specs.declared.Unedited.{Unedited}
 use Rattle.edit.specs.Rows.{every_row, each_row}
-use Rattle.edit.specs.declared.Edited.TheVariants.{Done, MovedOff, Refused}
+use Rattle.edit.specs.declared.Unedited.TheVariants.{MovedOff, Refused}
 
 -- ---- the pair
 
@@ -71,11 +70,9 @@ unfoldable pub is_move : ℤ → ℤ → ℕ → Tables → Bool
 is_move dx dy n t = is_part dx && (is_part dy && (rows_stay dx dy n t.rows && are_reals (moved dx dy (used_of n t).points)))
 
 -- the header (6), then 15, then 24
-abbrev pub moved_after : Verdict → ℕ → Bool → Edited
-moved_after Fine count b = cond b (Done count) MovedOff
-moved_after BadHeader count b = Refused BadHeader
-moved_after (Faulty k) count b = Refused (Faulty k)
-moved_after (Unlisted k) count b = Refused (Unlisted k)
+abbrev pub moved_after : Result Unit Flaw → ℕ → Bool → Result ℕ Unedited
+moved_after (Ok u) count b = cond b (Ok count) (Err MovedOff)
+moved_after (Err f) count b = Err (Refused f)
 
-unfoldable pub move_of : Header → ℕ → Tables → ℤ → ℤ → Edited
+unfoldable pub move_of : Header → ℕ → Tables → ℤ → ℤ → Result ℕ Unedited
 move_of h count t dx dy = moved_after (judge_of Loose h count t) count (is_move dx dy count t)

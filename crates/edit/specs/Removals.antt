@@ -1,14 +1,15 @@
 -- A sheet that a row is taken out of (document 02, T-08): "Removing row k closes up all four tables, keeps the order, keeps every start true and leaves
 -- the freed tail as it was". Assumes nothing: these are definitions.
-use Rattle.std.specs.Prelude.{ℕ, zero, suc, ◌-◌, ◌%◌, List, [], ◌∷◌, ℤ, pos, ◌-ℤ◌}
+use Rattle.std.specs.Prelude.{ℕ, zero, suc, ◌-◌, ◌%◌, List, [], ◌∷◌, ℤ, pos, ◌-ℤ◌, Result, Ok, Err}
 use Rattle.kinds.specs.Kinds.{row_width}
 use Rattle.heading.specs.declared.Header.{Header}
 use Rattle.sheet.specs.Tables.{Tables, ◌then◌, over_of, Starts, move_at}
 use Rattle.made.specs.Made.{first_of, rest_of, counts_of, used_of}
-use Rattle.row.specs.declared.Sought.{Sought}
+use Rattle.row.specs.declared.Stand.{Stand}
+use Rattle.row.specs.declared.Unfound.{Unfound}
 use Rattle.row.specs.Seek.{sought_of}
-use Rattle.edit.specs.declared.Edited.{Edited}
-use Rattle.edit.specs.declared.Edited.TheVariants.{Done, Missing, Refused}
+use Rattle.edit.specs.declared.Unedited.{Unedited}
+use Rattle.edit.specs.Answers.{unfound_as}
 
 -- ---- starts that fall
 
@@ -33,10 +34,9 @@ abbrev pub removed_tables : ℕ → ℕ → Tables → Tables
 removed_tables n k t = over_of (used_of (n - 1) (without k t)) t
 
 -- the header (6), then 15, then 19
-abbrev pub removed_after : ℕ → Sought → Edited
-removed_after n (Sought.At d) = Done (n - 1)
-removed_after n Sought.Missing = Missing
-removed_after n (Sought.Refused v) = Refused v
+abbrev pub removed_after : ℕ → Result Stand Unfound → Result ℕ Unedited
+removed_after n (Ok d) = Ok (n - 1)
+removed_after n (Err e) = Err (unfound_as e)
 
-unfoldable pub remove_of : Header → ℕ → Tables → ℕ → Edited
+unfoldable pub remove_of : Header → ℕ → Tables → ℕ → Result ℕ Unedited
 remove_of h count t k = removed_after count (sought_of h count t k)

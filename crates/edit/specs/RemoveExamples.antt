@@ -4,12 +4,13 @@ use Rattle.std.specs.Prelude.{ℕ, ◌≡◌, refl, List, [], ◌∷◌, ◌++�
 use Rattle.laws.specs.Text.{text}
 use Rattle.heading.specs.declared.Header.{Header}
 use Rattle.sheet.specs.Tables.{Tables, move_at}
-use Rattle.made.specs.declared.Verdict.TheVariants.{BadHeader, Faulty}
+use Rattle.made.specs.declared.Flaw.TheVariants.{BadHeader, Faulty}
 use Rattle.made.specs.Made.{tables_of, used_of}
 use Rattle.made.specs.Examples.{header}
 use Rattle.row.specs.Examples.{computed as computed_sought}
-use Rattle.edit.specs.declared.Edited.{Edited}
-use Rattle.edit.specs.declared.Edited.TheVariants.{Done, Missing, Refused}
+use Rattle.std.specs.Prelude.{Result, Ok, Err}
+use Rattle.edit.specs.declared.Unedited.{Unedited}
+use Rattle.edit.specs.declared.Unedited.TheVariants.{Missing, Refused}
 use Rattle.edit.specs.Answers.{number_of, count_of}
 use Rattle.edit.specs.Removals.{fall_from, without, removed_tables, remove_of}
 use Rattle.edit.specs.MoveExamples.{row}
@@ -36,11 +37,11 @@ abbrev three : Tables
 three = tables_of (border 0 0 0 ++ label 3 1 8 ++ line 5 1 8 ++ pos 77 ∷ []) (text "abcde?") (4 ∷ 9 ∷ []) (ring 0 ++ ring 0 ++ ends ++ pos 7 ∷ [])
 
 -- the definitions opened, so that they compute
-unfoldable pub computed : Header → ℕ → Tables → ℕ → Edited × Tables
+unfoldable pub computed : Header → ℕ → Tables → ℕ → Result ℕ Unedited × Tables
 unfolding remove_of without fall_from move_at used_of computed_sought
 computed h count t k = (remove_of h count t k, removed_tables count k t)
 
-pub remove_row : ℕ → Tables → ℕ → Edited
+pub remove_row : ℕ → Tables → ℕ → Result ℕ Unedited
 unfolding computed
 remove_row count t k = remove_of (header 1) count t k
 
@@ -49,7 +50,7 @@ unfolding computed
 rest count k t = removed_tables count k t
 
 -- the first: the rows behind it fall to 0, and what is freed keeps what it held: the last row, "de?", "4 9", and from the fifth number on the points
-first_out : (remove_row 3 three 0 ≡ Done 2)
+first_out : (remove_row 3 three 0 ≡ Ok 2)
     × (rest 3 0 three ≡ tables_of (label 0 0 0 ++ line 2 0 0 ++ line 5 1 8 ++ pos 77 ∷ []) (text "decde?") (4 ∷ 9 ∷ []) (ends ++ pos 9 ∷ pos 9 ∷ pos 0 ∷ pos 0 ∷ ring 0 ++ ends ++ pos 7 ∷ []))
 unfolding remove_row rest
 first_out = (refl, refl)
@@ -60,11 +61,11 @@ unfolding rest
 second-out = refl
 
 -- the last, and the only one: nothing is copied
-last_out : (remove_row 3 three 2 ≡ Done 2) × (rest 3 2 three ≡ three) × (remove_row 1 three 0 ≡ Done 0) × (rest 1 0 three ≡ three)
+last_out : (remove_row 3 three 2 ≡ Ok 2) × (rest 3 2 three ≡ three) × (remove_row 1 three 0 ≡ Ok 0) × (rest 1 0 three ≡ three)
 unfolding remove_row rest
 last_out = (refl, refl, refl, refl)
 
 -- 6, then 15, then 19
-order : (remove_of (header 4) 4 three 9 ≡ Refused BadHeader) × (remove_row 4 three 9 ≡ Refused (Faulty 3)) × (remove_row 3 three 3 ≡ Missing) × (number_of Missing ≡ 19) × (count_of Missing ≡ 0)
+order : (remove_of (header 4) 4 three 9 ≡ Err (Refused BadHeader)) × (remove_row 4 three 9 ≡ Err (Refused (Faulty 3))) × (remove_row 3 three 3 ≡ Err Missing) × (number_of (Err Missing) ≡ 19) × (count_of (Err Missing) ≡ 0)
 unfolding remove_row computed
 order = (refl, refl, refl, refl, refl)

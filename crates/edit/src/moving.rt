@@ -8,10 +8,10 @@ ghost use Rattle.edit.specs.Answers.{tables_at};
 ghost use Rattle.edit.specs.Moves.{is_part, row_stays, rows_stay, moved_rows, moved_tables, move_of};
 ghost use Rattle.edit.specs.Used.{pair_stays, pair_shifted, vertex_most, vertex_count, is_move_of, moved_points};
 
-use crate::Edited;
+use crate::Unedited;
 use heading::Header;
 use kinds::ROW_WIDTH;
-use made::{Verdict, count_at, judge};
+use made::{Lent, Sheet, count_at, judge};
 use record::Mode;
 
 // How far a part of a move may go, either way.
@@ -238,7 +238,8 @@ fn move_judged(count: usize, rows: &mut [i64], points: &mut [i64], dx: i64, dy: 
     true
 }
 
-// Moves the whole sheet by a pair of whole millimetres. Any code is well made.
+// Moves the whole sheet by a pair of whole millimetres, and answers its rows. Any code is well made.
+#[tactic(auto, unfolding(crate::specs::Moves::move_of))]
 pub fn move_sheet(
     header: Header,
     count: usize,
@@ -248,20 +249,27 @@ pub fn move_sheet(
     points: &mut [i64],
     dx: i64,
     dy: i64,
-) -> Edited
+) -> Result<usize, Unedited>
     ensures value { result ≡ move_of header count (tables_of rows.old letters.now islands.now points.old) dx dy }
     ensures rows_after { rows.new ≡ (tables_at result (moved_tables dx dy count (tables_of rows.old letters.now islands.now points.old)) (tables_of rows.old letters.now islands.now points.old)).rows }
     ensures points_after { points.new ≡ (tables_at result (moved_tables dx dy count (tables_of rows.old letters.now islands.now points.old)) (tables_of rows.old letters.now islands.now points.old)).points }
 {
-    match judge(Mode::Loose, header, count, rows, letters, islands, points) {
-        Verdict::Fine => {
-            if move_judged(count, rows, points, dx, dy) {
-                return Edited::Done(count);
-            }
-            Edited::MovedOff
-        }
-        Verdict::BadHeader => Edited::Refused(Verdict::BadHeader),
-        Verdict::Faulty(k) => Edited::Refused(Verdict::Faulty(k)),
-        Verdict::Unlisted(k) => Edited::Refused(Verdict::Unlisted(k)),
+    let lent = Lent {
+        rows: &*rows,
+        letters,
+        islands,
+        points: &*points,
+    };
+    judge(
+        Mode::Loose,
+        &Sheet {
+            header,
+            count,
+            lent,
+        },
+    )?;
+    if !move_judged(count, rows, points, dx, dy) {
+        return Err(Unedited::MovedOff);
     }
+    Ok(count)
 }

@@ -1,9 +1,8 @@
 // A row that is taken out: what stands behind it in each table is copied down, and the starts of the rows behind it fall.
-ghost use Rattle.std.specs.Prelude.{◌≡◌, true, ◌+◌, ◌*◌, ◌≤◌, ◌<◌, length, get_or, pos};
+ghost use Rattle.std.specs.Prelude.{◌≡◌, true, ◌+◌, ◌*◌, ◌≤◌, ◌<◌, length, get_or, pos, Ok};
 ghost use Rattle.std.specs.Int.Signed.{le_z};
 ghost use Rattle.record.specs.declared.Mode.TheVariants.{Loose};
 ghost use Rattle.kinds.specs.Kinds.{row_width};
-ghost use Rattle.made.specs.declared.Verdict.TheVariants.{Fine};
 ghost use Rattle.made.specs.Made.{tables_of, nat_of, starts_at, none_before, judge_rows};
 ghost use Rattle.row.specs.Walk.{word_most, stand_of, Stands};
 ghost use Rattle.edit.specs.Answers.{tables_at};
@@ -11,11 +10,11 @@ ghost use Rattle.edit.specs.Rows.{every_row, each_row};
 ghost use Rattle.edit.specs.Removals.{removed_tables, remove_of};
 ghost use Rattle.edit.specs.Closing.{closed_up, start_most, lowered, is_up, fallen_row, end_stand};
 
-use crate::Edited;
+use crate::Unedited;
 use heading::Header;
 use kinds::{FIRST_ISLAND_PLACE, FIRST_LETTER_PLACE, FIRST_POINT_PLACE, ROW_WIDTH};
-use made::{count_at, count_of};
-use row::{Sought, Stand, seek};
+use made::{Lent, Sheet, count_at, count_of};
+use row::{Stand, seek};
 
 const LETTERS_PLACE: usize = 9;
 
@@ -124,7 +123,7 @@ fn remove_at(
     row: usize,
     d: Stand,
 )
-    requires { (judge_rows Loose count none_before (tables_of rows.old letters.old islands.old points.old) ≡ Fine) × (row < count) × (d ≡ stand_of row rows.old) }
+    requires { (judge_rows Loose count none_before (tables_of rows.old letters.old islands.old points.old) ≡ Ok tt) × (row < count) × (d ≡ stand_of row rows.old) }
     ensures rows_after { rows.new ≡ (removed_tables count row (tables_of rows.old letters.old islands.old points.old)).rows }
     ensures letters_after { letters.new ≡ (removed_tables count row (tables_of rows.old letters.old islands.old points.old)).letters }
     ensures islands_after { islands.new ≡ (removed_tables count row (tables_of rows.old letters.old islands.old points.old)).islands }
@@ -135,21 +134,15 @@ fn remove_at(
     let i = counted(rows, r + ISLANDS_PLACE);
     let v = counted(rows, r + VERTICES_PLACE);
     let end = end_of(count, rows);
-    let letters_end = end.letters;
-    let islands_end = end.islands;
-    let points_end = end.points;
-    let rows_end = end.row;
-    let letters_at = d.letters;
-    let islands_at = d.islands;
-    let points_at = d.points;
-    close_letters(letters, letters_at, l, letters_end);
-    close_islands(islands, islands_at, i, islands_end);
-    close_numbers(points, points_at, 2 * v, points_end);
-    close_numbers(rows, r, ROW_WIDTH, rows_end);
+    close_letters(letters, d.letters, l, end.letters);
+    close_islands(islands, d.islands, i, end.islands);
+    close_numbers(points, d.points, 2 * v, end.points);
+    close_numbers(rows, r, ROW_WIDTH, end.row);
     lower_rows(count - 1 - row, &mut rows[r..], l, i, v);
 }
 
-// Takes a row out. Any code is well made.
+// Takes a row out, and answers the rows that are left. Any code is well made.
+#[tactic(auto, unfolding(crate::specs::Removals::remove_of))]
 pub fn remove_row(
     header: Header,
     count: usize,
@@ -158,19 +151,25 @@ pub fn remove_row(
     islands: &mut [u16],
     points: &mut [i64],
     row: usize,
-) -> Edited
+) -> Result<usize, Unedited>
     ensures value { result ≡ remove_of header count (tables_of rows.old letters.old islands.old points.old) row }
     ensures rows_after { rows.new ≡ (tables_at result (removed_tables count row (tables_of rows.old letters.old islands.old points.old)) (tables_of rows.old letters.old islands.old points.old)).rows }
     ensures letters_after { letters.new ≡ (tables_at result (removed_tables count row (tables_of rows.old letters.old islands.old points.old)) (tables_of rows.old letters.old islands.old points.old)).letters }
     ensures islands_after { islands.new ≡ (tables_at result (removed_tables count row (tables_of rows.old letters.old islands.old points.old)) (tables_of rows.old letters.old islands.old points.old)).islands }
     ensures points_after { points.new ≡ (tables_at result (removed_tables count row (tables_of rows.old letters.old islands.old points.old)) (tables_of rows.old letters.old islands.old points.old)).points }
 {
-    match seek(header, count, rows, letters, islands, points, row) {
-        Sought::At(d) => {
-            remove_at(count, rows, letters, islands, points, row, d);
-            Edited::Done(count - 1)
-        }
-        Sought::Missing => Edited::Missing,
-        Sought::Refused(v) => Edited::Refused(v),
-    }
+    let lent = Lent {
+        rows: &*rows,
+        letters: &*letters,
+        islands: &*islands,
+        points: &*points,
+    };
+    let sheet = Sheet {
+        header,
+        count,
+        lent,
+    };
+    let d = seek(&sheet, row)?;
+    remove_at(count, rows, letters, islands, points, row, d);
+    Ok(count - 1)
 }

@@ -10,6 +10,7 @@ use lib.Dec.{eqb}
 use lib.ListN.{length, get_or, take, drop, length-append, get_or-append}
 use lib.Seq.{length-take-le, get_or-take, take_all, take-take, take-append-le, drop-length}
 use lib.IntN.{ℤ, pos}
+use Rattle.std.proofs.Common.{Result, Ok, Err}
 use Rattle.laws.specs.Lists.{over}
 use Rattle.laws.proofs.ListLaws.{left-none}
 use Rattle.record.specs.declared.Mode.TheVariants.{Loose}
@@ -18,24 +19,22 @@ use Rattle.heading.specs.declared.Header.{Header}
 use Rattle.sheet.specs.Tables.{Tables, ◌then◌, no_starts, start_cells}
 use Rattle.plane.specs.Moved.{moved}
 use Rattle.plane.proofs.MovedLaws.{length_moved, area-moved}
-use Rattle.made.specs.declared.Verdict.{Verdict}
-use Rattle.made.specs.declared.Verdict.TheVariants.{Fine}
+use Rattle.made.specs.declared.Flaw.{Flaw}
 use Rattle.made.specs.Made.{nat_of, cell_at, count_at, kind_of, letters_of, islands_of, points_of, first_of, own_of, rest_of, alone_of, none_before, is_made, Before, past_row, judge_rows, judge_of, used_of}
 use Rattle.made.proofs.RowWays.{Held, made_held}
 use Rattle.made.proofs.OwnLaws.{cell-first}
 use Rattle.made.proofs.UsedLaws.{fine-on}
 use Rattle.row.specs.declared.Stand.{Stand}
-use Rattle.row.specs.declared.Sought.{Sought}
-use Rattle.row.specs.declared.Sought.TheVariants as Sought
+use Rattle.row.specs.declared.Stand.{Stand}
+use Rattle.row.specs.declared.Unfound.{Unfound}
 use Rattle.row.specs.Walk.{first_stand, next_stand, stand_of, left_at}
 use Rattle.row.specs.Seek.{sought_after, sought_of}
 use Rattle.row.specs.Alone.{row_alone}
 use Rattle.row.proofs.Walk.{left-next}
 use Rattle.row.proofs.SeekLaws.{fine-rows}
 use Rattle.row.proofs.UsedLaws.{alone-fine}
-use Rattle.area.specs.declared.RingAnswer.{RingAnswer}
-use Rattle.area.specs.declared.RingAnswer.TheVariants as Ring
-use Rattle.area.specs.Questions.{answer_of, ring_of_row, net_area_of, ring_found, ring_at, area_found, ring_area_at, net_found, net_area_at}
+use Rattle.area.specs.declared.RingPlace.{RingPlace}
+use Rattle.area.specs.Questions.{answer_of, ring_or_missing, ring_of_row, net_area_of, ring_found, ring_at, area_found, ring_area_at, net_found, net_area_at}
 use Rattle.area.proofs.AreaLaws.{areas-moved}
 use Rattle.area.proofs.UsedLaws.{area-alone, net-alone}
 use Rattle.classes.specs.Classes.{class_of}
@@ -61,14 +60,14 @@ unfolding rest_at stand_of
 left-rest zero t = refl
 left-rest (suc k) t = left-next t (stand_of k t.rows) ∙ ap rest_of (left-rest k t) ∙ rest-last k t
 
-made-rest : (n k : ℕ) (b : Before) (t : Tables) → judge_rows Loose n b t ≡ Fine → k < n → is_made (rest_at k t) ≡ true
+made-rest : (n k : ℕ) (b : Before) (t : Tables) → judge_rows Loose n b t ≡ Ok tt → k < n → is_made (rest_at k t) ≡ true
 unfolding rest_at
 made-rest zero k b t e h = absurd (omega arith)
 made-rest (suc n) zero b t e h = (fine-on Loose n b t e).0
 made-rest (suc n) (suc k) b t e h = made-rest n k (past_row b t) (rest_of t) (fine-on Loose n b t e).1 (omega arith)
 
 module _ (dx dy : ℤ) where
-  rest-moved-at : (k n : ℕ) (b : Before) (t : Tables) → judge_rows Loose n b t ≡ Fine → k ≤ n → rest_at k (moved_tables dx dy n t) ≡ moved_tables dx dy (n - k) (rest_at k t)
+  rest-moved-at : (k n : ℕ) (b : Before) (t : Tables) → judge_rows Loose n b t ≡ Ok tt → k ≤ n → rest_at k (moved_tables dx dy n t) ≡ moved_tables dx dy (n - k) (rest_at k t)
   unfolding rest_at
   rest-moved-at zero n b t e h = ap (λ (j : ℕ). moved_tables dx dy j t) (sym (sub-zero n))
   rest-moved-at (suc k) zero b t e h = absurd (omega arith)
@@ -80,7 +79,7 @@ module _ (dx dy : ℤ) where
       ∙ rest-moved-at k n (past_row b t) (rest_of t) g.1 (omega arith) ∙ ap (λ (j : ℕ). moved_tables dx dy j (rest_at k (rest_of t))) (sym z)
 
   -- a row that is moved, by what stands there
-  row-moved-at : (k n : ℕ) (t : Tables) → judge_rows Loose n none_before t ≡ Fine → k < n
+  row-moved-at : (k n : ℕ) (t : Tables) → judge_rows Loose n none_before t ≡ Ok tt → k < n
       → rest_at k (moved_tables dx dy n t) ≡ moved_first dx dy (rest_at k t) then moved_tables dx dy (n - suc k) (rest_of (rest_at k t))
   row-moved-at k n t e h =
       let z : n - k ≡ suc (n - suc k) = omega arith in
@@ -91,7 +90,7 @@ unfolding border_of
 class_same h x y e = ap (class_of h.kind h.name) e
 
 -- **the class of every border is the same**
-pub class-moved : (h : Header) (n : ℕ) (t : Tables) (dx dy : ℤ) (k : ℕ) → judge_of Loose h n t ≡ Fine → k < n
+pub class-moved : (h : Header) (n : ℕ) (t : Tables) (dx dy : ℤ) (k : ℕ) → judge_of Loose h n t ≡ Ok tt → k < n
     → (border_of h (left_at (moved_tables dx dy n t) (stand_of k (moved_tables dx dy n t).rows))).class ≡ (border_of h (left_at t (stand_of k t.rows))).class
 class-moved h n t dx dy k e l =
     let j = fine-rows h n t e in
@@ -167,7 +166,7 @@ module _ (dx dy : ℤ) (x : Tables) (r : Held x) where
       let rows_as : take own_width o.rows ≡ moved_cells dx dy (kind_of x) 0 a = take-append-le own_width (moved_row dx dy x.rows) u.rows (omega (arith, w)) ∙ own-cells in
       rw (rows_as, ap (λ (v : Tables). v.letters) f, ap (λ (v : Tables). v.islands) f, ap (λ (v : Tables). v.points) f, y-rows, y-points)
 
-pub alone-moved : (h : Header) (n : ℕ) (t : Tables) (dx dy : ℤ) (k : ℕ) → judge_of Loose h n t ≡ Fine → k < n → row_alone k (moved_tables dx dy n t) ≡ moved_tables dx dy 1 (row_alone k t)
+pub alone-moved : (h : Header) (n : ℕ) (t : Tables) (dx dy : ℤ) (k : ℕ) → judge_of Loose h n t ≡ Ok tt → k < n → row_alone k (moved_tables dx dy n t) ≡ moved_tables dx dy 1 (row_alone k t)
 alone-moved h n t dx dy k e l =
     let j = fine-rows h n t e in
     let x = rest_at k t in
@@ -177,21 +176,19 @@ alone-moved h n t dx dy k e l =
 
 -- ---- questions on it
 
-sought-one : (h : Header) (v : Tables) → judge_of Loose h 1 v ≡ Fine → sought_of h 1 v 0 ≡ Sought.At first_stand
+sought-one : (h : Header) (v : Tables) → judge_of Loose h 1 v ≡ Ok tt → sought_of h 1 v 0 ≡ Ok first_stand
 unfolding sought_of stand_of
 sought-one h v e = rw e
 
-area-as : (dx dy : ℤ) (ps : List ℤ) (x : RingAnswer) → area_found (moved dx dy ps) x ≡ area_found ps x
-area-as dx dy ps (Ring.At from n) = ap answer_of (area-moved dx dy ps from n)
-area-as dx dy ps Ring.Missing = refl
-area-as dx dy ps (Ring.Refused v) = refl
+area-as : (dx dy : ℤ) (ps : List ℤ) (x : Result RingPlace Unfound) → area_found (moved dx dy ps) x ≡ area_found ps x
+area-as dx dy ps (Ok p) = ap answer_of (area-moved dx dy ps p.from p.count)
+area-as dx dy ps (Err e) = refl
 
-check-as : (dx dy : ℤ) (ps : List ℤ) (x : RingAnswer) → check_found (moved dx dy ps) x ≡ check_found ps x
-check-as dx dy ps (Ring.At from n) = ap checked_of (verdict-moved dx dy ps from n)
-check-as dx dy ps Ring.Missing = refl
-check-as dx dy ps (Ring.Refused v) = refl
+check-as : (dx dy : ℤ) (ps : List ℤ) (x : Result RingPlace Unfound) → check_found (moved dx dy ps) x ≡ check_found ps x
+check-as dx dy ps (Ok p) = ap checked_of (verdict-moved dx dy ps p.from p.count)
+check-as dx dy ps (Err e) = refl
 
-module _ (h : Header) (dx dy : ℤ) (y : Tables) (fy : judge_of Loose h 1 y ≡ Fine) (fz : judge_of Loose h 1 (moved_tables dx dy 1 y) ≡ Fine)
+module _ (h : Header) (dx dy : ℤ) (y : Tables) (fy : judge_of Loose h 1 y ≡ Ok tt) (fz : judge_of Loose h 1 (moved_tables dx dy 1 y) ≡ Ok tt)
     (pz : (moved_tables dx dy 1 y).points ≡ moved dx dy y.points) where
   abbrev z : Tables
   z = moved_tables dx dy 1 y
@@ -221,14 +218,14 @@ module _ (h : Header) (dx dy : ℤ) (y : Tables) (fy : judge_of Loose h 1 y ≡ 
   area-one : (ring : ℕ) → ring_area_at h 1 z 0 ring ≡ ring_area_at h 1 y 0 ring
   unfolding ring_area_at ring_at
   area-one ring =
-      ap (λ (s : Sought). area_found z.points (ring_found z ring s)) (sought-one h z fz) ∙ ap₂ area_found pz (ring-z 0 ring) ∙ area-as dx dy y.points (ring_of_row y 0 ring)
-      ∙ sym (ap (λ (s : Sought). area_found y.points (ring_found y ring s)) (sought-one h y fy))
+      ap (λ (s : Result Stand Unfound). area_found z.points (ring_found z ring s)) (sought-one h z fz) ∙ ap₂ area_found pz (ap ring_or_missing (ring-z 0 ring)) ∙ area-as dx dy y.points (ring_or_missing (ring_of_row y 0 ring))
+      ∙ sym (ap (λ (s : Result Stand Unfound). area_found y.points (ring_found y ring s)) (sought-one h y fy))
 
   check-one : (ring : ℕ) → ring_check_at h 1 z 0 ring ≡ ring_check_at h 1 y 0 ring
   unfolding ring_check_at ring_at
   check-one ring =
-      ap (λ (s : Sought). check_found z.points (ring_found z ring s)) (sought-one h z fz) ∙ ap₂ check_found pz (ring-z 0 ring) ∙ check-as dx dy y.points (ring_of_row y 0 ring)
-      ∙ sym (ap (λ (s : Sought). check_found y.points (ring_found y ring s)) (sought-one h y fy))
+      ap (λ (s : Result Stand Unfound). check_found z.points (ring_found z ring s)) (sought-one h z fz) ∙ ap₂ check_found pz (ap ring_or_missing (ring-z 0 ring)) ∙ check-as dx dy y.points (ring_or_missing (ring_of_row y 0 ring))
+      ∙ sym (ap (λ (s : Result Stand Unfound). check_found y.points (ring_found y ring s)) (sought-one h y fy))
 
   net-one : net_area_at h 1 z 0 ≡ net_area_at h 1 y 0
   unfolding net_area_at net_area_of
@@ -237,20 +234,20 @@ module _ (h : Header) (dx dy : ℤ) (y : Tables) (fy : judge_of Loose h 1 y ≡ 
       (sym (ap (net_found y) (sought-one h y fy)))
 
 -- **of every row of a sheet that is moved**
-module _ (h : Header) (n : ℕ) (t : Tables) (dx dy : ℤ) (e : judge_of Loose h n t ≡ Fine) (m : is_move dx dy n t ≡ true) (k : ℕ) (l : k < n) where
+module _ (h : Header) (n : ℕ) (t : Tables) (dx dy : ℤ) (e : judge_of Loose h n t ≡ Ok tt) (m : is_move dx dy n t ≡ true) (k : ℕ) (l : k < n) where
   abbrev w : Tables
   w = moved_tables dx dy n t
 
-  fine-w : judge_of Loose h n w ≡ Fine
+  fine-w : judge_of Loose h n w ≡ Ok tt
   fine-w = moved-fine Loose h n t dx dy e m
 
   alone : row_alone k w ≡ moved_tables dx dy 1 (row_alone k t)
   alone = alone-moved h n t dx dy k e l
 
-  fine-y : judge_of Loose h 1 (row_alone k t) ≡ Fine
+  fine-y : judge_of Loose h 1 (row_alone k t) ≡ Ok tt
   fine-y = alone-fine h n t k e l
 
-  fine-z : judge_of Loose h 1 (moved_tables dx dy 1 (row_alone k t)) ≡ Fine
+  fine-z : judge_of Loose h 1 (moved_tables dx dy 1 (row_alone k t)) ≡ Ok tt
   fine-z = ap (judge_of Loose h 1) (sym alone) ∙ alone-fine h n w k fine-w l
 
   points-z : (moved_tables dx dy 1 (row_alone k t)).points ≡ moved dx dy (row_alone k t).points

@@ -12,7 +12,7 @@ use Rattle.heading.specs.declared.Header.{Header}
 use Rattle.sheet.specs.Tables.{Tables}
 use Rattle.made.specs.Made.{rest_of}
 use Rattle.tally.specs.declared.Tally.{Tally}
-use Rattle.tally.specs.declared.Refusal.TheVariants.{None}
+use Rattle.std.proofs.Common.{Ok}
 use Rattle.tally.specs.Tally.{is_tally, no_figures, plus}
 use Rattle.tally.specs.Take.{taken_with, tally_of}
 use Rattle.tally.specs.Sums.{row_figures, row_fits, rows_figures, rows_fit}
@@ -82,8 +82,8 @@ module _ (h : Header) where
   elements-long (suc n) t = ap suc (elements-long n (rest_of t))
 
   -- **the tally is the former one less that row's figures**
-  pub removed-tally : (n : ℕ) (t : Tables) (k : ℕ) → k ≤ n → (a : Tally) → tally_of h (suc n) t ≡ taken_with a None → is_tally a.figures ≡ true
-      → (tally_of h n (removed_tables (suc n) k t) ≡ taken_with (record { figures = rows_figures h n (removed_tables (suc n) k t) }) None)
+  pub removed-tally : (n : ℕ) (t : Tables) (k : ℕ) → k ≤ n → (a : Tally) → tally_of h (suc n) t ≡ taken_with a (Ok tt) → is_tally a.figures ≡ true
+      → (tally_of h n (removed_tables (suc n) k t) ≡ taken_with (record { figures = rows_figures h n (removed_tables (suc n) k t) }) (Ok tt))
       × (plus (one_of k (elements_of (row_figures h) (suc n) t)) (rows_figures h n (removed_tables (suc n) k t)) ≡ a.figures)
   removed-tally n t k l a e limit =
       let x = tallied h (suc n) t a e in

@@ -6,13 +6,13 @@ use mathlib.Core.Bool.{true}
 use Prim.Native.Nat.{ℕ, zero, suc, ◌≤◌}
 use lib.ListN.{length}
 use lib.IntN.{ℤ}
+use Rattle.std.proofs.Common.{Result, Ok, Err}
 use Rattle.laws.specs.Text.{text}
 use Rattle.record.specs.declared.Mode.TheVariants.{Exact}
 use Rattle.record.specs.Refusals.{file_most}
 use Rattle.heading.specs.declared.Header.{Header}
 use Rattle.sheet.specs.Tables.{Tables, ◌then◌, Starts, starting_at}
 use Rattle.sheet.specs.Reading.{sheet, reading}
-use Rattle.made.specs.declared.Verdict.TheVariants.{Fine}
 use Rattle.made.specs.Made.{first_of, rest_of, is_made, judge_of, used_of}
 use Rattle.made.proofs.RowWays.{made_held}
 use Rattle.made.proofs.OwnLaws.{own_same, first-own}
@@ -40,7 +40,7 @@ text_says =
     }
 
 -- **removing and then writing equals writing without that row's text**
-pub removed-text : (h : Header) (n : ℕ) (t : Tables) (k : ℕ) → judge_of Exact h (suc n) t ≡ Fine → k ≤ n
+pub removed-text : (h : Header) (n : ℕ) (t : Tables) (k : ℕ) → judge_of Exact h (suc n) t ≡ Ok tt → k ≤ n
     → sheet_text h n (removed_tables (suc n) k t) ≡ header_text h ++ (texts (less_one k (elements_of row_text (suc n) t)) ++ line (text "EOF"))
 unfolding sheet_text
 removed-text h n t k e l =
@@ -52,6 +52,6 @@ unfolding sheet_text
 whole-text h n t = ap (λ (s : List ℕ). header_text h ++ (s ++ line (text "EOF"))) (rows_are n t)
 
 -- **moving, writing and reading back gives the moved sheet**
-pub moved-read : (h : Header) (n : ℕ) (t : Tables) (dx dy : ℤ) → judge_of Exact h n t ≡ Fine → is_move dx dy n t ≡ true → length (sheet_text h n (moved_tables dx dy n t)) ≤ file_most
+pub moved-read : (h : Header) (n : ℕ) (t : Tables) (dx dy : ℤ) → judge_of Exact h n t ≡ Ok tt → is_move dx dy n t ≡ true → length (sheet_text h n (moved_tables dx dy n t)) ≤ file_most
     → reading Exact (sheet_text h n (moved_tables dx dy n t)) ≡ sheet h (used_of n (moved_tables dx dy n t))
 moved-read h n t dx dy e m l = written-then-read h n (moved_tables dx dy n t) (moved-fine Exact h n t dx dy e m) l

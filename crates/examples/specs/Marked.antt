@@ -1,31 +1,23 @@
 -- The marked examples (a) to (l) of document 01, proved as one table: what is asked, and the answer. Assumes nothing.
-use Rattle.std.specs.Prelude.{ℕ, ◌≡◌, refl, List, [], ◌∷◌, ◌++◌, map, Bool, true, false, ℤ, pos, neg_ℤ}
+use Rattle.std.specs.Prelude.{ℕ, ◌≡◌, refl, List, [], ◌∷◌, ◌++◌, map, Bool, true, false, Option, Some, None, Result, Ok, Err, ℤ, pos, neg_ℤ}
 use Prim.Native.String.{String}
 use Rattle.laws.specs.Lists.{run, all, same}
 use Rattle.laws.specs.Text.{text}
 use Rattle.record.specs.declared.Mode.{Mode}
 use Rattle.record.specs.declared.Mode.TheVariants.{Loose, Exact}
-use Rattle.record.specs.Refusals.{malformed, bad_count, too_wide, no_such}
-use Rattle.number.specs.declared.Whole.{Whole}
-use Rattle.number.specs.declared.Whole.TheVariants as Whole
-use Rattle.number.specs.declared.Decimal.{Decimal}
-use Rattle.number.specs.declared.Decimal.TheVariants as Decimal
+use Rattle.record.specs.Refusals.{malformed, bad_count, too_wide, no_such, number_of}
 use Rattle.number.specs.Words.{unled}
 use Rattle.number.specs.Number.{value, parted, ended, lean, integer_is, integer_at, integer_of, sign_of, signs, signed, thousandths, is_token, is_neat, real_is, real_at, real_signed, real_of}
-use Rattle.machine.specs.declared.Step.{Step}
-use Rattle.machine.specs.declared.Step.TheVariants as Step
-use Rattle.machine.specs.Machine.{vertices_of, island_of}
-use Rattle.plane.specs.declared.Area.{Area}
-use Rattle.plane.specs.declared.Area.TheVariants as Area
+use Rattle.machine.specs.Machine.{Step, vertices_of, island_of}
+use Rattle.plane.specs.declared.NoArea.{NoArea}
+use Rattle.plane.specs.declared.NoArea.TheVariants.{Wide, Missing}
 use Rattle.plane.specs.Rings.{held, near, near_first, all_near, narrow}
 use Rattle.plane.specs.Areas.{east, north, edge-term, signed-sum, area_of}
-use Rattle.crossing.specs.declared.RingVerdict.{RingVerdict}
-use Rattle.crossing.specs.declared.RingVerdict.TheVariants as RingVerdict
+use Rattle.crossing.specs.declared.FaultyPair.{FaultyPair}
 use Rattle.crossing.specs.Edges.{edges-meet, boxes-overlap, beside-line, spans-overlap, one_side, neighbours-overlap, equal-ends, side, dot}
 use Rattle.crossing.specs.Search.{verdict_of, searched, first_edge, second-edge, least, faulty-pair}
 use Rattle.made.specs.Made.{sum}
 use Rattle.area.specs.declared.Areas.{Areas}
-use Rattle.area.specs.declared.Areas.TheVariants as Areas
 use Rattle.area.specs.BorderRings.{total_from, areas_of, net_of}
 use Rattle.classes.specs.declared.Class.{Class}
 use Rattle.classes.specs.declared.Class.TheVariants.{Building, Road, Parcel}
@@ -56,39 +48,36 @@ data Answer : Type 0 where
 
 -- ---- the library's answers in these terms
 
-abbrev of_decimal : Decimal → Answer
-of_decimal (Decimal.Is z) = numbers (z ∷ [])
-of_decimal Decimal.Malformed = refused malformed
+abbrev of_real : Option ℤ → Answer
+of_real (Some z) = numbers (z ∷ [])
+of_real None = refused malformed
 
-abbrev of_whole : Whole → Answer
-of_whole (Whole.Is n) = numbers (pos n ∷ [])
-of_whole Whole.Malformed = refused malformed
+abbrev of_integer : Option ℕ → Answer
+of_integer (Some n) = numbers (pos n ∷ [])
+of_integer None = refused malformed
 
 abbrev of_step : Step → Answer
-of_step (Step.Go st) = passes
-of_step (Step.No m) = refused m
-of_step Step.End = passes
+of_step (Ok st) = passes
+of_step (Err refusal) = refused (number_of refusal)
 
-abbrev of_area : Area → List ℤ
-of_area (Area.Doubled d) = d ∷ []
-of_area Area.Wide = []
-of_area Area.Missing = []
+abbrev of_area : Result ℤ NoArea → List ℤ
+of_area (Ok d) = d ∷ []
+of_area (Err e) = []
 
-abbrev of_verdict : RingVerdict → Answer
-of_verdict RingVerdict.Simple = passes
-of_verdict (RingVerdict.Faulty i j) = numbers (pos i ∷ pos j ∷ [])
-of_verdict RingVerdict.Wide = refused too_wide
-of_verdict RingVerdict.Missing = refused no_such
+abbrev of_verdict : Result (Option FaultyPair) NoArea → Answer
+of_verdict (Ok None) = passes
+of_verdict (Ok (Some p)) = numbers (pos p.first ∷ pos p.second ∷ [])
+of_verdict (Err Wide) = refused too_wide
+of_verdict (Err Missing) = refused no_such
 
-abbrev of_areas : Areas → List ℤ
-of_areas (Areas.Of outer inner) = outer ∷ inner ∷ []
-of_areas Areas.Wide = []
-of_areas Areas.Missing = []
+abbrev of_areas : Result Areas NoArea → List ℤ
+of_areas (Ok a) = a.outer ∷ a.inner ∷ []
+of_areas (Err e) = []
 
 answer : Question → Answer
 unfolding real_of real_signed real_at real_is is_neat is_token thousandths signed signs sign_of lean ended parted value unled run all integer_of integer_at integer_is vertices_of island_of area_of narrow held near near_first all_near signed-sum edge-term east north verdict_of searched first_edge second-edge least faulty-pair edges-meet boxes-overlap beside-line spans-overlap one_side neighbours-overlap equal-ends side dot areas_of total_from sum class_of is_other is_road is_water begins_in_kind2 begins_with ends_in same is_surface
-answer (real mode s) = of_decimal (real_of mode (text s))
-answer (integer mode s) = of_whole (integer_of mode (text s))
+answer (real mode s) = of_real (real_of mode (text s))
+answer (integer mode s) = of_integer (integer_of mode (text s))
 answer (vertices n) = of_step (vertices_of 1 1 n)
 answer (island spare n) = of_step (island_of 1 spare 1 n)
 answer (ring ps) = numbers (of_area (area_of ps 0 5))

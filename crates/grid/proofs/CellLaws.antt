@@ -5,37 +5,38 @@ use mathlib.Core.List.{List}
 use Prim.Native.Nat.{ℕ}
 use lib.ListN.{length}
 use lib.IntN.{ℤ}
-use Rattle.laws.proofs.Choice.{false≢true, and_left, and_right}
+use Rattle.std.specs.Prelude.{Option, Some, None, is_some}
+use Rattle.laws.proofs.Choice.{and_left, and_right}
 use Rattle.plane.specs.Rings.{held}
 use Rattle.grid.specs.Inside.{ring-covers}
 use Rattle.grid.specs.Words.{grid_side, row_words}
 use Rattle.grid.specs.Cells.{is_cell_side, grid-real, near-from, laid, traced_as, untraced, ring_cells}
 
-traced-by : (b : Bool) (p : ℕ → ℕ → Bool) → (cond b (traced_as p) untraced).traced ≡ b
+traced-by : (b : Bool) (p : ℕ → ℕ → Bool) → is_some (cond b (traced_as p) untraced) ≡ b
 traced-by true p = refl
 traced-by false p = refl
 
-rows-by : (b : Bool) (p : ℕ → ℕ → Bool) → b ≡ true → (cond b (traced_as p) untraced).rows ≡ row_words p grid_side
-rows-by true p e = refl
-rows-by false p e = absurd (false≢true e)
+rows-by : (b : Bool) (p : ℕ → ℕ → Bool) (rows : List ℕ) → cond b (traced_as p) untraced ≡ Some rows → rows ≡ row_words p grid_side
+rows-by true p rows e = cc
+rows-by false p rows e = absurd (let z : ◌≡◌ {A = Option (List ℕ)} None (Some rows) = e in cc)
 
 module _ (ps : List ℤ) (from n : ℕ) (cx cy : ℤ) (s : ℕ) where
-  traced-is : (ring_cells ps from n cx cy s).traced ≡ (laid ps from n cx cy s && near-from ps cx cy from n)
+  traced-is : is_some (ring_cells ps from n cx cy s) ≡ (laid ps from n cx cy s && near-from ps cx cy from n)
   unfolding ring_cells
   traced-is = traced-by (laid ps from n cx cy s && near-from ps cx cy from n) (ring-covers ps from n cx cy s)
 
   -- a ring that the table holds, on cells that there are, is traced where the grid and its vertices lie where they may
-  pub traced-where : is_cell_side s ≡ true → held (length ps) from n ≡ true → (ring_cells ps from n cx cy s).traced ≡ (grid-real cx cy s && near-from ps cx cy from n)
+  pub traced-where : is_cell_side s ≡ true → held (length ps) from n ≡ true → is_some (ring_cells ps from n cx cy s) ≡ (grid-real cx cy s && near-from ps cx cy from n)
   unfolding laid
   traced-where a b = traced-is ∙ rw (a, b)
 
-  module _ (t : (ring_cells ps from n cx cy s).traced ≡ true) where
-    pub traced-cells : (ring_cells ps from n cx cy s).rows ≡ row_words (ring-covers ps from n cx cy s) grid_side
+  module _ (rows : List ℕ) (t : ring_cells ps from n cx cy s ≡ Some rows) where
+    pub traced-cells : rows ≡ row_words (ring-covers ps from n cx cy s) grid_side
     unfolding ring_cells
-    traced-cells = rows-by (laid ps from n cx cy s && near-from ps cx cy from n) (ring-covers ps from n cx cy s) (sym traced-is ∙ t)
+    traced-cells = rows-by (laid ps from n cx cy s && near-from ps cx cy from n) (ring-covers ps from n cx cy s) rows t
 
     pub traced-held : held (length ps) from n ≡ true
     unfolding laid
     traced-held =
         and_left (held (length ps) from n) (grid-real cx cy s)
-        (and_right (is_cell_side s) (held (length ps) from n && grid-real cx cy s) (and_left (laid ps from n cx cy s) (near-from ps cx cy from n) (sym traced-is ∙ t)))
+        (and_right (is_cell_side s) (held (length ps) from n && grid-real cx cy s) (and_left (laid ps from n cx cy s) (near-from ps cx cy from n) (sym traced-is ∙ rw t)))

@@ -8,9 +8,9 @@ use mir.Syntax.{w64}
 use mir.Val.{SFits, to_z, of_z}
 use mir.Facts.{to_z-of_z}
 use borrow.Author.Tests.{not-true, not-false}
-use Rattle.grid.specs.declared.RingCells.{RingCells}
+use Rattle.std.specs.Prelude.{Option, Some, None}
 use Rattle.grid.specs.Inside.{ring-covers}
-use Rattle.grid.specs.Cells.{near-from, laid, untraced, ring_cells}
+use Rattle.grid.specs.Cells.{near-from, laid, ring_cells}
 use Rattle.grid.specs.Trace.{RowsHold}
 use Rattle.grid.proofs.HoldLaws.{hold-words}
 
@@ -21,9 +21,9 @@ module _ (ps : List ℤ) (from n : ℕ) (cx cy : ℤ) (cell : ℕ) (f : SFits w6
   is-a : a ≡ laid ps from n cx cy cell
   is-a = rw (to_z-of_z f, to_z-of_z g) at ea
 
-  pub cells-off : not a ≡ true → (r : RingCells) → r ≡ untraced → r ≡ ring_cells ps from n cx cy cell
+  pub cells-off : not a ≡ true → None ≡ ring_cells ps from n cx cy cell
   unfolding ring_cells
-  cells-off t r e = rw (sym is-a ∙ not-true a t) e
+  cells-off t = rw (sym is-a ∙ not-true a t)
 
   module _ (ta : not a ≡ false) where
     pub cells-laid : laid ps from n (bits cx) (bits cy) cell ≡ true
@@ -33,13 +33,13 @@ module _ (ps : List ℤ) (from n : ℕ) (cx cy : ℤ) (cell : ℕ) (f : SFits w6
       is_b : b ≡ near-from ps cx cy from n
       is_b = rw (to_z-of_z f, to_z-of_z g) at eb
 
-      pub cells-far : not b ≡ true → (r : RingCells) → r ≡ untraced → r ≡ ring_cells ps from n cx cy cell
+      pub cells-far : not b ≡ true → None ≡ ring_cells ps from n cx cy cell
       unfolding ring_cells
-      cells-far t r e = rw (sym is-a ∙ not-false a ta, sym is_b ∙ not-true b t) e
+      cells-far t = rw (sym is-a ∙ not-false a ta, sym is_b ∙ not-true b t)
 
       pub cells-traced : not b ≡ false → (m : List ℕ) → (b ≡ true → RowsHold (ring-covers ps from n (bits cx) (bits cy) cell) m)
-          → ◌≡◌ {A = RingCells} (record { traced = true; rows = m }) (ring_cells ps from n cx cy cell)
+          → ◌≡◌ {A = Option (List ℕ)} (Some m) (ring_cells ps from n cx cy cell)
       unfolding ring_cells
       cells-traced t m h =
           rw (sym is-a ∙ not-false a ta, sym is_b ∙ not-false b t)
-          (ap (λ (l : List ℕ). record { traced = true; rows = l }) (hold-words (ring-covers ps from n cx cy cell) m (rw (to_z-of_z f, to_z-of_z g) at (h (not-false b t)))))
+          (ap (λ (l : List ℕ). Some l) (hold-words (ring-covers ps from n cx cy cell) m (rw (to_z-of_z f, to_z-of_z g) at (h (not-false b t)))))

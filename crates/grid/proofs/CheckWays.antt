@@ -1,27 +1,27 @@
--- The tests before a ring is traced: a number by the corner's, a vertex near the corner, both ends of the grid. Assumes nothing.
-use mathlib.Core.Path.{◌≡◌, refl, sym, ◌∙◌, ap, ap₂}
+-- The tests before a ring is traced: a vertex near the corner, both ends of the grid. Assumes nothing.
+use mathlib.Core.Path.{◌≡◌, sym, ◌∙◌, ap₂}
 use mathlib.Core.Bool.{Bool, true, false, not, ◌&&◌}
 use mathlib.Core.List.{List}
 use Prim.Native.Nat.{ℕ, ◌+◌, ◌*◌, ◌^◌, ◌≤◌, ◌<◌}
 use native.Mathlib.Omega.{arith}
 use lib.Dec.{leb, lit<}
 use lib.ListN.{length}
-use lib.IntN.{ℤ, pos, nat_abs, ◌+ℤ◌, ◌-ℤ◌}
-use lib.Signed.{lt_z, le_z, mag}
+use lib.IntN.{ℤ, pos, ◌+ℤ◌, ◌-ℤ◌}
+use lib.Signed.{le_z, mag}
 use mir.Syntax.{w64}
 use mir.Val.{SFits, to_z, of_z}
 use mir.Facts.{to_z-of_z, to_z_pos}
-use borrow.Author.Tests.{not-true, not-false, leb-true, le-leb, lt-leb}
+use borrow.Author.Tests.{not-true, not-false, leb-true}
 use Rattle.laws.specs.Whole.{Within}
 use Rattle.laws.proofs.Choice.{and_left, and_right}
 use Rattle.laws.proofs.Chains.{and-on, and-off}
-use Rattle.laws.proofs.Parts.{ints, num, sum, diff}
-use Rattle.laws.proofs.Bounds.{within-add, within-sub, within-fits, within-lit}
+use Rattle.laws.proofs.Parts.{ints, num}
+use Rattle.laws.proofs.Bounds.{within-add, within-sub, within-fits}
 use Rattle.laws.proofs.Bits.{back}
 use Rattle.number.specs.Number.{is_real, real_least, real_most}
 use Rattle.plane.specs.Rings.{x-at, y-at, held}
 use Rattle.plane.proofs.RingLaws.{held-has}
-use Rattle.grid.specs.Cells.{most_side, farthest, is_cell_side, grid-real, by-corner, near-corner, laid}
+use Rattle.grid.specs.Cells.{most_side, is_cell_side, grid-real, by-corner, near-corner, laid}
 
 abbrev bits : ℤ → ℤ
 bits z = to_z w64 (of_z w64 z)
@@ -32,45 +32,6 @@ real-within z e =
     let a = and_left (le_z real_least z) (le_z z real_most) e in
     let b = and_right (le_z real_least z) (le_z z real_most) e in
     record { within = omega (arith, ints, num z) }
-
--- ---- a number by the corner's
-
-module _ (c z : ℤ) (fc : SFits w64 c) (fz : SFits w64 z) (q : is_real c ≡ true) where
-  low_fits : SFits w64 (c -ℤ pos farthest)
-  low_fits = within-fits (lit< tt) (within-sub (real-within c q) (within-lit {n = farthest} {z = pos farthest} tt))
-
-  high_fits : SFits w64 (c +ℤ pos farthest)
-  high_fits = within-fits (lit< tt) (within-add (real-within c q) (within-lit {n = farthest} {z = pos farthest} tt))
-
-  pub by-low-fits : SFits w64 (bits c -ℤ pos farthest)
-  by-low-fits = rw (to_z-of_z fc) low_fits
-
-  pub by-high-fits : SFits w64 (bits c +ℤ pos farthest)
-  by-high-fits = rw (to_z-of_z fc) high_fits
-
-  low_reads : to_z w64 (of_z w64 (bits c -ℤ pos farthest)) ≡ c -ℤ pos farthest
-  low_reads = to_z-of_z by-low-fits ∙ ap (λ (x : ℤ). x -ℤ pos farthest) (to_z-of_z fc)
-
-  high-reads : to_z w64 (of_z w64 (bits c +ℤ pos farthest)) ≡ c +ℤ pos farthest
-  high-reads = to_z-of_z by-high-fits ∙ ap (λ (x : ℤ). x +ℤ pos farthest) (to_z-of_z fc)
-
-  pub by-below : lt_z (bits z) (to_z w64 (of_z w64 (bits c -ℤ pos farthest))) ≡ true → false ≡ by-corner c z
-  unfolding by-corner
-  by-below t =
-      let u : lt_z z (c -ℤ pos farthest) ≡ true = rw (to_z-of_z fz, low_reads) at t in
-      sym (lt-leb (nat_abs (z -ℤ c)) farthest (omega (arith, ints, num c, num z, diff c (pos farthest), diff z c)))
-
-  module _ (t : lt_z (bits z) (to_z w64 (of_z w64 (bits c -ℤ pos farthest))) ≡ false) where
-    pub by-above : le_z (bits z) (to_z w64 (of_z w64 (bits c +ℤ pos farthest))) ≡ by-corner c z
-    unfolding by-corner
-    by-above = rw (to_z-of_z fz, high-reads) (go (le_z z (c +ℤ pos farthest)) refl)
-      where
-        u : lt_z z (c -ℤ pos farthest) ≡ false
-        u = rw (to_z-of_z fz, low_reads) at t
-
-        go : (b : Bool) → le_z z (c +ℤ pos farthest) ≡ b → b ≡ leb (nat_abs (z -ℤ c)) farthest
-        go true e = let d = u in sym (le-leb (nat_abs (z -ℤ c)) farthest (omega (arith, ints, num c, num z, diff c (pos farthest), sum c (pos farthest), diff z c)))
-        go false e = sym (lt-leb (nat_abs (z -ℤ c)) farthest (omega (arith, ints, num c, num z, sum c (pos farthest), diff z c)))
 
 -- ---- a vertex near the corner
 
@@ -168,21 +129,3 @@ module _ (ps : List ℤ) (from n : ℕ) (cx cy : ℤ) (cell : ℕ) where
         real-x = and_left (is_real cx) (is_real cy && (is_real (cx +ℤ pos (64 * cell)) && is_real (cy -ℤ pos (64 * cell)))) g;
         real-y = and_left (is_real cy) (is_real (cx +ℤ pos (64 * cell)) && is_real (cy -ℤ pos (64 * cell))) y;
       }
-
-  pub laid-low : cell < 1 → false ≡ laid ps from n cx cy cell
-  unfolding laid is_cell_side
-  laid-low h = rw (lt-leb 1 cell h)
-
-  module _ (l : 1 ≤ cell) where
-    pub laid-high : most_side < cell → false ≡ laid ps from n cx cy cell
-    unfolding laid is_cell_side
-    laid-high h = rw (le-leb 1 cell l, lt-leb cell most_side h)
-
-    module _ (m : cell ≤ most_side) (b : Bool) (e : b ≡ held (length ps) from n) where
-      pub laid-unheld : not b ≡ true → false ≡ laid ps from n cx cy cell
-      unfolding laid is_cell_side
-      laid-unheld t = rw (le-leb 1 cell l, le-leb cell most_side m, ← e, not-true b t)
-
-      pub laid-grid : not b ≡ false → SFits w64 cx → SFits w64 cy → (r : Bool) → r ≡ grid-real (bits cx) (bits cy) cell → r ≡ laid ps from n cx cy cell
-      unfolding laid is_cell_side
-      laid-grid t f g r q = rw (le-leb 1 cell l, le-leb cell most_side m, ← e, not-false b t) (rw (to_z-of_z f, to_z-of_z g) at q)

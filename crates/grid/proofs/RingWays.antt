@@ -13,7 +13,6 @@ use mir.Val.{SFits, to_z, of_z}
 use mir.Facts.{to_z-of_z}
 use borrow.Author.Tests.{not-true, not-false}
 use Rattle.laws.proofs.Choice.{false≢true, and_right, and_both}
-use Rattle.number.specs.Number.{is_real}
 use Rattle.plane.specs.Rings.{x-at, y-at}
 use Rattle.grid.specs.Inside.{one_if, is_odd, centre-x, centre-y, edge-counts, crossings, in-ring, ring-covers}
 use Rattle.grid.specs.Words.{differs}
@@ -99,9 +98,6 @@ module _ (ps : List ℤ) (from count : ℕ) (cx cy : ℤ) (cell : ℕ) (fcx : SF
 
   has : Laid ps from count cx cy cell
   has = laid-has ps from count cx cy cell g
-
-  pub trace-reals : (is_real (bits cx) ≡ true) × (is_real (bits cy) ≡ true)
-  trace-reals = rw (to_z-of_z fcx, to_z-of_z fcy) (has.real-x, has.real-y)
 
   pub trace-first : 2 * from + 1 < length ps
   trace-first = omega (arith, has.some, has.room)

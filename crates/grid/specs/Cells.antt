@@ -1,9 +1,8 @@
 -- The cells of a ring on a grid, and where a grid and a ring may lie (document 02, T-03: "a cell side of 1 to 10,000 mm"; refusal 20 "if either end of the
 -- grid is off the real range, or any vertex is more than 40,000,000 mm from the corner in x or y"). Assumes nothing: these are definitions.
-use Rattle.std.specs.Prelude.{Bool, true, false, cond, ◌&&◌, List, ℕ, zero, suc, ◌+◌, ◌*◌, leb, length, replicate, ℤ, pos, nat_abs, ◌+ℤ◌, ◌-ℤ◌}
+use Rattle.std.specs.Prelude.{Bool, true, cond, ◌&&◌, List, ℕ, zero, suc, ◌+◌, ◌*◌, leb, length, ℤ, pos, nat_abs, ◌+ℤ◌, ◌-ℤ◌, Option, Some, None}
 use Rattle.number.specs.Number.{is_real}
 use Rattle.plane.specs.Rings.{x-at, y-at, held}
-use Rattle.grid.specs.declared.RingCells.{RingCells}
 use Rattle.grid.specs.Inside.{ring-covers}
 use Rattle.grid.specs.Words.{grid_side, row_words}
 
@@ -38,13 +37,13 @@ near-from ps cx cy from (suc n) = near-from ps cx cy from n && near-corner ps cx
 unfoldable pub laid : List ℤ → ℕ → ℕ → ℤ → ℤ → ℕ → Bool
 laid ps from n cx cy s = is_cell_side s && (held (length ps) from n && grid-real cx cy s)
 
--- the cells that a test gives; and no cells, where there is no answer
-abbrev pub traced_as : (ℕ → ℕ → Bool) → RingCells
-traced_as p = record { traced = true; rows = row_words p grid_side }
+-- the cells that a test gives; and none, where there is no answer
+abbrev pub traced_as : (ℕ → ℕ → Bool) → Option (List ℕ)
+traced_as p = Some (row_words p grid_side)
 
-abbrev pub untraced : RingCells
-untraced = record { traced = false; rows = replicate grid_side 0 }
+abbrev pub untraced : Option (List ℕ)
+untraced = None
 
 -- the cells whose centres lie inside the ring
-unfoldable pub ring_cells : List ℤ → ℕ → ℕ → ℤ → ℤ → ℕ → RingCells
+unfoldable pub ring_cells : List ℤ → ℕ → ℕ → ℤ → ℤ → ℕ → Option (List ℕ)
 ring_cells ps from n cx cy s = cond (laid ps from n cx cy s && near-from ps cx cy from n) (traced_as (ring-covers ps from n cx cy s)) untraced

@@ -1,14 +1,13 @@
 -- Cells of rings, computed (document 02, T-03): a centre on an edge, an edge that lies level, a vertex at a centre's height.
-use Rattle.std.specs.Prelude.{ℕ, ◌≡◌, refl, Bool, true, false, List, [], ◌∷◌, ℤ, pos, negsuc}
+use Rattle.std.specs.Prelude.{ℕ, ◌≡◌, refl, Bool, true, false, List, [], ◌∷◌, ℤ, pos, negsuc, Option}
 use Rattle.number.specs.Number.{is_real}
 use Rattle.plane.specs.Rings.{held}
-use Rattle.grid.specs.declared.RingCells.{RingCells}
 use Rattle.grid.specs.Inside.{straddles, crosses-east, counts, edge-counts, crossings, in-ring, ring-covers}
 use Rattle.grid.specs.Words.{row_word, row_words, cells_set, all_cells_set}
 use Rattle.grid.specs.Cells.{is_cell_side, grid-real, by-corner, near-corner, near-from, laid, untraced, ring_cells}
 
 -- the definitions opened, so that they compute
-unfoldable pub computed : List ℤ → ℕ → ℕ → ℤ → ℤ → ℕ → RingCells
+unfoldable pub computed : List ℤ → ℕ → ℕ → ℤ → ℤ → ℕ → Option (List ℕ)
 unfolding ring_cells laid is_cell_side held grid-real is_real near-from near-corner by-corner row_words row_word ring-covers in-ring crossings edge-counts counts crosses-east straddles
 computed ps from n cx cy s = ring_cells ps from n cx cy s
 

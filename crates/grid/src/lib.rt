@@ -10,7 +10,7 @@ ghost use Rattle.number.specs.Number.{is_real};
 ghost use Rattle.plane.specs.Rings.{x-at, y-at};
 ghost use Rattle.grid.specs.Inside.{twice, centre_at, centre-x, centre-y, edge-counts, ring-covers};
 ghost use Rattle.grid.specs.Words.{grid_side, row_word};
-ghost use Rattle.grid.specs.Cells.{most_side, grid-real, by-corner, near-corner, near-from, laid, untraced, ring_cells};
+ghost use Rattle.grid.specs.Cells.{most_side, is_cell_side, grid-real, by-corner, near-corner, near-from, laid, ring_cells};
 ghost use Rattle.grid.specs.Trace.{grid_reach, eastward, southward, CentresBefore, RowsTo, east-from, west-of-edge, Xored, RowsHold};
 
 use plane::is_ring;
@@ -23,16 +23,9 @@ const SIDE: usize = 64;
 const MOST_SIDE: usize = 10_000;
 
 // How far a vertex may lie from the corner, in x and in y.
-const FAR: i64 = 40_000_000;
+const FAR: u64 = 40_000_000;
 
 const ALL: u64 = 0xffff_ffff_ffff_ffff;
-
-// Whether the ring could be traced, and its cells: the northern row first, west in the highest bit, all 0 where it could not.
-#[derive(Clone, Copy)]
-pub struct RingCells {
-    pub traced: bool,
-    pub rows: [u64; 64],
-}
 
 // How many of 64 centres in line lie before `bound`: the first is `step` from the start, each further one 2 * step more.
 fn centres_to(step: usize, bound: usize) -> usize
@@ -125,11 +118,8 @@ fn xor_span(
     requires { (length rows.old ≡ grid_side) × Within grid_reach nx × Within grid_reach nv × Within grid_reach sx × Within grid_reach sv × RowsTo cell nv first × RowsTo cell sv stop × (0 < cell) × (cell ≤ most_side) }
     ensures { Xored rows.old rows.new (west-of-edge nx nv sx sv cell) }
 {
-    let mut r = first;
-    while r < stop {
-        let bits = crossing_bits(nx, nv, sx, sv, height(cell, r), cell);
-        rows[r] = rows[r] ^ bits;
-        r += 1;
+    for r in first..stop {
+        rows[r] ^= crossing_bits(nx, nv, sx, sv, height(cell, r), cell);
     }
 }
 
@@ -212,24 +202,17 @@ fn xor_edge(
 
 // Whether z is not more than FAR from c.
 fn is_by(c: i64, z: i64) -> bool
-    requires { is_real c ≡ true }
     ensures { result ≡ by-corner c z }
 {
-    if z < c - FAR {
-        return false;
-    }
-    z <= c + FAR
+    z.abs_diff(c) <= FAR
 }
 
 // Whether vertex v is not, in x and in y.
 fn is_near(points: &[i64], v: usize, cx: i64, cy: i64) -> bool
-    requires { (2 * v + 1 < length points.now) × (is_real cx ≡ true) × (is_real cy ≡ true) }
+    requires { 2 * v + 1 < length points.now }
     ensures { result ≡ near-corner points.now cx cy v }
 {
-    if is_by(cx, number_at(points, 2 * v)) {
-        return is_by(cy, number_at(points, 2 * v + 1));
-    }
-    false
+    is_by(cx, number_at(points, 2 * v)) && is_by(cy, number_at(points, 2 * v + 1))
 }
 
 // How many of the 64 rows lie no further south than vertex v.
@@ -257,15 +240,14 @@ fn xor_ring(
         return false;
     }
     let mut at = rows_at(points, from, cy, cell);
-    let mut k = 0;
-    while k + 1 < count {
-        if !is_near(points, from + k + 1, cx, cy) {
+    for k in 0..count - 1 {
+        let v = from + k;
+        if !is_near(points, v + 1, cx, cy) {
             return false;
         }
-        let next = rows_at(points, from + k + 1, cy, cell);
-        xor_edge(rows, points, from + k, at, next, cx, cy, cell);
+        let next = rows_at(points, v + 1, cy, cell);
+        xor_edge(rows, points, v, at, next, cx, cy, cell);
         at = next;
-        k += 1;
     }
     true
 }
@@ -275,47 +257,32 @@ fn is_grid(cx: i64, cy: i64, cell: usize) -> bool
     requires { cell ≤ most_side }
     ensures { result ≡ grid-real cx cy cell }
 {
-    if !is_real(cx) {
-        return false;
-    }
-    if !is_real(cy) {
+    if !is_real(cx) || !is_real(cy) {
         return false;
     }
     let d = (SIDE * cell) as i64;
-    if !is_real(cx + d) {
-        return false;
-    }
-    is_real(cy - d)
+    is_real(cx + d) && is_real(cy - d)
+}
+
+// Whether a cell may have such a side.
+#[tactic(auto, unfolding(crate::specs::Cells::is_cell_side))]
+pub fn is_cell_side(cell: usize) -> bool
+    ensures { result ≡ is_cell_side cell }
+{
+    (1..=MOST_SIDE).contains(&cell)
 }
 
 // Whether there is such a cell, such a ring and such a grid.
+#[tactic(auto, unfolding(crate::specs::Cells::laid, crate::specs::Cells::is_cell_side))]
 fn is_laid(points: &[i64], from: usize, count: usize, cx: i64, cy: i64, cell: usize) -> bool
     ensures { result ≡ laid points.now from count cx cy cell }
 {
-    if cell < 1 {
-        return false;
-    }
-    if MOST_SIDE < cell {
-        return false;
-    }
-    if !is_ring(points, from, count) {
-        return false;
-    }
-    is_grid(cx, cy, cell)
+    is_cell_side(cell) && is_ring(points, from, count) && is_grid(cx, cy, cell)
 }
 
-fn no_cells() -> RingCells
-    ensures { result ≡ untraced }
-{
-    let rows = [0u64; 64];
-    RingCells {
-        traced: false,
-        rows,
-    }
-}
-
-// The cells whose centres lie inside the ring of `count` vertices from vertex `from` on: the grid's north-west corner is (cx, cy), its cells are `cell` mm wide
-// and high. It is not traced where there is no such ring, cell or grid, or where a vertex lies too far from the corner.
+// The cells whose centres lie inside the ring of `count` vertices from vertex `from` on, the northern row first, west in the highest bit: the grid's
+// north-west corner is (cx, cy), its cells are `cell` mm wide and high. None where there is no such ring, cell or grid, or where a vertex lies too far
+// from the corner.
 pub fn ring_cells(
     points: &[i64],
     from: usize,
@@ -323,15 +290,15 @@ pub fn ring_cells(
     cx: i64,
     cy: i64,
     cell: usize,
-) -> RingCells
+) -> Option<[u64; 64]>
     ensures { result ≡ ring_cells points.now from count cx cy cell }
 {
     if !is_laid(points, from, count, cx, cy, cell) {
-        return no_cells();
+        return None;
     }
     let mut rows = [0u64; 64];
     if !xor_ring(&mut rows, points, from, count, cx, cy, cell) {
-        return no_cells();
+        return None;
     }
-    RingCells { traced: true, rows }
+    Some(rows)
 }

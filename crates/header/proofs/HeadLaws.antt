@@ -2,7 +2,7 @@
 use mathlib.Core.Path.{◌≡◌, refl, sym, ◌∙◌, ap, subst}
 use mathlib.Core.List.{List, ◌++◌, append_assoc}
 use mathlib.Core.Bool.{Bool, true, false, cond}
-use Prim.Native.Nat.{ℕ, ◌+◌, ◌-◌, ◌≤◌}
+use Prim.Native.Nat.{ℕ, ◌+◌, ◌≤◌}
 use native.Mathlib.Omega.{arith}
 use lib.ListN.{length, take, drop, length-append}
 use lib.Seq.{take-append_seam, drop-append_seam, drop-append-add}
@@ -10,27 +10,24 @@ use lib.Dec.{eqb}
 use lib.IntN.{pos}
 use lib.Signed.{lt_z}
 use borrow.Author.Tests.{eqb-false, ne_eqb}
+use Rattle.std.specs.Prelude.{ℤ, Option, Some, None, Result, Ok, Err}
 use Rattle.laws.specs.Lists.{all, place}
 use Rattle.laws.proofs.Choice.{and_left, and_right, cond-elim}
 use Rattle.record.specs.declared.Mode.{Mode}
 use Rattle.record.specs.declared.Line.{Line}
-use Rattle.record.specs.declared.Line.TheVariants.{Got, Bad}
-use Rattle.record.specs.Record.{plain, widens, line_of}
+use Rattle.record.specs.declared.refusal.Refusal.{Refusal}
+use Rattle.record.specs.Record.{plain, widens, got, line_of}
 use Rattle.record.specs.RecordView.{LineEnd, Ending, line_ended, bare, IsLine}
 use Rattle.record.proofs.RecordLaws.{line_view, line-make, end-widens}
 use Rattle.number.specs.declared.Word.{Word}
-use Rattle.number.specs.declared.Word.TheVariants as Word
-use Rattle.number.specs.declared.Decimal.{Decimal}
-use Rattle.number.specs.declared.Decimal.TheVariants as Decimal
 use Rattle.number.specs.Words.{word_of, trimmed}
 use Rattle.number.specs.Number.{real_of}
 use Rattle.number.proofs.NumberLaws.{real-widens}
 use Rattle.number.proofs.WordLaws.{word-widens}
 use Rattle.heading.specs.declared.Header.{Header}
 use Rattle.header.specs.declared.Headed.{Headed}
-use Rattle.header.specs.declared.Ahead.{Ahead}
-use Rattle.header.specs.declared.Ahead.TheVariants.{Sections, Refused}
-use Rattle.header.specs.Header.{first_words, is_word, kind_said, is_named, of_scale, scale_line, head_scale, name_line, head_name, first_line, headed}
+use Rattle.header.specs.declared.Stopped.{Stopped}
+use Rattle.header.specs.Header.{first_words, begins, is_word, kind_said, is_named, of_scale, scale_line, head_scale, name_line, head_name, first_line, headed}
 use Rattle.heading.specs.Heading.{is_name}
 
 -- a content and the line end behind it
@@ -39,7 +36,7 @@ pub record Whole (mode : Mode) (c e : List ℕ) : Type 0 where
   pub most : length c ≤ 255
   pub end : LineEnd mode e
 
-pub whole-line : {mode : Mode} {c e : List ℕ} → Whole mode c e → (due : Bool) (rest : List ℕ) → line_of mode due (c ++ (e ++ rest)) ≡ Got (length c) (length c + length e)
+pub whole-line : {mode : Mode} {c e : List ℕ} → Whole mode c e → (due : Bool) (rest : List ℕ) → line_of mode due (c ++ (e ++ rest)) ≡ got (length c) (length c + length e)
 whole-line {mode} {c} {e} w due rest = line-make mode due c e rest w.good w.most w.end
 
 pub past-line : (c e rest : List ℕ) → drop (length c + length e) (c ++ (e ++ rest)) ≡ rest
@@ -53,7 +50,7 @@ pub record Front (mode : Mode) (bs : List ℕ) (len width : ℕ) : Type 0 where
   pub counted : length (take len bs) ≡ len
   pub wide : width ≡ length (take len bs) + length e
 
-pub line-front : (mode : Mode) (bs : List ℕ) (len width : ℕ) → line_of mode false bs ≡ Got len width → Front mode bs len width
+pub line-front : (mode : Mode) (bs : List ℕ) (len width : ℕ) → line_of mode false bs ≡ got len width → Front mode bs len width
 line-front mode bs len width q = by (line_view mode false bs len width q)
   where
     go : IsLine mode false bs len width → Ending mode false bs len width → Front mode bs len width
@@ -70,7 +67,7 @@ pub record Says (mode : Mode) (h : Header) (c₁ c₂ c₃ : List ℕ) : Type 0 
   pub known : h.kind ≡ 0 → ⊥
   pub named : is_named mode h.kind c₂ ≡ true
   pub name : trimmed c₂ ≡ h.name
-  pub scale : real_of mode c₃ ≡ Decimal.Is h.scale
+  pub scale : real_of mode c₃ ≡ Some h.scale
   pub above : lt_z (pos 0) h.scale ≡ true
 
 -- the bytes begin with the three records of a header, `at` bytes long
@@ -92,19 +89,19 @@ pub record IsHead (mode : Mode) (bs : List ℕ) (h : Header) (at : ℕ) : Type 0
 -- ---- what makes a header
 
 module _ {mode : Mode} {h : Header} {c₁ e₁ c₂ e₂ c₃ e₃ : List ℕ} (rest : List ℕ) (w₁ : Whole mode c₁ e₁) (w₂ : Whole mode c₂ e₂) (w₃ : Whole mode c₃ e₃) (s : Says mode h c₁ c₂ c₃) where
-  scale-make : (at : ℕ) → head_scale mode h.kind h.name at (c₃ ++ (e₃ ++ rest)) ≡ record { ahead = Sections (at + (length c₃ + length e₃)); header = h }
+  scale-make : (at : ℕ) → head_scale mode h.kind h.name at (c₃ ++ (e₃ ++ rest)) ≡ begins h (at + (length c₃ + length e₃))
   unfolding head_scale
   scale-make at = simp (whole-line w₃ false rest, take-append_seam c₃ (e₃ ++ rest), s.scale, s.above)
 
   name-make : (at : ℕ) → head_name mode h.kind at (c₂ ++ (e₂ ++ (c₃ ++ (e₃ ++ rest))))
-      ≡ record { ahead = Sections (at + (length c₂ + length e₂) + (length c₃ + length e₃)); header = h }
+      ≡ begins h (at + (length c₂ + length e₂) + (length c₃ + length e₃))
   unfolding head_name
   name-make at =
       let z = c₃ ++ (e₃ ++ rest) in
       simp (whole-line w₂ false z, take-append_seam c₂ (e₂ ++ z), s.named, s.name, past-line c₂ e₂ z) (scale-make (at + (length c₂ + length e₂)))
 
   pub head-make : headed mode (c₁ ++ (e₁ ++ (c₂ ++ (e₂ ++ (c₃ ++ (e₃ ++ rest))))))
-      ≡ record { ahead = Sections (length c₁ + length e₁ + (length c₂ + length e₂) + (length c₃ + length e₃)); header = h }
+      ≡ begins h (length c₁ + length e₁ + (length c₂ + length e₂) + (length c₃ + length e₃))
   unfolding headed
   head-make =
       let z = c₂ ++ (e₂ ++ (c₃ ++ (e₃ ++ rest))) in
@@ -119,7 +116,7 @@ record Third (mode : Mode) (kind : ℕ) (name : List ℕ) (at : ℕ) (bs : List 
   pub rest : List ℕ
   pub split : bs ≡ c₃ ++ (e₃ ++ rest)
   pub third : Whole mode c₃ e₃
-  pub scale : real_of mode c₃ ≡ Decimal.Is h.scale
+  pub scale : real_of mode c₃ ≡ Some h.scale
   pub above : lt_z (pos 0) h.scale ≡ true
   pub kind-is : h.kind ≡ kind
   pub name-is : h.name ≡ name
@@ -136,71 +133,70 @@ record Second (mode : Mode) (kind : ℕ) (at : ℕ) (bs : List ℕ) (h : Header)
   pub third : Third mode kind (trimmed c₂) (at + (length c₂ + length e₂)) rest h at'
 
 -- what is said of a header that was found
-abbrev Found : (Header → ℕ → Type 0) → Header → Ahead → Type 0
-Found P h (Sections at) = P h at
-Found P h (Refused m k at) = Unit {0}
-
-abbrev FoundIn : (Header → ℕ → Type 0) → Headed → Type 0
-FoundIn P r = Found P r.header r.ahead
+abbrev FoundIn : (Header → ℕ → Type 0) → Result Headed Stopped → Type 0
+FoundIn P (Ok x) = P x.header x.at
+FoundIn P (Err s) = Unit {0}
 
 third-view : (mode : Mode) (kind : ℕ) (name : List ℕ) (at : ℕ) (bs : List ℕ) → FoundIn (Third mode kind name at bs) (head_scale mode kind name at bs)
 unfolding head_scale
 third-view mode kind name at bs = by-line (line_of mode false bs) refl
   where
-    by-real : (len width : ℕ) → Front mode bs len width → (d : Decimal) → real_of mode (take len bs) ≡ d → FoundIn (Third mode kind name at bs) (of_scale kind name at width d)
-    by-real len width f (Decimal.Is z) q =
+    by-real : (len width : ℕ) → Front mode bs len width → (d : Option ℤ) → real_of mode (take len bs) ≡ d → FoundIn (Third mode kind name at bs) (of_scale kind name at width d)
+    by-real len width f (Some z) q =
         cond-elim (FoundIn (Third mode kind name at bs)) (lt_z (pos 0) z) _ _
         (λ a. record { c₃ = take len bs; e₃ = f.e; rest = drop width bs; split = f.split; third = f.whole; scale = q; above = a; kind-is = refl; name-is = refl; long = ap (λ (n : ℕ). at + n) f.wide })
         (λ _. tt)
-    by-real len width f Decimal.Malformed q = tt
+    by-real len width f None q = tt
 
-    by-line : (l : Line) → line_of mode false bs ≡ l → FoundIn (Third mode kind name at bs) (scale_line mode kind name at bs l)
-    by-line (Got len width) q = by-real len width (line-front mode bs len width q) (real_of mode (take len bs)) refl
-    by-line (Bad m) q = tt
+    by-line : (l : Result Line Refusal) → line_of mode false bs ≡ l → FoundIn (Third mode kind name at bs) (scale_line mode kind name at bs l)
+    by-line (Ok x) q = by-real x.len x.width (line-front mode bs x.len x.width q) (real_of mode (take x.len bs)) refl
+    by-line (Err m) q = tt
 
 -- what follows from a header that was found, is said of it
-found_map : (P Q : Header → ℕ → Type 0) (h : Header) (a : Ahead) → ((at : ℕ) → P h at → Q h at) → Found P h a → Found Q h a
-found_map P Q h (Sections at) f x = f at x
-found_map P Q h (Refused m k at) f x = tt
+found_map : (P Q : Header → ℕ → Type 0) (r : Result Headed Stopped) → ((h : Header) (at : ℕ) → P h at → Q h at) → FoundIn P r → FoundIn Q r
+found_map P Q (Ok x) f p = f x.header x.at p
+found_map P Q (Err s) f p = tt
 
 second-view : (mode : Mode) (kind at : ℕ) (bs : List ℕ) → FoundIn (Second mode kind at bs) (head_name mode kind at bs)
 unfolding head_name
 second-view mode kind at bs = by-line (line_of mode false bs) refl
   where
-    by-line : (l : Line) → line_of mode false bs ≡ l → FoundIn (Second mode kind at bs) (name_line mode kind at bs l)
-    by-line (Got len width) q =
-        let f = line-front mode bs len width q in
-        let c = take len bs in
+    by-line : (l : Result Line Refusal) → line_of mode false bs ≡ l → FoundIn (Second mode kind at bs) (name_line mode kind at bs l)
+    by-line (Ok x) q =
+        let width = x.width in
+        let f = line-front mode bs x.len width q in
+        let c = take x.len bs in
         let r = head_scale mode kind (trimmed c) (at + width) (drop width bs) in
         cond-elim (FoundIn (Second mode kind at bs)) (is_named mode kind c) _ _
-        (λ n. found_map (Third mode kind (trimmed c) (at + width) (drop width bs)) (Second mode kind at bs) r.header r.ahead
-        (λ at' t. record {
+        (λ n. found_map (Third mode kind (trimmed c) (at + width) (drop width bs)) (Second mode kind at bs) r
+        (λ h at' t. record {
           c₂ = c;
           e₂ = f.e;
           rest = drop width bs;
           split = f.split;
           second = f.whole;
           named = n;
-          third = subst (λ (w : ℕ). Third mode kind (trimmed c) (at + w) (drop width bs) r.header at') f.wide t;
+          third = subst (λ (w : ℕ). Third mode kind (trimmed c) (at + w) (drop width bs) h at') f.wide t;
         })
         (third-view mode kind (trimmed c) (at + width) (drop width bs)))
         (λ _. tt)
-    by-line (Bad m) q = tt
+    by-line (Err m) q = tt
 
 first-view : (mode : Mode) (bs : List ℕ) → FoundIn (IsHead mode bs) (headed mode bs)
 unfolding headed
 first-view mode bs = by-line (line_of mode false bs) refl
   where
-    by-line : (l : Line) → line_of mode false bs ≡ l → FoundIn (IsHead mode bs) (first_line mode bs l)
-    by-line (Got len width) q =
-        let f = line-front mode bs len width q in
-        let c = take len bs in
+    by-line : (l : Result Line Refusal) → line_of mode false bs ≡ l → FoundIn (IsHead mode bs) (first_line mode bs l)
+    by-line (Ok x) q =
+        let width = x.width in
+        let f = line-front mode bs x.len width q in
+        let c = take x.len bs in
         let kind = kind_said mode c in
         let r = head_name mode kind width (drop width bs) in
         cond-elim (FoundIn (IsHead mode bs)) (eqb kind 0) _ _
         (λ _. tt)
-        (λ n. found_map (Second mode kind width (drop width bs)) (IsHead mode bs) r.header r.ahead
-        (λ at' t. let u = t.third in
+        (λ n. found_map (Second mode kind width (drop width bs)) (IsHead mode bs) r
+        (λ h at' t. let u = t.third in
         record {
           c₁ = c;
           e₁ = f.e;
@@ -224,20 +220,20 @@ first-view mode bs = by-line (line_of mode false bs) refl
           long = u.long ∙ ap (λ (w : ℕ). w + (length t.c₂ + length t.e₂) + (length u.c₃ + length u.e₃)) f.wide;
         })
         (second-view mode kind width (drop width bs)))
-    by-line (Bad m) q = tt
+    by-line (Err m) q = tt
 
 -- a header that is found is three records, and its values are what they say
-pub head-view : (mode : Mode) (bs : List ℕ) (h : Header) (at : ℕ) → headed mode bs ≡ record { ahead = Sections at; header = h } → IsHead mode bs h at
+pub head-view : (mode : Mode) (bs : List ℕ) (h : Header) (at : ℕ) → headed mode bs ≡ begins h at → IsHead mode bs h at
 head-view mode bs h at q = subst (FoundIn (IsHead mode bs)) q (first-view mode bs)
 
 -- ---- the laws
 
-at-is : {h : Header} {at n : ℕ} → at ≡ n → ◌≡◌ {A = Headed} (record { ahead = Sections n; header = h }) (record { ahead = Sections at; header = h })
-at-is {h} e = ap (λ (n : ℕ). record { ahead = Sections n; header = h }) (sym e)
+at-is : {h : Header} {at n : ℕ} → at ≡ n → begins h n ≡ begins h at
+at-is {h} e = ap (begins h) (sym e)
 
 -- the three records stand at the front, whatever follows them
-pub head-local : (mode : Mode) (bs : List ℕ) (h : Header) (at : ℕ) → headed mode bs ≡ record { ahead = Sections at; header = h } → (z : List ℕ)
-    → (at ≤ length bs) × (headed mode (take at bs ++ z) ≡ record { ahead = Sections at; header = h })
+pub head-local : (mode : Mode) (bs : List ℕ) (h : Header) (at : ℕ) → headed mode bs ≡ begins h at → (z : List ℕ)
+    → (at ≤ length bs) × (headed mode (take at bs ++ z) ≡ begins h at)
 head-local mode bs h at q z =
     let v = head-view mode bs h at q in
     let front = v.c₁ ++ (v.e₁ ++ (v.c₂ ++ (v.e₂ ++ (v.c₃ ++ v.e₃)))) in
@@ -253,9 +249,9 @@ module _ (from to : Mode) (wide : widens from to ≡ true) where
   is-word-widens : (c : List ℕ) → is_word (word_of from c) ≡ true → is_word (word_of to c) ≡ true
   is-word-widens c = go (word_of from c) refl
     where
-      go : (w : Word) → word_of from c ≡ w → is_word w ≡ true → is_word (word_of to c) ≡ true
-      go (Word.Is start len) e t = rw (word-widens from to wide c start len e)
-      go Word.Padded e t = absurd (let y : ◌≡◌ {A = ℕ} 0 1 = cc in omega arith)
+      go : (w : Option Word) → word_of from c ≡ w → is_word w ≡ true → is_word (word_of to c) ≡ true
+      go (Some w) e t = rw (word-widens from to wide c w.start w.len e)
+      go None e t = absurd (let y : ◌≡◌ {A = ℕ} 0 1 = cc in omega arith)
 
   kind-widens : (c : List ℕ) → (kind_said from c ≡ 0 → ⊥) → kind_said to c ≡ kind_said from c
   unfolding kind_said
@@ -275,7 +271,7 @@ module _ (from to : Mode) (wide : widens from to ≡ true) where
   whole-widens {c} {e} w = record { good = w.good; most = w.most; end = end-widens from to wide e w.end }
 
   -- a header that one mode accepts, a wider one accepts as the same
-  pub head-widens : (bs : List ℕ) (h : Header) (at : ℕ) → headed from bs ≡ record { ahead = Sections at; header = h } → headed to bs ≡ record { ahead = Sections at; header = h }
+  pub head-widens : (bs : List ℕ) (h : Header) (at : ℕ) → headed from bs ≡ begins h at → headed to bs ≡ begins h at
   head-widens bs h at q =
       let v = head-view from bs h at q in
       let s = v.says in

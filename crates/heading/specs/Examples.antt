@@ -1,6 +1,6 @@
 -- Headers that are handed in, and their names, computed: document 01, "Header and EOF" and refusal 6.
-use Rattle.std.specs.Prelude.{ℕ, ◌≡◌, refl, Bool, true, false, pos, negsuc}
 use Prim.Native.String.{String}
+use Rattle.std.specs.Prelude.{ℕ, ◌≡◌, refl, Bool, true, false, pos, negsuc}
 use Rattle.laws.specs.Lists.{same, all_at}
 use Rattle.laws.specs.Text.{text}
 use Rattle.heading.specs.declared.Header.{Header}

@@ -1,19 +1,18 @@
 -- The rules of the tables of `specs/Kinds`, each a test that is computed once, and the code's tables as they follow from those. Assumes nothing.
 use mathlib.Core.Path.{◌≡◌, refl, sym, ◌∙◌, ap}
-use mathlib.Core.List.{List, [], ◌∷◌, flatten}
+use mathlib.Core.List.{List, [], ◌∷◌, flatten, map}
 use mathlib.Core.Bool.{Bool, true, false, cond, ◌||◌}
-use Prim.Native.Nat.{ℕ, ◌+◌, ◌-◌, ◌*◌, ◌/◌, ◌%◌, ◌^◌, ◌≤◌, ◌<◌}
+use Prim.Native.Nat.{ℕ, zero, suc, ◌+◌, ◌-◌, ◌*◌, ◌/◌, ◌%◌, ◌^◌, ◌≤◌, ◌<◌}
 use native.Mathlib.Omega.{arith}
-use lib.ListN.{length, get_or, take, drop, length-take, get_or-eq_default}
-use lib.Seq.{get_or-take, get_or-drop}
+use lib.ListN.{length, get_or, take, drop, get_or-eq_default}
 use lib.Dec.{leb, ltb, eqb}
-use mir.Syntax.{w64}
-use mir.Val.{Fits}
 use borrow.Author.Tests.{leb-true, leb-false, ltb-true, ltb-false, eqb-true, ne_eqb}
 use Rattle.laws.specs.Lists.{all, below, holds, same, packed, packed_at}
 use Rattle.laws.proofs.Choice.{and_left, and_right, cond-elim}
 use Rattle.laws.proofs.ListLaws.{below_at, values, values-at}
-use Rattle.laws.proofs.Packed.{packed-from, packed-to, packed-is}
+use Rattle.laws.proofs.Packed.{packed-is}
+use Rattle.std.specs.Borrow.{Bor}
+use Rattle.std.specs.List.{list_any}
 use Rattle.token.specs.Lex.{kind_most}
 use Rattle.kinds.specs.Kinds.{own_width, schedule, next_in, next_of, fixed, fixed_vertices, codes, is_listed}
 use Rattle.kinds.specs.Digits.{is_next_at, are_nexts, is_code_at, are_codes, code_most}
@@ -80,9 +79,9 @@ nexts-past-kinds : (kind : ℕ) → kind_most < kind → are_nexts kind 0 ≡ tr
 unfolding are_nexts below next_of next_in schedule
 nexts-past-kinds kind h = rw (get_or-eq_default schedule [] {n = kind} h)
 
-pub nexts-none : (kind : ℕ) → (kind ≡ 1 → ⊥) → (kind ≡ 2 → ⊥) → (kind ≡ 3 → ⊥) → (kind ≡ 4 → ⊥) → (kind ≡ 5 → ⊥) → (kind ≡ 6 → ⊥) → (kind ≡ 7 → ⊥) → are_nexts kind 0 ≡ true
+pub nexts_none : (kind : ℕ) → (kind ≡ 1 → ⊥) → (kind ≡ 2 → ⊥) → (kind ≡ 3 → ⊥) → (kind ≡ 4 → ⊥) → (kind ≡ 5 → ⊥) → (kind ≡ 6 → ⊥) → (kind ≡ 7 → ⊥) → are_nexts kind 0 ≡ true
 unfolding no_nexts
-nexts-none kind a b c d e f g = go (leb kind kind_most) refl
+nexts_none kind a b c d e f g = go (leb kind kind_most) refl
   where
     go : (x : Bool) → leb kind kind_most ≡ x → are_nexts kind 0 ≡ true
     go true h =
@@ -141,9 +140,9 @@ codes-past-kinds : (kind : ℕ) → kind_most < kind → are_codes kind 0 ≡ tr
 unfolding are_codes below is_listed codes holds
 codes-past-kinds kind h = rw (get_or-eq_default codes [] {n = kind} h)
 
-pub codes-zero : (kind : ℕ) → (kind ≡ 3 → ⊥) → (kind ≡ 4 → ⊥) → (kind ≡ 5 → ⊥) → (kind ≡ 7 → ⊥) → are_codes kind 0 ≡ true
+pub codes_zero : (kind : ℕ) → (kind ≡ 3 → ⊥) → (kind ≡ 4 → ⊥) → (kind ≡ 5 → ⊥) → (kind ≡ 7 → ⊥) → are_codes kind 0 ≡ true
 unfolding no_codes
-codes-zero kind a b c d = go (leb kind kind_most) refl
+codes_zero kind a b c d = go (leb kind kind_most) refl
   where
     go : (x : Bool) → leb kind kind_most ≡ x → are_codes kind 0 ≡ true
     go true h = rw (ne_eqb kind 3 a, ne_eqb kind 4 b, ne_eqb kind 5 c, ne_eqb kind 7 d) at (below_at kinds no_codes kind all-no-codes (among kind (leb-true kind kind_most h)))
@@ -182,56 +181,21 @@ listed-past kind code h = go (leb kind kind_most) refl
     go true e = holds-past (get_or codes kind []) code (below_at kinds few_codes kind all-few-codes (among kind (leb-true kind kind_most e))) h
     go false e = rw (get_or-eq_default codes [] {n = kind} (leb-false kind kind_most e))
 
--- ---- the code's tables of the fields: one list behind the other, and where each begins
+-- ---- the code's table of the fields
 
-unfoldable pub field_table : List ℕ
-field_table = flatten schedule
+-- the code's table is a list of slices: its row is the schedule's
+pub row-is : (l : List (Bor (List ℕ))) (d : Bor (List ℕ)) (k : ℕ) → (get_or l k d).now ≡ get_or (map (λ (b : Bor (List ℕ)). b.now) l) k d.now
+row-is [] d k = refl
+row-is (b ∷ l) d zero = refl
+row-is (b ∷ l) d (suc k) = row-is l d k
 
-unfoldable pub field_starts : List ℕ
-field_starts = values (λ (k : ℕ). length (flatten (take k schedule))) (kinds + 1)
+pub past-row : (l : List ℕ) (j : ℕ) → length l ≤ j → 0 ≡ get_or l j 0
+past-row l j h = sym (get_or-eq_default l 0 {n = j} h)
 
-fields-packed : packed field_table field_starts schedule ≡ true
-unfolding field_table field_starts packed packed_at below same values schedule flatten
-fields-packed = refl
-
-module _ (kind : ℕ) (h : kind ≤ kind_most) where
-  abbrev from : ℕ
-  from = get_or field_starts kind 0
-
-  abbrev to : ℕ
-  to = get_or field_starts (kind + 1) 0
-
-  a-schedule : kind < length schedule
-  unfolding schedule
-  a-schedule = omega arith
-
-  pub fields-from : from ≤ to
-  fields-from = packed-from field_table field_starts schedule fields-packed kind a-schedule
-
-  pub fields-to : to ≤ length field_table
-  fields-to = packed-to field_table field_starts schedule fields-packed kind a-schedule
-
-  fields-are : take (to - from) (drop from field_table) ≡ get_or schedule kind []
-  fields-are = packed-is field_table field_starts schedule fields-packed kind a-schedule
-
-  pub field_in : (place : ℕ) (r : Bool) → r ≡ holds (take (to - from) (drop from field_table)) place → r ≡ holds (get_or schedule kind []) place
-  field_in place r e = e ∙ ap (λ (l : List ℕ). holds l place) fields-are
-
-  module _ (j : ℕ) where
-    pub field-inside : j < to - from → from + j < length field_table
-    field-inside k = omega (arith, fields-to)
-
-    pub field_fits : j < to - from → Fits w64 (from + j)
-    unfolding field_table schedule flatten
-    field_fits k = record { fits = omega (arith, field-inside k) }
-
-    pub field_is : (n : ℕ) → j < to - from → n ≡ get_or field_table (from + j) 0 → n ≡ get_or (get_or schedule kind []) j 0
-    field_is n k e = e ∙ sym (rw (← fields-are) (get_or-take (to - from) (drop from field_table) j 0 k ∙ get_or-drop from field_table j 0))
-
-    pub field_past : to - from ≤ j → 0 ≡ get_or (get_or schedule kind []) j 0
-    field_past k =
-        let l = length-take (to - from) (drop from field_table) in
-        sym (rw (← fields-are) (get_or-eq_default (take (to - from) (drop from field_table)) 0 {n = j} (omega arith)))
+pub holds-any : (l : List ℕ) (n : ℕ) → holds l n ≡ list_any (eqb n) l
+unfolding holds
+holds-any [] n = refl
+holds-any (a ∷ l) n = ap (λ (b : Bool). eqb n a || b) (holds-any l n)
 
 module _ (kind : ℕ) (h : kind_most < kind) where
   pub field-no-kind : (place : ℕ) → false ≡ holds (get_or schedule kind []) place

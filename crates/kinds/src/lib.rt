@@ -2,7 +2,8 @@
 // All of it is proved, and no public function has a `requires`. A kind is a row of the tables below, and a number of `nexts` and of `codes`.
 #![tactic(auto)]
 
-ghost use Rattle.std.specs.Prelude.{◌≡◌, true, [], get_or};
+ghost use Rattle.std.specs.Prelude.{◌≡◌, true, [], get_or, eqb};
+ghost use Rattle.std.specs.List.{list_any};
 ghost use Rattle.laws.specs.Lists.{holds};
 ghost use Rattle.kinds.specs.Kinds.{schedule, next_of, fixed_vertices, is_listed, want_at};
 ghost use Rattle.kinds.specs.Digits.{are_nexts, are_codes};
@@ -30,48 +31,36 @@ const LETTERS_PLACE: usize = 9;
 // The greatest code that is listed for any kind.
 const CODE_MOST: usize = 35;
 
-// The fields of each kind as places of its row, in the file's order, from 0, and where each kind's begin.
-const FIELDS: [u8; 30] = [
-    9, 3, 4, 5, 6, 7, 8, 10, 11, 9, 3, 4, 5, 6, 2, 4, 5, 6, 9, 2, 5, 6, 7, 8, 2, 11, 9, 9, 2, 11,
+// By kind, from 0, its fields as places of its row, in the file's order.
+const FIELDS: [&[u8]; 8] = [
+    &[],
+    &[9, 3, 4, 5, 6, 7, 8, 10, 11],
+    &[9, 3, 4, 5, 6],
+    &[2, 4, 5, 6],
+    &[9, 2, 5, 6, 7, 8],
+    &[2, 11],
+    &[9],
+    &[9, 2, 11],
 ];
-
-const FIELD_STARTS: [usize; 9] = [0, 0, 9, 14, 18, 24, 26, 27, 30];
 
 // By kind, from 0, the vertices of a section that has no record of their count.
 const FIXED: [u8; 8] = [0, 0, 0, 0, 0, 0, 4, 0];
 
-fn wide(b: u8) -> usize
-    ensures { result ≡ b }
-{
-    b as usize
-}
-
 // The order of a kind's fields as one number: hex digit p, from the right, is the place that follows place p in the file; digit 0 is the first field, and 0 stands after the last.
+#[tactic(auto, unfolding(crate::specs::Digits::are_nexts, crate::specs::Kinds::next_of, crate::specs::Kinds::next_in, crate::specs::Kinds::schedule, laws::specs::Lists::below), using(crate::proofs::KindLaws::nexts_none))]
 fn nexts(kind: usize) -> usize
     ensures { are_nexts kind result ≡ true }
 {
-    if kind == 1 {
-        return 0x0B3A87654009;
+    match kind {
+        1 => 0x0B3A87654009,
+        2 => 0x003000654009,
+        3 => 0x000000650402,
+        4 => 0x002087600509,
+        5 => 0x000000000B02,
+        6 => 0x000000000009,
+        7 => 0x002000000B09,
+        _ => 0,
     }
-    if kind == 2 {
-        return 0x003000654009;
-    }
-    if kind == 3 {
-        return 0x000000650402;
-    }
-    if kind == 4 {
-        return 0x002087600509;
-    }
-    if kind == 5 {
-        return 0x000000000B02;
-    }
-    if kind == 6 {
-        return 0x000000000009;
-    }
-    if kind == 7 {
-        return 0x002000000B09;
-    }
-    0
 }
 
 // The field of a kind after the one at a place, or 0.
@@ -81,8 +70,7 @@ pub fn next_field(kind: usize, place: usize) -> usize
     if place >= OWN_WIDTH {
         return 0;
     }
-    let n = nexts(kind);
-    (n >> (4 * place)) % 16
+    (nexts(kind) >> (4 * place)) % 16
 }
 
 // The vertices of a section that has points and no record of their count, or 0.
@@ -92,40 +80,28 @@ pub fn fixed_vertices(kind: usize) -> usize
     if kind > KINDS {
         return 0;
     }
-    wide(FIXED[kind])
+    usize::from(FIXED[kind])
 }
 
 // One of the bytes is n.
 fn is_in(list: &[u8], n: usize) -> bool
-    ensures { result ≡ holds list.now n }
+    ensures { result ≡ list_any (eqb n) list.now }
 {
-    let mut i = 0;
-    while i < list.len() {
-        if wide(list[i]) == n {
-            return true;
-        }
-        i += 1;
-    }
-    false
+    list.iter().any(|&b| n == usize::from(b))
 }
 
 // The listed codes of a kind as one number: bit c, from the right, is 1 where code c is listed.
+#[tactic(auto, unfolding(crate::specs::Digits::are_codes, crate::specs::Kinds::is_listed, crate::specs::Kinds::codes, laws::specs::Lists::below, laws::specs::Lists::holds), using(crate::proofs::KindLaws::codes_zero))]
 fn codes(kind: usize) -> usize
     ensures { are_codes kind result ≡ true }
 {
-    if kind == 3 {
-        return 0x00011EFFE;
+    match kind {
+        3 => 0x00011EFFE,
+        4 => 0x000100100,
+        5 => 0xFE0001862,
+        7 => 0x000000002,
+        _ => 0,
     }
-    if kind == 4 {
-        return 0x000100100;
-    }
-    if kind == 5 {
-        return 0xFE0001862;
-    }
-    if kind == 7 {
-        return 0x000000002;
-    }
-    0
 }
 
 // A code that is listed for a kind.
@@ -135,8 +111,7 @@ pub fn is_listed(kind: usize, code: usize) -> bool
     if code > CODE_MOST {
         return false;
     }
-    let n = codes(kind);
-    (n >> code) % 2 == 1
+    (codes(kind) >> code) % 2 == 1
 }
 
 // The rows of a kind have a field at a place.
@@ -146,9 +121,7 @@ pub fn has_field(kind: usize, place: usize) -> bool
     if kind > KINDS {
         return false;
     }
-    let start = FIELD_STARTS[kind];
-    let end = FIELD_STARTS[kind + 1];
-    is_in(&FIELDS[start..end], place)
+    is_in(FIELDS[kind], place)
 }
 
 // The place of field j of a kind, from 0; 0 past the last.
@@ -158,26 +131,21 @@ pub fn field_at(kind: usize, j: usize) -> usize
     if kind > KINDS {
         return 0;
     }
-    let start = FIELD_STARTS[kind];
-    let end = FIELD_STARTS[kind + 1];
-    if j >= end - start {
+    let fields = FIELDS[kind];
+    if j >= fields.len() {
         return 0;
     }
-    wide(FIELDS[start + j])
+    usize::from(fields[j])
 }
 
 // What a record is to be read as, by its place in the row.
+#[tactic(auto, unfolding(crate::specs::Kinds::want_at))]
 pub fn want_at(place: usize) -> Want
     ensures { result ≡ want_at place }
 {
-    if place == LETTERS_PLACE {
-        return Want::Text;
+    match place {
+        LETTERS_PLACE => Want::Text,
+        ANGLE_PLACE..=SECOND_Y_PLACE => Want::Real,
+        _ => Want::Int,
     }
-    if place < ANGLE_PLACE {
-        return Want::Int;
-    }
-    if place > SECOND_Y_PLACE {
-        return Want::Int;
-    }
-    Want::Real
 }

@@ -1,14 +1,15 @@
 -- The laws of `run`, `kept`, `all`, `same`, `place` and of parts of slices. Assumes nothing.
-use Prim.Native.Nat.{ℕ, zero, suc, ◌+◌, ◌-◌, ◌*◌, ◌≤◌, ◌<◌, zero-le}
+use Prim.Native.Nat.{ℕ, zero, suc, ◌+◌, ◌-◌, ◌≤◌, ◌<◌, zero-le}
 use mathlib.Core.Path.{◌≡◌, refl, sym, ◌∙◌, ap}
 use mathlib.Core.List.{List, [], ◌∷◌, ◌++◌, append-nil}
 use mathlib.Core.Bool.{Bool, true, false, cond, not, ◌&&◌}
 use native.Mathlib.Numerals.{add-one, unary_clauses}
 use native.Mathlib.Omega.{arith}
-use lib.ListN.{length, get_or, take, drop, drop_of_length-le, take-append-drop, length-append, length-take, length-drop, replicate, set}
-use lib.Seq.{drop-cons, take_all, take-suc, length-take-le, drop-drop, take-length, split_at, take-suc-set, take-take, ext_get_or}
+use lib.ListN.{length, get_or, take, drop, drop_of_length-le, take-append-drop, length-take, length-drop, replicate, set}
+use lib.Seq.{drop-cons, take_all, take-suc, length-take-le, take-length, split_at, take-suc-set, take-take, ext_get_or}
 use lib.Dec.{eqb}
 use borrow.Author.Tests.{eq-eqb, ne_eqb, eqb-true, eqb-false, not-true, not-false}
+use Rattle.std.specs.Str.{bytes_eq}
 use Rattle.laws.specs.Lists.{run, kept, all, all_at, same, tail, below, place, holds}
 use Rattle.laws.proofs.Choice.{and_left, and_right, and_both, false≢true}
 
@@ -72,6 +73,10 @@ module _ (p : ℕ → Bool) (s : List ℕ) (i : ℕ) (q : run p s ≡ i + run p 
 
   pub run-over : length s ≤ i → i ≡ run p s
   run-over h = omega (arith, run_end p s i h)
+
+  -- where the loop went over the whole list
+  pub run_all : i ≤ length s → length s ≤ i → length s ≡ run p s
+  run_all k h = omega (arith, run_end p s i h)
 
   -- with a test that a callee made
   pub run-step-by : (r : Bool) → i < length s → r ≡ p (get_or s i 0) → r ≡ true → run p s ≡ i + 1 + run p (drop (i + 1) s)
@@ -179,7 +184,7 @@ run-within p s n q = rw q (run-le p s)
 pub run-count : (p : ℕ → Bool) (s : List ℕ) (n : ℕ) → n ≡ run p s → n ≡ length (take n s)
 run-count p s n q = sym (length-take-le n s (run-within p s n q))
 
-pub ruleset runs = (run-within, run-count, run-step-by, run-done-by, run_step, run-done, run-over, all-step, all-stop, all-over)
+pub ruleset runs = (run-within, run-count, run-step-by, run-done-by, run_step, run-done, run-over, run_all, all-step, all-stop, all-over)
 
 -- ---- `same`
 
@@ -204,23 +209,13 @@ same-short s t h = go (same s t) refl
     go true q = absurd (h (ap length (same-is s t q)))
     go false q = refl
 
--- the loop that compares, as steps of its invariant
-module _ (s t : List ℕ) (i : ℕ) (l : length s ≡ length t) (q : same s t ≡ same (drop i s) (drop i t)) where
-  same-on : i < length s → same s t ≡ (eqb (get_or s i 0) (get_or t i 0) && same (drop (i + 1) s) (drop (i + 1) t))
-  unfolding same
-  same-on h = q ∙ rw (left s i 0 h, left t i 0 (omega arith))
-
-  pub same_step : i < length s → get_or s i 0 ≡ get_or t i 0 → same s t ≡ same (drop (i + 1) s) (drop (i + 1) t)
-  same_step h e = same-on h ∙ rw (eq-eqb (get_or s i 0) (get_or t i 0) e)
-
-  pub same_stop : i < length s → (get_or s i 0 ≡ get_or t i 0 → ⊥) → false ≡ same s t
-  same_stop h e = sym (same-on h ∙ rw (ne_eqb (get_or s i 0) (get_or t i 0) e))
-
-  pub same_over : length s ≤ i → true ≡ same s t
-  unfolding same
-  same_over h = sym (q ∙ rw (left-none s i h, left-none t i (omega arith)))
-
-pub ruleset sames = (same-short, same_step, same_stop, same_over)
+-- std's `==` on slices
+pub same_bytes : (s t : List ℕ) → bytes_eq s t ≡ same s t
+unfolding same
+same_bytes [] [] = refl
+same_bytes [] (b ∷ t) = refl
+same_bytes (a ∷ s) [] = refl
+same_bytes (a ∷ s) (b ∷ t) = rw (same_bytes s t)
 
 -- ---- `place`
 
@@ -366,12 +361,19 @@ module _ (p : ℕ → Bool) where
     pub whole-all : length s ≤ n → true ≡ all p s
     whole-all h = sym (all_whole s (omega (arith, run-le p s)))
 
+    pub whole_is : eqb n (length s) ≡ all p s
+    whole_is = go (eqb n (length s)) refl
+      where
+        go : (x : Bool) → eqb n (length s) ≡ x → x ≡ all p s
+        go true e = whole-all (omega (arith, eqb-true n (length s) e))
+        go false e = whole-not (omega (arith, q, run-le p s, eqb-false n (length s) e))
+
   pub all_alike : (n a : ℕ) → p a ≡ true → all p (replicate n a) ≡ true
   unfolding all
   all_alike zero a e = refl
   all_alike (suc n) a e = and_both (p a) (all p (replicate n a)) e (all_alike n a e)
 
-pub ruleset wholes = (whole-not, whole-all)
+pub ruleset wholes = (whole-not, whole-all, whole_is)
 
 -- all are one byte
 pub alike : (a : ℕ) (s : List ℕ) → all (λ b. eqb b a) s ≡ true → s ≡ replicate (length s) a

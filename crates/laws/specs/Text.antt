@@ -1,8 +1,7 @@
 -- Quoted text as the bytes of its characters. Assumes nothing: this is a definition.
-use Rattle.std.specs.Prelude.{ℕ, List, [], ◌∷◌}
 use Prim.Native.Char.{code}
 use Prim.Native.String.{String}
-use Prim.Native.String as String
+use Rattle.std.specs.Prelude.{ℕ, List, [], ◌∷◌}
 
 abbrev pub text : String → List ℕ
 text String.[] = []

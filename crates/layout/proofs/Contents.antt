@@ -11,6 +11,7 @@ use borrow.Author.Tests.{leb-true, ne_eqb}
 use Rattle.laws.specs.Lists.{all, below}
 use Rattle.laws.proofs.Choice.{and_left, and_right}
 use Rattle.laws.proofs.ListLaws.{below_at}
+use Rattle.std.specs.Prelude.{Some, Ok}
 use Rattle.record.specs.declared.Mode.{Mode}
 use Rattle.record.specs.declared.Mode.TheVariants.{Exact}
 use Rattle.record.specs.Record.{plain}
@@ -20,13 +21,11 @@ use Rattle.number.specs.Number.{is_real}
 use Rattle.number.proofs.WordLaws.{word-make}
 use Rattle.spelling.specs.Spelling.{integer_text, real_text}
 use Rattle.spelling.proofs.SpellingLaws.{integer-spelt, real-spelt, integer-length, real-length, integer-plain, real-plain}
-use Rattle.token.specs.declared.Token.TheVariants.{Say}
 use Rattle.token.specs.declared.Want.{Want}
 use Rattle.token.specs.declared.Want.TheVariants.{Key, Text, Int, Real}
 use Rattle.token.specs.Lex.{lift, keywords, may_lie_outside, is_key, key_text, lex_of}
 use Rattle.token.proofs.TokenLaws.{key_most, key-spelt, lex-widens}
 use Rattle.machine.specs.declared.State.{State}
-use Rattle.machine.specs.declared.Step.TheVariants.{Go}
 use Rattle.machine.specs.Machine.{want_of, step_of}
 use Rattle.sheet.specs.Tables.{Tables, put, ring_after}
 use Rattle.sheet.proofs.Pass.{Pass, more}
@@ -36,10 +35,10 @@ use Rattle.layout.specs.Sheet.{line}
 pub record Reads (w : Want) (c : List ℕ) (t : ℕ) : Type 0 where
   pub good : all plain c ≡ true
   pub most : length c ≤ 255
-  pub says : lex_of Exact w c ≡ Say t
+  pub says : lex_of Exact w c ≡ Ok t
 
 -- so every mode does
-says-in : (mode : Mode) {w : Want} {c : List ℕ} {t : ℕ} → Reads w c t → lex_of mode w c ≡ Say t
+says-in : (mode : Mode) {w : Want} {c : List ℕ} {t : ℕ} → Reads w c t → lex_of mode w c ≡ Ok t
 says-in mode {w} {c} {t} r = lex-widens Exact mode refl w c t r.says
 
 -- ---- what each kind of content says
@@ -77,7 +76,7 @@ key_reads t l h =
 
 -- ---- such a content, written as a record, is one that the machine goes on by
 
-pub line-pass : {mode : Mode} {st st₁ st₂ : State} {o o₂ : Tables} {t : ℕ} {c bs : List ℕ} → Reads (want_of st) c t → step_of mode st t (ring_after st o) ≡ Go st₁
+pub line-pass : {mode : Mode} {st st₁ st₂ : State} {o o₂ : Tables} {t : ℕ} {c bs : List ℕ} → Reads (want_of st) c t → step_of mode st t (ring_after st o) ≡ Ok (Some st₁)
     → Pass mode st₁ (put st t c o) bs st₂ o₂ → Pass mode st o (line c ++ bs) st₂ o₂
 line-pass {mode} {st} {st₁} {st₂} {o} {o₂} {t} {c} {bs} r s p =
     subst (λ (x : List ℕ). Pass mode st o x st₂ o₂) (sym (append_assoc c (13 ∷ 10 ∷ []) bs))

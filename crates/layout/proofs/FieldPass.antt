@@ -16,6 +16,7 @@ use Rattle.laws.proofs.Choice.{and_left, and_right, false≢true}
 use Rattle.laws.proofs.Bits.{eq_z-same}
 use Rattle.laws.proofs.ListLaws.{below_at, holds-here, holds-there, values, values-at, values_length, values-are}
 use Rattle.layout.proofs.Tails.{Lettered}
+use Rattle.std.specs.Prelude.{Some, Ok}
 use Rattle.record.specs.declared.Mode.{Mode}
 use Rattle.record.specs.Record.{is_exact, plain}
 use Rattle.number.specs.Words.{blank, trimmed}
@@ -26,7 +27,6 @@ use Rattle.token.specs.Lex.{kind_most, lift}
 use Rattle.token.proofs.TokenLaws.{lift-unlift}
 use Rattle.machine.specs.declared.State.{State}
 use Rattle.machine.specs.declared.State.TheVariants.{Due, Field, Island, X}
-use Rattle.machine.specs.declared.Step.TheVariants.{Go}
 use Rattle.kinds.specs.Kinds.{row_width, own_width, schedule, next_in, next_of, fixed_vertices, unsaid, is_listed, want_at}
 use Rattle.machine.specs.Machine.{want_of, fresh_ring, vertices_of, fields_end, field_of, step_of}
 use Rattle.sheet.specs.Tables.{Tables, no_starts, start_cells, cell_of, set_last, put}
@@ -177,8 +177,8 @@ text-place p = go (eqb p 9) refl (leb 4 p && leb p 8)
   where
     go : (x : Bool) → eqb p 9 ≡ x → (y : Bool) → cond x Text (cond y Real Int) ≡ Text → p ≡ 9
     go true q y e = eqb-true p 9 q
-    go false q true e = absurd (let z : ◌≡◌ {A = ℕ} 0 1 = cc in omega arith)
-    go false q false e = absurd (let z : ◌≡◌ {A = ℕ} 0 1 = cc in omega arith)
+    go false q true e = absurd cc
+    go false q false e = absurd cc
 
 -- ---- the letters
 
@@ -324,11 +324,11 @@ module _ (mode : Mode) (t : Tables) (cells : (p : ℕ) → p < 12 → is_cell (k
         go false e = rw (holds-there ps p 10 (λ z. eqb-false p 10 e (sym z)))
 
   -- the count of vertices leads to the points
-  vertices-on : has_field (kind_of t) 11 ≡ true → vertices_of (kind_of t) (count_at t 10) (count_at t 11) ≡ Go (behind (kind_of t) (count_at t 10) (count_at t 11))
+  vertices-on : has_field (kind_of t) 11 ≡ true → vertices_of (kind_of t) (count_at t 10) (count_at t 11) ≡ Ok (Some (behind (kind_of t) (count_at t 10) (count_at t 11)))
   unfolding vertices_of
   vertices-on e = go (eqb (kind_of t) 1) refl
     where
-      go : (x : Bool) → eqb (kind_of t) 1 ≡ x → vertices_of (kind_of t) (count_at t 10) (count_at t 11) ≡ Go (behind (kind_of t) (count_at t 10) (count_at t 11))
+      go : (x : Bool) → eqb (kind_of t) 1 ≡ x → vertices_of (kind_of t) (count_at t 10) (count_at t 11) ≡ Ok (Some (behind (kind_of t) (count_at t 10) (count_at t 11)))
       go true q =
           let b = border-is (kind_of t) (count_at t 10) (count_at t 11) t.islands q counts in
           rw (e, q, le-leb (4 + 4 * count_at t 10) (count_at t 11) b.enough) (go-cond (eqb (count_at t 10) 0) (X (fresh_ring true 0 (count_at t 11))) (Island (count_at t 10) (count_at t 11) (count_at t 10)))
@@ -339,12 +339,12 @@ module _ (mode : Mode) (t : Tables) (cells : (p : ℕ) → p < 12 → is_cell (k
   kind-low = (counted 1 kind_most (cell_at t 0) (cells 0 (omega arith))).2
 
   -- and so does the last field of a section that has points and does not count them
-  end_on : has_field (kind_of t) 11 ≡ false → fields_end (kind_of t) ≡ Go (behind (kind_of t) (count_at t 10) (count_at t 11))
+  end_on : has_field (kind_of t) 11 ≡ false → fields_end (kind_of t) ≡ Ok (Some (behind (kind_of t) (count_at t 10) (count_at t 11)))
   unfolding fields_end vertices_of unsaid
   end_on e = go (eqb (fixed_vertices (kind_of t)) 0) refl
     where
       go : (x : Bool) → eqb (fixed_vertices (kind_of t)) 0 ≡ x
-          → cond x (Go Due) (vertices_of (kind_of t) 0 (fixed_vertices (kind_of t))) ≡ Go (behind (kind_of t) (count_at t 10) (count_at t 11))
+          → cond x (Ok (Some Due)) (vertices_of (kind_of t) 0 (fixed_vertices (kind_of t))) ≡ Ok (Some (behind (kind_of t) (count_at t 10) (count_at t 11)))
       go true q = rw (e, q)
       go false q =
           let v : count_at t 11 ≡ fixed_vertices (kind_of t) = ap nat_of (field-none 11 (omega arith) (omega arith) e) in
@@ -352,13 +352,13 @@ module _ (mode : Mode) (t : Tables) (cells : (p : ℕ) → p < 12 → is_cell (k
           rw (e, q, bare-kind (kind_of t) e, v, le-leb 2 (fixed_vertices (kind_of t)) l)
 
   field-on : (p : ℕ) (ps : List ℕ) → Place (kind_of t) p ps → (n : ℕ) → (p ≡ 2 → n ≡ count_at t 2) → (p ≡ 10 → n ≡ count_at t 10) → (p ≡ 11 → n ≡ count_at t 11)
-      → field_of mode (kind_of t) p (islands_due t (p ∷ ps)) n ≡ Go (state_at t ps)
+      → field_of mode (kind_of t) p (islands_due t (p ∷ ps)) n ≡ Ok (Some (state_at t ps))
   unfolding field_of holds
   field-on p [] h n f g k = rw (code-passes p [] h n f) (go (eqb p 11) refl)
     where
       go : (x : Bool) → eqb p 11 ≡ x
-          → cond x (vertices_of (kind_of t) (islands_due t (p ∷ [])) n) (cond (eqb (next_of (kind_of t) p) 0) (fields_end (kind_of t)) (Go (Field (kind_of t) (next_of (kind_of t) p) (cond (eqb p 10) n (islands_due t (p ∷ []))))))
-          ≡ Go (state_at t [])
+          → cond x (vertices_of (kind_of t) (islands_due t (p ∷ [])) n) (cond (eqb (next_of (kind_of t) p) 0) (fields_end (kind_of t)) (Ok (Some (Field (kind_of t) (next_of (kind_of t) p) (cond (eqb p 10) n (islands_due t (p ∷ [])))))))
+          ≡ Ok (Some (state_at t []))
       go true e =
           let q : p ≡ 11 = eqb-true p 11 e in
           rw (k q, q) (vertices-on (rw q at h.has))

@@ -12,19 +12,17 @@ use borrow.Author.Tests.{leb-true, eqb-true, eqb-false, le-leb, eq-eqb, ne_eqb}
 use Rattle.laws.specs.Lists.{all, holds}
 use Rattle.laws.proofs.Choice.{cond-elim, false≢true, true≢false}
 use Rattle.laws.proofs.ListLaws.{holds-here, holds-there}
+use Rattle.std.specs.Prelude.{Some, None, Ok, Err}
 use Rattle.record.specs.declared.Mode.{Mode}
 use Rattle.record.specs.declared.Mode.TheVariants.{Exact}
 use Rattle.record.specs.Record.{is_exact, plain}
 use Rattle.record.specs.RecordView.{LineEnd}
 use Rattle.number.specs.Words.{trimmed}
 use Rattle.number.proofs.WordLaws.{trimmed-first, trimmed-last, trimmed-plain}
-use Rattle.token.specs.declared.Token.TheVariants.{Say}
 use Rattle.token.specs.Lex.{lex_of}
 use Rattle.kinds.specs.Kinds.{row_width, next_of, fixed_vertices, unsaid, is_listed, want_at}
-use Rattle.machine.specs.Machine.{fresh_ring, vertices_of, fields_end, field_of}
+use Rattle.machine.specs.Machine.{Step, fresh_ring, vertices_of, fields_end, field_of}
 use Rattle.machine.specs.declared.State.TheVariants.{Field}
-use Rattle.machine.specs.declared.Step.{Step}
-use Rattle.machine.specs.declared.Step.TheVariants.{Go, No, End}
 use Rattle.kinds.proofs.KindLaws.{next-most}
 use Rattle.sheet.specs.Tables.{Tables, cell_of, set_last, put}
 use Rattle.made.specs.Made.{cell_at, count_at, nat_of, has_field, sum, four_at_least, are_counts, are_reals, are_closed, is_closed, ring_sizes, are_points}
@@ -82,14 +80,14 @@ module _ (kind i v : ℕ) (now : Tables) (a : count_at now 10 ≡ i) (b : count_
 
 -- what holds of the section's end, by what follows
 step_map : (mode : Mode) (part : Tables) (P Q : Tables → List ℕ → Type 0) (s : Step) → ((now : Tables) (cs : List ℕ) → P now cs → Q now cs) → StepTail mode part P s → StepTail mode part Q s
-step_map mode part P Q (Go st) f w = (w.0, λ now cs x. f now cs (w.1 now cs x))
-step_map mode part P Q (No m) f w = tt
-step_map mode part P Q End f w = tt
+step_map mode part P Q (Ok (Some st)) f w = (w.0, λ now cs x. f now cs (w.1 now cs x))
+step_map mode part P Q (Ok None) f w = tt
+step_map mode part P Q (Err m) f w = tt
 
 -- ---- a field's record
 
 module _ (mode : Mode) (c e : List ℕ) (t : ℕ) (l : LineEnd mode e) (kind p i : ℕ) (part : Tables)
-    (good : all plain c ≡ true) (short : length c ≤ 255) (says : lex_of mode (want_at p) c ≡ Say t)
+    (good : all plain c ≡ true) (short : length c ≤ 255) (says : lex_of mode (want_at p) c ≡ Ok t)
     (k : AtField kind p i part) (listed : p ≡ 2 → (not (is_exact mode) || is_listed kind t) ≡ true) where
   abbrev cell : ℤ
   cell = cell_of (want_at p) t
@@ -131,7 +129,7 @@ module _ (mode : Mode) (c e : List ℕ) (t : ℕ) (l : LineEnd mode e) (kind p i
     lettered-now : p ≡ 9 → Lettered (count_at now 9) now.letters
     unfolding want_at
     lettered-now e₉ =
-        let s = text_says mode c t (subst (λ (q : ℕ). lex_of mode (want_at q) c ≡ Say t) e₉ says) in
+        let s = text_says mode c t (subst (λ (q : ℕ). lex_of mode (want_at q) c ≡ Ok t) e₉ says) in
         let n : cell_at now 9 ≡ pos t = subst (λ (q : ℕ). cell_at now q ≡ cell_of (want_at q) t) e₉ cell-now in
         rw (n, letters-now e₉) (record { counted = s.counted; good = trimmed-plain c good; first = trimmed-first c; last = trimmed-last c })
 
@@ -299,7 +297,7 @@ module _ (mode : Mode) (c e : List ℕ) (t : ℕ) (l : LineEnd mode e) (kind p i
   four-none = rw k.islands
 
   abbrev leads : Step
-  leads = cond (eqb p 11) (vertices_of kind i t) (cond (eqb next 0) (fields_end kind) (Go (Field kind next (cond (eqb p 10) t i))))
+  leads = cond (eqb p 11) (vertices_of kind i t) (cond (eqb next 0) (fields_end kind) (Ok (Some (Field kind next (cond (eqb p 10) t i)))))
 
   next-tail : StepTail mode part₁ Fielded leads
   unfolding vertices_of fields_end
@@ -344,7 +342,7 @@ listed_by p kind t mode e z = go (is_exact mode) (is_listed kind t) (rw (eq-eqb 
     go true true e = refl
     go true false e = absurd (true≢false e)
 
-pub field-tail : (mode : Mode) (c e : List ℕ) (t : ℕ) → LineEnd mode e → (kind p i : ℕ) (part : Tables) → all plain c ≡ true → length c ≤ 255 → lex_of mode (want_at p) c ≡ Say t
+pub field-tail : (mode : Mode) (c e : List ℕ) (t : ℕ) → LineEnd mode e → (kind p i : ℕ) (part : Tables) → all plain c ≡ true → length c ≤ 255 → lex_of mode (want_at p) c ≡ Ok t
     → AtField kind p i part
     → StepTail mode (put (Field kind p i) t c part) (λ now cs. FieldsTail mode kind (ahead kind p) part now (c ++ (e ++ cs))) (field_of mode kind p i t)
 unfolding field_of

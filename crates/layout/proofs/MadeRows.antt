@@ -12,11 +12,11 @@ use borrow.Author.Tests.{leb-true, eqb-true, eqb-false, le-leb, eq-eqb, ne_eqb}
 use Rattle.laws.specs.Lists.{all, below, holds}
 use Rattle.laws.proofs.Choice.{and_left, and_right, and_both, cond-elim}
 use Rattle.laws.proofs.ListLaws.{below_all}
+use Rattle.std.specs.Prelude.{Ok}
 use Rattle.record.specs.declared.Mode.{Mode}
 use Rattle.record.specs.declared.Mode.TheVariants.{Exact}
 use Rattle.record.specs.Record.{is_exact}
 use Rattle.record.specs.RecordView.{LineEnd}
-use Rattle.token.specs.declared.Token.TheVariants.{Say}
 use Rattle.token.specs.declared.Want.TheVariants.{Key}
 use Rattle.token.specs.Lex.{kind_most, may_lie_outside, is_key, key_text, lex_of}
 use Rattle.token.proofs.TokenLaws.{key-text, key-only}
@@ -26,7 +26,6 @@ use Rattle.machine.specs.declared.State.TheVariants.{Due}
 use Rattle.kinds.proofs.KindLaws.{next-most}
 use Rattle.sheet.specs.Tables.{Tables, empty, ◌then◌, no_starts, ◌plus◌, starts_of, starting_at, ◌followed◌, new_row, put}
 use Rattle.sheet.proofs.StartLaws.{new-at, new-starts, length_moved}
-use Rattle.made.specs.declared.Verdict.TheVariants.{Fine}
 use Rattle.made.specs.Made.{cell_at, count_at, nat_of, kind_of, first_of, rest_of, has_field, is_outside, is_cell, cell_test, are_numbers, are_letters, is_made, are_starts, none_before, past_row, is_coded, judge_rows, used_of}
 use Rattle.made.proofs.UsedLaws.{fine_before}
 use Rattle.made.proofs.StartLaws.{Starting, are-starts, fine_moved, used-moved}
@@ -204,7 +203,7 @@ module _ (mode : Mode) (t : ℕ) (k : SaysKey t) (now : Tables) (cs : List ℕ)
   }
 
 -- a keyword's record begins a section
-pub key-tail : (mode : Mode) (c e : List ℕ) (t : ℕ) → LineEnd mode e → lex_of mode Key c ≡ Say t
+pub key-tail : (mode : Mode) (c e : List ℕ) (t : ℕ) → LineEnd mode e → lex_of mode Key c ≡ Ok t
     → StepTail mode (put Due t c empty) (λ now cs. MadeRow mode now (c ++ (e ++ cs))) (key_step t)
 unfolding key_step put
 key-tail mode c e t l says =
@@ -222,7 +221,7 @@ key-tail mode c e t l says =
 
 pub record MadeRows (mode : Mode) (n : ℕ) (o : Tables) (bs : List ℕ) : Type 0 where
   pub long : length o.rows ≡ row_width * n
-  pub judged : judge_rows mode n none_before o ≡ Fine
+  pub judged : judge_rows mode n none_before o ≡ Ok tt
   pub used : used_of n o ≡ o
   pub text : mode ≡ Exact → rows_text n o ≡ bs
 

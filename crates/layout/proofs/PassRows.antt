@@ -4,11 +4,11 @@ use mathlib.Core.List.{List, [], ◌++◌, append_assoc}
 use Prim.Native.Nat.{ℕ, suc, ◌%◌}
 use native.Mathlib.Omega.{arith}
 use lib.ListN.{length, length-append}
+use Rattle.std.specs.Prelude.{Some, Ok}
 use Rattle.record.specs.declared.Mode.{Mode}
 use Rattle.machine.specs.Machine.{want_of, step_of}
 use Rattle.machine.specs.declared.State.{State}
 use Rattle.machine.specs.declared.State.TheVariants.{Due, Field, Island, X, Y}
-use Rattle.machine.specs.declared.Step.TheVariants.{Go}
 use Rattle.sheet.specs.Tables.{Tables, empty, ◌followed◌, put, ring_after}
 use Rattle.sheet.proofs.Okay.{Okay, go-okay, ring-join, put-join}
 use Rattle.sheet.proofs.StartLaws.{followed-empty, empty-followed, followed-assoc}
@@ -59,7 +59,7 @@ module _ (mode : Mode) (o T : Tables) (t : ℕ) (c e bs : List ℕ) (st₁ : Sta
   inside : (st : State) (w part : Tables) → o ≡ w followed part → length w.points % 2 ≡ 0 → Okay st part → Whole st part → Goes mode st (ring_after st o) c e t st₁
       → StepTail mode (put st t c part) (λ now cs. Tail mode st part now (c ++ (e ++ cs))) (step_of mode st t (ring_after st o)) → Rec st → Rest mode st w part (c ++ (e ++ bs)) T
   inside st w part q v h x g f rec =
-      let s : StepTail mode (put st t c part) (λ now cs. Tail mode st part now (c ++ (e ++ cs))) (Go st₁) = rw g.steps at f in
+      let s : StepTail mode (put st t c part) (λ now cs. Tail mode st part now (c ++ (e ++ cs))) (Ok (Some st₁)) = rw g.steps at f in
       on st w part (put st t c part) s.1
       (rec w (put st t c part) (ap (put st t c) q ∙ put-join st t c w part v h x.rows) v (go-okay mode st st₁ t (ring_after st o) c part h g.steps)
       (go-whole mode st st₁ t (ring_after st o) c part x g.steps) s.0)
@@ -82,7 +82,7 @@ module _ (mode : Mode) (o T : Tables) (t : ℕ) (c e bs : List ℕ) (st₁ : Sta
   between : (w part : Tables) → o ≡ w followed part → length w.points % 2 ≡ 0 → Whole Due part → Goes mode Due (ring_after Due o) c e t st₁ → Rec Due → Rest mode Due w part (c ++ (e ++ bs)) T
   unfolding step_of want_of
   between w part q v x g rec =
-      let s : StepTail mode (put Due t c empty) (λ now cs. MadeRow mode now (c ++ (e ++ cs))) (Go st₁) = rw g.steps at (key-tail mode c e t g.end g.says) in
+      let s : StepTail mode (put Due t c empty) (λ now cs. MadeRow mode now (c ++ (e ++ cs))) (Ok (Some st₁)) = rw g.steps at (key-tail mode c e t g.end g.says) in
       let even : length (w followed part).points % 2 ≡ 0 = omega (arith, length-append w.points part.points, x.points) in
       anew w part (put Due t c empty) v x s.1
       (rec (w followed part) (put Due t c empty) (ap (put Due t c) (q ∙ sym (followed-empty (w followed part))) ∙ put-join Due t c (w followed part) empty even tt refl) even

@@ -10,6 +10,7 @@ use borrow.Author.Tests.{le-leb}
 use Rattle.laws.specs.Lists.{place}
 use Rattle.laws.proofs.Choice.{and_right, cond-first}
 use Rattle.laws.proofs.ListLaws.{place_is}
+use Rattle.std.specs.Prelude.{Ok}
 use Rattle.record.specs.declared.Mode.{Mode}
 use Rattle.number.specs.Words.{word_of, trimmed}
 use Rattle.number.specs.Number.{real_least, real_most, is_real}
@@ -22,7 +23,6 @@ use Rattle.kinds.specs.Kinds.{row_width}
 use Rattle.sheet.specs.Tables.{Tables, row_count}
 use Rattle.sheet.specs.Reading.{sheet, meaning}
 use Rattle.sheet.proofs.Meaning.{meaning-file, file-parts}
-use Rattle.made.specs.declared.Verdict.TheVariants.{Fine}
 use Rattle.made.specs.Made.{none_before, judge_rows, used_of}
 use Rattle.layout.proofs.PassRows.{pass-rows}
 
@@ -60,7 +60,7 @@ header-right mode h c₁ c₂ c₃ s =
 -- **every reading's result is well made**: its header is right, every row is well made with its starts (in exact mode with a listed code), and the
 -- rows use up the tables with no gaps
 pub reading-made : (mode : Mode) (bs : List ℕ) (h : Header) (o : Tables) → meaning mode bs ≡ sheet h o
-    → (is_header h ≡ true) × (judge_rows mode (row_count o) none_before o ≡ Fine) × (used_of (row_count o) o ≡ o) × (length o.rows ≡ row_width * row_count o)
+    → (is_header h ≡ true) × (judge_rows mode (row_count o) none_before o ≡ Ok tt) × (used_of (row_count o) o ≡ o) × (length o.rows ≡ row_width * row_count o)
 reading-made mode bs h o q =
     let f = meaning-file mode bs h o q in
     let v = head-view mode bs h f.at f.head in

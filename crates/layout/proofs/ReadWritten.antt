@@ -1,18 +1,20 @@
 -- What exact mode accepted is written as its very bytes. Assumes nothing.
 use mathlib.Core.Path.{◌≡◌, refl, sym, ◌∙◌, ap, subst}
-use mathlib.Core.List.{List, [], ◌∷◌, ◌++◌, append-nil}
+use mathlib.Core.List.{List, [], ◌++◌, append-nil}
 use mathlib.Core.Bool.{true, cond}
-use Prim.Native.Nat.{ℕ, ◌+◌, ◌-◌, ◌/◌}
+use Prim.Native.Nat.{ℕ, ◌-◌, ◌/◌}
 use native.Mathlib.Omega.{arith}
 use lib.ListN.{length, get_or, take, drop, length-append}
 use lib.Dec.{eqb}
 use borrow.Author.Tests.{eqb-true}
 use Rattle.laws.specs.Text.{text}
 use Rattle.laws.proofs.Choice.{and_left, cond-elim}
+use Rattle.std.proofs.lemmas.List.{nil_from_length}
+use Rattle.std.specs.Prelude.{Option, Some, None, Ok, Err}
 use Rattle.record.specs.declared.Mode.TheVariants.{Exact}
+use Rattle.record.specs.declared.refusal.Refusal.TheVariants as Refusal
 use Rattle.record.specs.RecordView.{LineEnd, Ending, line_ended, bare}
 use Rattle.number.specs.declared.Word.{Word}
-use Rattle.number.specs.declared.Word.TheVariants as Word
 use Rattle.number.specs.Words.{word_of, trimmed}
 use Rattle.number.proofs.WordLaws.{word-exact}
 use Rattle.spelling.specs.Spelling.{real_text}
@@ -24,10 +26,8 @@ use Rattle.header.specs.Header.{first_words, is_word, is_named}
 use Rattle.heading.specs.Heading.{is_name}
 use Rattle.header.proofs.HeadLaws.{Says, IsHead, head-view}
 use Rattle.kinds.specs.Kinds.{next_of}
-use Rattle.machine.specs.Machine.{want_of, step_of, key_step}
+use Rattle.machine.specs.Machine.{Step, want_of, step_of, key_step}
 use Rattle.machine.specs.declared.State.TheVariants.{Due, Field}
-use Rattle.machine.specs.declared.Step.{Step}
-use Rattle.machine.specs.declared.Step.TheVariants.{Go, No, End}
 use Rattle.sheet.specs.Tables.{Tables, row_count}
 use Rattle.sheet.specs.Reading.{sheet, meaning}
 use Rattle.sheet.proofs.Pass.{Ended, OneView, one-view}
@@ -44,9 +44,9 @@ use Rattle.layout.proofs.ReadMade.{kind-says}
 word-whole : (c : List ℕ) → is_word (word_of Exact c) ≡ true → trimmed c ≡ c
 word-whole c = go (word_of Exact c) refl
   where
-    go : (w : Word) → word_of Exact c ≡ w → is_word w ≡ true → trimmed c ≡ c
-    go (Word.Is start len) e t = (word-exact c start len e).0
-    go Word.Padded e t = absurd (let z : ◌≡◌ {A = ℕ} 0 1 = cc in omega arith)
+    go : (w : Option Word) → word_of Exact c ≡ w → is_word w ≡ true → trimmed c ≡ c
+    go (Some w) e t = (word-exact c w.start w.len e).0
+    go None e t = absurd cc
 
 -- its three records are the header's text
 header-spelt : (h : Header) (c₁ e₁ c₂ e₂ c₃ e₃ : List ℕ) → LineEnd Exact e₁ → LineEnd Exact e₂ → LineEnd Exact e₃ → Says Exact h c₁ c₂ c₃
@@ -68,21 +68,17 @@ head-spelt h bs v =
     ∙ sym (v.split ∙ rw none)
   where
     none : v.rest ≡ []
-    none = by v.rest (simp length-append at (ap length v.split))
-      where
-        by : (r : List ℕ) → length bs ≡ length v.c₁ + (length v.e₁ + (length v.c₂ + (length v.e₂ + (length v.c₃ + (length v.e₃ + length r))))) → r ≡ []
-        by [] e = refl
-        by (a ∷ r) e = absurd (omega (arith, v.long))
+    none = nil_from_length v.rest (omega (arith, v.long, simp length-append at (ap length v.split)))
 
 -- ---- the end
 
-end-key : (t : ℕ) → key_step t ≡ End → t ≡ 0
+end-key : (t : ℕ) → key_step t ≡ Ok None → t ≡ 0
 unfolding key_step
 end-key t =
-    let Q : Step → Type 0 = λ s. s ≡ End → t ≡ 0 in
-    cond-elim Q (eqb t 0) End (cond (eqb (next_of (t / 2) 0) 0) (No 7) (Go (Field (t / 2) (next_of (t / 2) 0) 0))) (λ e _. eqb-true t 0 e)
-    (λ _. cond-elim Q (eqb (next_of (t / 2) 0) 0) (No 7) (Go (Field (t / 2) (next_of (t / 2) 0) 0))
-    (λ _ q. absurd (let z : ◌≡◌ {A = ℕ} 0 1 = cc in omega arith)) (λ _ q. absurd (let z : ◌≡◌ {A = ℕ} 0 1 = cc in omega arith)))
+    let Q : Step → Type 0 = λ s. s ≡ Ok None → t ≡ 0 in
+    cond-elim Q (eqb t 0) (Ok None) (cond (eqb (next_of (t / 2) 0) 0) (Err Refusal.Keyword) (Ok (Some (Field (t / 2) (next_of (t / 2) 0) 0)))) (λ e _. eqb-true t 0 e)
+    (λ _. cond-elim Q (eqb (next_of (t / 2) 0) 0) (Err Refusal.Keyword) (Ok (Some (Field (t / 2) (next_of (t / 2) 0) 0)))
+    (λ _ q. absurd cc) (λ _ q. absurd cc))
 
 -- the end of an exact file is `EOF` and nothing more
 end-spelt : (z : List ℕ) (width : ℕ) → Ended Exact Due 0 z width → drop width z ≡ [] → line (text "EOF") ≡ z
@@ -94,7 +90,7 @@ end-spelt z width v ok = by v.line.ending
 
     by : Ending Exact true z v.len width → line (text "EOF") ≡ z
     by (line_ended e k d w) = line-spelt Exact (take v.len z) (text "EOF") e [] (drop width z) refl k (sym word) (sym ok) ∙ sym d
-    by (bare m d q₁ l₁ w₁) = absurd (let y : ◌≡◌ {A = ℕ} 0 1 = cc in omega arith)
+    by (bare m d q₁ l₁ w₁) = absurd cc
 
 -- ---- the file
 

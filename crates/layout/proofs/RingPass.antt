@@ -13,6 +13,7 @@ use Rattle.laws.specs.Lists.{all}
 use Rattle.laws.specs.Whole.{eq_z}
 use Rattle.laws.proofs.Choice.{and_left, and_right}
 use Rattle.laws.proofs.Bits.{eq_z-same}
+use Rattle.std.specs.Prelude.{Some, Ok}
 use Rattle.record.specs.declared.Mode.{Mode}
 use Rattle.number.specs.Number.{is_real}
 use Rattle.spelling.specs.Spelling.{real_text}
@@ -21,8 +22,7 @@ use Rattle.token.proofs.TokenLaws.{lift-unlift}
 use Rattle.machine.specs.declared.Ring.{Ring}
 use Rattle.machine.specs.declared.State.{State}
 use Rattle.machine.specs.declared.State.TheVariants.{Due, Island, X, Y}
-use Rattle.machine.specs.declared.Step.TheVariants.{Go}
-use Rattle.machine.specs.Machine.{want_of, fresh_ring, island_of, is_shut, ring_step, vertex_of, step_of}
+use Rattle.machine.specs.Machine.{Step, want_of, fresh_ring, island_of, is_shut, ring_step, vertex_of, step_of}
 use Rattle.sheet.specs.Tables.{Tables, put, ring_after}
 use Rattle.sheet.proofs.Pass.{Pass, done}
 use Rattle.sheet.proofs.Join.{pass-append}
@@ -40,7 +40,7 @@ islanded o s = record { rows = o.rows; letters = o.letters; islands = o.islands 
 -- ---- one vertex
 
 vertex-pass : {mode : Mode} {st st₂ : State} {o o₂ : Tables} {bs : List ℕ} (r : Ring) (x y : ℤ) → is_real x ≡ true → is_real y ≡ true
-    → vertex_of r (lift x) (lift y) (ring_after (X r) o) ≡ Go st → Pass mode st (pointed o (x ∷ y ∷ [])) bs st₂ o₂
+    → vertex_of r (lift x) (lift y) (ring_after (X r) o) ≡ Ok (Some st) → Pass mode st (pointed o (x ∷ y ∷ [])) bs st₂ o₂
     → Pass mode (X r) o (line (real_text x) ++ (line (real_text y) ++ bs)) st₂ o₂
 unfolding want_of step_of put ring_after
 vertex-pass {mode} {st} {st₂} {o} {o₂} {bs} r x y hx hy s p =
@@ -55,7 +55,7 @@ vertex-pass {mode} {st} {st₂} {o} {o₂} {bs} r x y hx hy s p =
 abbrev after_ring : Bool → ℕ → ℕ → State
 after_ring closed rings next = cond (eqb rings 0) Due (X (fresh_ring closed (rings - 1) next))
 
-pub go-cond : (b : Bool) (s t : State) → cond b (Go s) (Go t) ≡ Go (cond b s t)
+pub go-cond : (b : Bool) (s t : State) → ◌≡◌ {A = Step} (cond b (Ok (Some s)) (Ok (Some t))) (Ok (Some (cond b s t)))
 go-cond true s t = refl
 go-cond false s t = refl
 
@@ -69,11 +69,11 @@ abbrev later : Ring → ℤ → ℤ → Ring
 later r x y =
     record { closed = r.closed; fresh = false; rings = r.rings; left = r.left - 1; fx = cond r.fresh (lift x) r.fx; fy = cond r.fresh (lift y) r.fy }
 
-step-last : (r : Ring) (x y : ℤ) (next : ℕ) → r.left ≤ 1 → Meets r (x ∷ y ∷ []) → vertex_of r (lift x) (lift y) next ≡ Go (after_ring r.closed r.rings next)
+step-last : (r : Ring) (x y : ℤ) (next : ℕ) → r.left ≤ 1 → Meets r (x ∷ y ∷ []) → vertex_of r (lift x) (lift y) next ≡ Ok (Some (after_ring r.closed r.rings next))
 unfolding vertex_of ring_step
 step-last r x y next h e = rw (le-leb r.left 1 h, e) (go-cond (eqb r.rings 0) Due (X (fresh_ring r.closed (r.rings - 1) next)))
 
-step-on : (r : Ring) (x y : ℤ) (next : ℕ) → 1 < r.left → vertex_of r (lift x) (lift y) next ≡ Go (X (later r x y))
+step-on : (r : Ring) (x y : ℤ) (next : ℕ) → 1 < r.left → vertex_of r (lift x) (lift y) next ≡ Ok (Some (X (later r x y)))
 unfolding vertex_of ring_step
 step-on r x y next h = rw (lt-leb r.left 1 h)
 

@@ -14,18 +14,17 @@ use Rattle.laws.specs.Whole.{eq_z}
 use Rattle.laws.proofs.Choice.{and_left, and_right, true≢false}
 use Rattle.laws.proofs.Bits.{eq_z-same}
 use Rattle.laws.proofs.ListLaws.{below_at, values-are}
+use Rattle.std.specs.Prelude.{Some, Ok}
 use Rattle.record.specs.declared.Mode.{Mode}
 use Rattle.token.specs.Lex.{kind_most, may_lie_outside, is_key, key_text}
 use Rattle.machine.specs.declared.State.TheVariants.{Due, Field, Island, X}
-use Rattle.machine.specs.declared.Step.TheVariants.{Go}
 use Rattle.kinds.specs.Kinds.{row_width, own_width, code_place, letters_place, islands_place, vertices_place, schedule, fixed_vertices, unsaid, want_at}
-use Rattle.machine.specs.Machine.{want_of, fresh_ring, key_step, step_of}
+use Rattle.machine.specs.Machine.{Step, want_of, fresh_ring, key_step, step_of}
 use Rattle.sheet.specs.Tables.{Tables, empty, ◌then◌, Starts, no_starts, ◌plus◌, starts_of, start_cells, ◌followed◌, own_cells, new_row, put}
 use Rattle.sheet.proofs.StartLaws.{own_at, followed-empty}
 use Rattle.sheet.proofs.Whole.{empty-whole}
 use Rattle.sheet.proofs.Pass.{Pass, done}
 use Rattle.sheet.proofs.Join.{pass-join, pass-append}
-use Rattle.made.specs.declared.Verdict.TheVariants.{Fine}
 use Rattle.made.specs.Made.{cell_at, nat_of, count_at, kind_of, letters_of, islands_of, points_of, first_of, rest_of, in_range, has_field, is_outside, is_cell, cell_test, are_numbers, are_letters, are_counts, are_reals, are_closed, ring_sizes, are_points, is_made, are_starts, counts_of, alone_of, Before, none_before, past_row, is_coded, judge_rows, used_of}
 use Rattle.made.proofs.RowWays.{Held, made_held}
 use Rattle.made.proofs.UsedLaws.{fine-on}
@@ -136,14 +135,14 @@ module _ (mode : Mode) (t : Tables) (r : Row t) (coded : is_coded mode (kind_of 
   lacks = field-none mode t r.cells r.letters r.counts coded
 
   -- it leads to the first field
-  key-on : key_step key_token ≡ Go (state_at t (get_or schedule (kind_of t) []))
+  key-on : key_step key_token ≡ Ok (Some (state_at t (get_or schedule (kind_of t) [])))
   unfolding key_step unsaid
   key-on =
       let ps = get_or schedule (kind_of t) [] in
       let none : islands_due t ps ≡ 0 = none-due (holds ps 10) 0 (count_at t 10) (λ e. ap nat_of (lacks 10 (omega arith) (omega arith) e)) in
       rw (ne_eqb key_token 0 (λ q. omega (arith, kind-in.1)), half, walk.first, ne_eqb (get_or ps 0 0) 0 walk.some) (go ps walk.some none)
     where
-      go : (ps : List ℕ) → (get_or ps 0 0 ≡ 0 → ⊥) → islands_due t ps ≡ 0 → Go (Field (kind_of t) (get_or ps 0 0) 0) ≡ Go (state_at t ps)
+      go : (ps : List ℕ) → (get_or ps 0 0 ≡ 0 → ⊥) → islands_due t ps ≡ 0 → ◌≡◌ {A = Step} (Ok (Some (Field (kind_of t) (get_or ps 0 0) 0))) (Ok (Some (state_at t ps)))
       go [] f e = absurd (f refl)
       go (p ∷ ps) f e = rw e
 
@@ -297,7 +296,7 @@ module _ (mode : Mode) (t a : Tables) (even : length a.points % 2 ≡ 0) (made :
       rw (l, i, p)
 
 -- **rows**: what is written of rows in order is read as the part of the tables that they use
-rows_behind : (mode : Mode) (n : ℕ) (b : Before) (t : Tables) → judge_rows mode n b t ≡ Fine → (a : Tables) → length a.points % 2 ≡ 0 → starts_of a ≡ b.starts
+rows_behind : (mode : Mode) (n : ℕ) (b : Before) (t : Tables) → judge_rows mode n b t ≡ Ok tt → (a : Tables) → length a.points % 2 ≡ 0 → starts_of a ≡ b.starts
     → Pass mode Due a (rows_text n t) Due (a then used_of n t)
 unfolding rows_text used_of
 rows_behind mode zero b t e a even s = subst (λ (x : Tables). Pass mode Due a [] Due x) (sym (then-empty a)) done
@@ -309,5 +308,5 @@ rows_behind mode (suc n) b t e a even s =
     subst (λ (x : Tables). Pass mode Due a (row_text t ++ rows_text n (rest_of t)) Due x) (then-assoc a (first_of t) (used_of n (rest_of t)))
     (pass-append (row-behind mode t a even f.0 f.3 starts) rest)
 
-pub rows_pass : (mode : Mode) (n : ℕ) (t : Tables) → judge_rows mode n none_before t ≡ Fine → Pass mode Due empty (rows_text n t) Due (used_of n t)
+pub rows_pass : (mode : Mode) (n : ℕ) (t : Tables) → judge_rows mode n none_before t ≡ Ok tt → Pass mode Due empty (rows_text n t) Due (used_of n t)
 rows_pass mode n t e = rows_behind mode n none_before t e empty refl refl

@@ -8,6 +8,7 @@ use lib.ListN.{length, get_or, drop}
 use lib.IntN.{ℤ, pos}
 use Rattle.laws.specs.Lists.{all, holds}
 use Rattle.laws.specs.Whole.{eq_z}
+use Rattle.std.specs.Prelude.{Some, None, Ok, Err}
 use Rattle.record.specs.declared.Mode.{Mode}
 use Rattle.record.specs.declared.Mode.TheVariants.{Exact}
 use Rattle.record.specs.Record.{is_exact, plain}
@@ -17,8 +18,7 @@ use Rattle.kinds.specs.Kinds.{row_width, code_place, letters_place, islands_plac
 use Rattle.machine.specs.declared.Ring.{Ring}
 use Rattle.machine.specs.declared.State.{State}
 use Rattle.machine.specs.declared.State.TheVariants.{Due, Field, Island, X, Y}
-use Rattle.machine.specs.declared.Step.{Step}
-use Rattle.machine.specs.declared.Step.TheVariants.{Go, No, End}
+use Rattle.machine.specs.Machine.{Step}
 use Rattle.sheet.specs.Tables.{Tables}
 use Rattle.made.specs.Made.{cell_at, count_at, letters_of, in_range, has_field, sum, four_at_least, are_counts, are_reals, are_closed, are_points}
 use Rattle.layout.specs.Sheet.{fields_text, integers_text, reals_text}
@@ -135,6 +135,6 @@ Known (Y r x) part = AtRing r part
 
 -- where a step leads, that is known, and what follows makes `P` of the section's end
 abbrev pub StepTail : Mode → Tables → (Tables → List ℕ → Type 0) → Step → Type 0
-StepTail mode part P (Go st) = Known st part × ((now : Tables) (cs : List ℕ) → Tail mode st part now cs → P now cs)
-StepTail mode part P (No m) = Unit {0}
-StepTail mode part P End = Unit {0}
+StepTail mode part P (Ok (Some st)) = Known st part × ((now : Tables) (cs : List ℕ) → Tail mode st part now cs → P now cs)
+StepTail mode part P (Ok None) = Unit {0}
+StepTail mode part P (Err m) = Unit {0}

@@ -12,6 +12,7 @@ use Rattle.laws.specs.Lists.{run, kept, all, all_at, same, below, place}
 use Rattle.laws.specs.Text.{text}
 use Rattle.laws.proofs.Choice.{and_left, and_right, cond-elim, cond-first}
 use Rattle.laws.proofs.ListLaws.{all-weaken, all-each, all-at-weaken, below_at}
+use Rattle.std.specs.Prelude.{Some, Ok, Err}
 use Rattle.record.specs.declared.Mode.{Mode}
 use Rattle.record.specs.declared.Mode.TheVariants.{Loose, Exact, Former}
 use Rattle.record.specs.Record.{plain, line_of, line_is, content_is, content, ends_cr}
@@ -19,7 +20,6 @@ use Rattle.record.specs.RecordView.{crlf}
 use Rattle.record.specs.Refusals.{file_most}
 use Rattle.number.specs.Words.{blank, unled, trimmed, word_of}
 use Rattle.number.specs.Number.{digit, is_real, real_of}
-use Rattle.number.specs.declared.Decimal.TheVariants as Decimal
 use Rattle.number.proofs.NumberLaws.{real-widens}
 use Rattle.number.proofs.WordLaws.{word-make, untrimmed}
 use Rattle.spelling.specs.Spelling.{real_text}
@@ -29,8 +29,7 @@ use Rattle.machine.specs.Machine.{want_of, key_step, step_of, one_of}
 use Rattle.machine.specs.declared.One.{One}
 use Rattle.machine.specs.declared.State.TheVariants.{Due}
 use Rattle.heading.specs.declared.Header.{Header}
-use Rattle.header.specs.declared.Ahead.TheVariants as Ahead
-use Rattle.header.specs.Header.{first_words, kind_said, is_named, headed}
+use Rattle.header.specs.Header.{first_words, begins, kind_said, is_named, headed}
 use Rattle.heading.specs.Heading.{capital, name_byte, is_name, is_header}
 use Rattle.heading.proofs.HeadingLaws.{header_is}
 use Rattle.header.proofs.HeadLaws.{Whole, Says, head-make}
@@ -38,14 +37,14 @@ use Rattle.sheet.specs.Tables.{Tables}
 use Rattle.sheet.specs.Reading.{sheet, meaning, reading}
 use Rattle.sheet.proofs.Pass.{TailOk, IsEnd}
 use Rattle.sheet.proofs.Meaning.{parts-file, file-meaning, meaning-reading}
-use Rattle.made.specs.declared.Verdict.TheVariants.{Fine, BadHeader}
+use Rattle.made.specs.declared.Flaw.TheVariants.{BadHeader}
 use Rattle.made.specs.Made.{none_before, judge_rows, judge_of, used_of}
 use Rattle.layout.specs.Sheet.{line, rows_text, header_text, sheet_text}
 use Rattle.layout.proofs.RowPass.{rows_pass}
 
 -- ---- the end
 
-eof-ends : (mode : Mode) → one_of mode Due 0 (line (text "EOF")) ≡ One.End 5
+eof-ends : (mode : Mode) → one_of mode Due 0 (line (text "EOF")) ≡ Ok (One.End 5)
 unfolding one_of line_of line_is content_is content ends_cr run all lex_of word_of trimmed unled kept key_of same want_of step_of key_step
 eof-ends Loose = refl
 eof-ends Exact = refl
@@ -123,11 +122,11 @@ name-is kind s e =
       last = no-blank (length s - 1) (omega arith);
     }
 
-real-in-mode : (mode : Mode) (z : ℤ) → is_real z ≡ true → real_of mode (real_text z) ≡ Decimal.Is z
+real-in-mode : (mode : Mode) (z : ℤ) → is_real z ≡ true → real_of mode (real_text z) ≡ Some z
 real-in-mode mode z e = real-widens Exact mode refl (real_text z) z (real-spelt z e)
 
 -- the header's three records are read as the header, whatever follows them
-header-begins : (mode : Mode) (h : Header) → is_header h ≡ true → (z : List ℕ) → headed mode (header_text h ++ z) ≡ record { ahead = Ahead.Sections (length (header_text h)); header = h }
+header-begins : (mode : Mode) (h : Header) → is_header h ≡ true → (z : List ℕ) → headed mode (header_text h ++ z) ≡ begins h (length (header_text h))
 unfolding header_text is_first is_named
 header-begins mode h e z =
     let g = header_is h e in
@@ -149,15 +148,15 @@ header-begins mode h e z =
     let third : Whole mode (real_text h.scale) end = record { good = real-plain h.scale; most = omega (arith, real-length h.scale g.real); end = crlf refl } in
     let text-is : header_text h ++ z ≡ w ++ (end ++ (h.name ++ (end ++ (real_text h.scale ++ (end ++ z))))) = simp append_assoc in
     let long : length w + length end + (length h.name + length end) + (length (real_text h.scale) + length end) ≡ length (header_text h) = simp length-append (omega arith) in
-    ap (headed mode) text-is ∙ head-make z first second third says ∙ ap (λ (k : ℕ). record { ahead = Ahead.Sections k; header = h }) long
+    ap (headed mode) text-is ∙ head-make z first second third says ∙ ap (begins h) long
 
 -- ---- the whole
 
 -- **written**, the length limit apart: what is written of a well made sheet means that sheet
-pub sheet-meaning : (mode : Mode) (h : Header) (count : ℕ) (t : Tables) → judge_of mode h count t ≡ Fine → meaning mode (sheet_text h count t) ≡ sheet h (used_of count t)
+pub sheet-meaning : (mode : Mode) (h : Header) (count : ℕ) (t : Tables) → judge_of mode h count t ≡ Ok tt → meaning mode (sheet_text h count t) ≡ sheet h (used_of count t)
 unfolding judge_of sheet_text
 sheet-meaning mode h count t e =
-    let j = cond-first (is_header h) (judge_rows mode count none_before t) BadHeader Fine (λ z. let y : ◌≡◌ {A = ℕ} 0 1 = cc in omega arith) e in
+    let j = cond-first (is_header h) (judge_rows mode count none_before t) (Err BadHeader) (Ok tt) (λ z. cc) e in
     file-meaning mode (sheet_text h count t) h (used_of count t)
     (parts-file mode (sheet_text h count t) h (used_of count t) (record {
       head = header_text h;
@@ -170,6 +169,6 @@ sheet-meaning mode h count t e =
     })).0
 
 -- **written then read**: the text that a writer gives, within the length limit, is read by exact mode as that same header and tables
-pub written-then-read : (h : Header) (count : ℕ) (t : Tables) → judge_of Exact h count t ≡ Fine → length (sheet_text h count t) ≤ file_most
+pub written-then-read : (h : Header) (count : ℕ) (t : Tables) → judge_of Exact h count t ≡ Ok tt → length (sheet_text h count t) ≤ file_most
     → reading Exact (sheet_text h count t) ≡ sheet h (used_of count t)
 written-then-read h count t e l = meaning-reading Exact (sheet_text h count t) h (used_of count t) l (sheet-meaning Exact h count t e)

@@ -1,5 +1,5 @@
 -- The text of a sheet, in the exact mode's layout: document 01's table of sections, and the specification's own. Assumes nothing: these are definitions.
-use Rattle.std.specs.Prelude.{ℕ, zero, suc, ◌+◌, ◌-◌, ◌*◌, List, [], ◌∷◌, ◌++◌, length, get_or, take, ℤ, pos}
+use Rattle.std.specs.Prelude.{ℕ, zero, suc, ◌+◌, ◌-◌, ◌*◌, List, [], ◌∷◌, ◌++◌, get_or, ℤ}
 use Rattle.laws.specs.Text.{text}
 use Rattle.token.specs.declared.Want.{Want}
 use Rattle.token.specs.declared.Want.TheVariants.{Key, Text, Int, Real}
@@ -9,7 +9,7 @@ use Rattle.spelling.specs.Spelling.{integer_text, real_text}
 use Rattle.heading.specs.declared.Header.{Header}
 use Rattle.header.specs.Header.{first_words}
 use Rattle.sheet.specs.Tables.{Tables}
-use Rattle.made.specs.Made.{cell_at, nat_of, count_at, kind_of, letters_of, islands_of, points_of, rest_of}
+use Rattle.made.specs.Made.{cell_at, count_at, kind_of, letters_of, islands_of, points_of, rest_of}
 
 -- a record: its content, CR and LF
 abbrev pub line : List ℕ → List ℕ

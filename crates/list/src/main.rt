@@ -1,7 +1,7 @@
 // The listing program (document 01, "Listing program"): reads standard input, and writes what `listing::list_text` says of it.
 #![tactic(auto)]
 
-use listing::{INPUT_MOST, Listed, TEXT_MOST, list_text};
+use listing::{INPUT_MOST, TEXT_MOST, list_text};
 use std::io;
 use std::io::{Read, Write};
 
@@ -13,8 +13,8 @@ fn main(rt: HostRuntime) -> io::Result<()> {
     rt.stdin().take(INPUT_ROOM as u64).read_to_end(&mut src)?;
     let mut text = [0u8; TEXT_MOST];
     match list_text(&src, &mut text) {
-        Listed::Wrote(size) => rt.stdout().write_all(&text[..size]),
+        Ok(size) => rt.stdout().write_all(&text[..size]),
         // The array holds any listing.
-        Listed::NoRoom(_) => Ok(()),
+        Err(_) => Ok(()),
     }
 }

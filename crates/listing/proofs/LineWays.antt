@@ -1,14 +1,10 @@
 -- The lines as they are stored, piece behind piece. Assumes nothing.
-use Prim.Native.Nat.{ℕ, ◌+◌, ◌*◌, ◌^◌, ◌≤◌, ◌<◌}
-use mathlib.Core.Path.{◌≡◌, refl, sym, ◌∙◌, ap, subst}
+use Prim.Native.Nat.{ℕ, ◌+◌, ◌*◌, ◌≤◌, ◌<◌}
+use mathlib.Core.Path.{◌≡◌, refl, sym, ap, subst}
 use mathlib.Core.List.{List, [], ◌∷◌, ◌++◌}
 use native.Mathlib.Omega.{arith}
 use lib.ListN.{length, get_or, drop}
 use lib.IntN.{ℤ}
-use lib.Signed.{mag}
-use mir.Syntax.{w64}
-use mir.Val.{to_z, of_z}
-use mir.ValLaws.{to_z-of_z}
 use Rattle.laws.specs.Text.{text}
 use Rattle.laws.proofs.ListLaws.{left, left-none}
 use Rattle.spelling.specs.Stored.{Stored}
@@ -17,7 +13,7 @@ use Rattle.heading.specs.declared.Header.{Header}
 use Rattle.made.specs.Made.{nat_of}
 use Rattle.writer.specs.Put.{Put}
 use Rattle.writer.proofs.Putting.{Putting, putting-start, putting-room, putting-on, putting-end, stored_on, stored_last}
-use Rattle.listing.specs.Listing.{one_blank, line_feed, figure, figures, word_line, map_line, class_words, figure_at, four_of, class_lines, rows_line, refused_line, sheet_lines}
+use Rattle.listing.specs.Listing.{one_blank, line_feed, figure, figures, word_line, map_line, class_words, figure_at, four_of, class_line, class_lines, rows_line, refused_line, sheet_lines}
 
 -- ---- a figure
 
@@ -68,10 +64,6 @@ refused-room number place offset column size h = omega (arith, h)
 
 -- ---- the line of a map
 
--- the scale is handed on as bits
-pub scale-is : (z : ℤ) (r : ℕ) → mag z < 2 ^ 63 → r ≡ nat_of (to_z w64 (of_z w64 z)) → r ≡ nat_of z
-scale-is z r h e = e ∙ ap nat_of (to_z-of_z w64 z (record { sfits = h }))
-
 module _ (l : List ℕ) (h : Header) (room : length (map_line h) ≤ length l) where
   abbrev scale : List ℕ
   scale = figures (nat_of h.scale ∷ [])
@@ -103,7 +95,7 @@ classes-six : length class_words ≡ 6
 unfolding class_words
 classes-six = refl
 
-class-next : (k : ℕ) (f : List ℤ) → k < 6 → classes_from k f ≡ word_line (get_or class_words k []) (four_of f k) ++ classes_from (k + 1) f
+class-next : (k : ℕ) (f : List ℤ) → k < 6 → classes_from k f ≡ class_line f k ++ classes_from (k + 1) f
 unfolding class_lines
 class-next k f h = rw (left class_words k [] (omega (arith, classes-six)))
 
@@ -112,17 +104,16 @@ pub four_is : (f : List ℤ) (k a b c d : ℕ) → a ≡ figure_at f (4 * k) →
 unfolding four_of
 four_is f k a b c d p q r s = rw (p, q, r, s)
 
-module _ (f : List ℤ) where
-  pub class-room : (k : ℕ) → k < 6 → {l : List ℕ} {at : ℕ} {s d : List ℕ} {n : ℕ} → Putting l at s d n (classes_from k f) → n + length (word_line (get_or class_words k []) (four_of f k)) ≤ length d
-  class-room k h p = putting-room p (word_line (get_or class_words k []) (four_of f k)) (classes_from (k + 1) f) (class-next k f h)
+module _ (f : List ℤ) (k : ℕ) (h : k < 6) {l : List ℕ} {at : ℕ} {s d : List ℕ} {n : ℕ} (p : Putting l at s d n (classes_from k f)) where
+  pub class-room : n + length (class_line f k) ≤ length d
+  class-room = putting-room p (class_line f k) (classes_from (k + 1) f) (class-next k f h)
 
-  pub class-on : (k : ℕ) → k < 6 → {l : List ℕ} {at : ℕ} {s d : List ℕ} {n : ℕ} → Putting l at s d n (classes_from k f)
-      → {e : List ℕ} {m : ℕ} → Put d n (word_line (get_or class_words k []) (four_of f k)) e m → Putting l at s e m (classes_from (k + 1) f)
-  class-on k h p w = putting-on p (word_line (get_or class_words k []) (four_of f k)) (classes_from (k + 1) f) (class-next k f h) w
+  pub class-on : {e : List ℕ} {m : ℕ} → Put d n (class_line f k) e m → Putting l at s e m (classes_from (k + 1) f)
+  class-on w = putting-on p (class_line f k) (classes_from (k + 1) f) (class-next k f h) w
 
-  pub classes-end : {l : List ℕ} {at : ℕ} {s d : List ℕ} {n : ℕ} → Putting l at s d n (classes_from 6 f) → Put l at s d n
-  unfolding class_lines class_words
-  classes-end p = putting-end p refl
+pub classes-end : (f : List ℤ) (k : ℕ) → 6 ≤ k → k ≤ 6 → {l : List ℕ} {at : ℕ} {s d : List ℕ} {n : ℕ} → Putting l at s d n (classes_from k f) → Put l at s d n
+unfolding class_lines class_words
+classes-end f k h j p = let e : k ≡ 6 = omega arith in putting-end p (rw e)
 
 -- ---- the lines of a sheet
 

@@ -3,6 +3,7 @@ use Prim.Native.Nat.{ℕ, ◌+◌, ◌*◌, ◌≤◌}
 use mathlib.Core.Path.{◌≡◌, refl, sym, ◌∙◌, ap}
 use mathlib.Core.List.{List, [], ◌∷◌, ◌++◌}
 use mathlib.Core.Bool.{Bool, true, false, cond, not, ◌&&◌, ◌||◌}
+use Rattle.std.specs.Prelude.{Result, Ok, Err}
 use native.Mathlib.Omega.{arith}
 use lib.ListN.{length, drop, length-append}
 use lib.Dec.{leb, eqb}
@@ -12,6 +13,7 @@ use borrow.Author.Tests.{eqb-true}
 use Rattle.laws.specs.Lists.{same, all_at, over}
 use Rattle.laws.specs.Text.{text}
 use Rattle.laws.proofs.Choice.{and_left, and_right, cond-elim}
+use Rattle.record.specs.Refusals as Refusals
 use Rattle.record.specs.declared.Mode.TheVariants.{Loose}
 use Rattle.number.specs.Number.{real_most}
 use Rattle.spelling.specs.Spelling.{count_text}
@@ -27,8 +29,7 @@ use Rattle.tally.specs.Take.{tally_of, number_of, row_of}
 use Rattle.reader.specs.Columns.{reading_column}
 use Rattle.listing.specs.Listing.{one_blank, figure, figures, word_line, map_line, class_words, four_of, class_lines, rows_line, refused_line, sheet_lines, tallied_text, sheet_listing, read_text, input_most, listing_of}
 use Rattle.listing.specs.Listed.{listed_of, listed_in, text_most}
-use Rattle.listing.specs.declared.Listed.{Listed}
-use Rattle.listing.specs.declared.Listed.TheVariants.{Wrote, NoRoom}
+use Rattle.listing.specs.declared.NoRoom.{NoRoom}
 
 -- ---- lines
 
@@ -120,9 +121,9 @@ pub sheet-most : (h : Header) (count : ℕ) (o : Tables) → length h.name ≡ 1
 unfolding sheet_listing tallied_text
 sheet-most h count o e =
     let t = tally_of h count o in
-    cond-elim (λ (s : List ℕ). length s ≤ text_most) (eqb (number_of t.refusal) 0) (sheet_lines h count t.tally.figures) (refused_line (number_of t.refusal) (row_of t.refusal) 0 0)
+    cond-elim (λ (s : List ℕ). length s ≤ text_most) (eqb (number_of t.outcome) 0) (sheet_lines h count t.tally.figures) (refused_line (number_of t.outcome) (row_of t.outcome) 0 0)
     (λ _. lines-most h count t.tally.figures e)
-    (λ _. refused-most (number_of t.refusal) (row_of t.refusal) 0 0)
+    (λ _. refused-most (number_of t.outcome) (row_of t.outcome) 0 0)
 
 -- a header that was read has a name of 11 bytes
 pub name-long : (bs : List ℕ) (h : Header) (o : Tables) → reading Loose bs ≡ sheet h o → length h.name ≡ 11
@@ -142,7 +143,7 @@ read-most bs = by (reading Loose bs) refl
   where
     by : (x : Reading) → reading Loose bs ≡ x → length (read_text (reading_column Loose bs) x) ≤ text_most
     by (sheet h o) q = sheet-most h (row_count o) o (name-long bs h o q)
-    by (refused m k at) q = refused-most m k at (reading_column Loose bs)
+    by (refused m k at) q = refused-most (Refusals.number_of m) k at (reading_column Loose bs)
 
 -- **no listing is longer than 640 bytes**
 pub listing-most : (bs : List ℕ) → length (listing_of bs) ≤ text_most
@@ -151,13 +152,13 @@ listing-most bs =
     cond-elim (λ (s : List ℕ). length s ≤ text_most) (leb (length bs) input_most) (read_text (reading_column Loose bs) (reading Loose bs)) (refused_line 1 0 0 0) (λ _. read-most bs) (λ _. refused-most 1 0 0 0)
 
 -- what is written lies in the buffer
-pub wrote-within : (s l d : List ℕ) (x : Listed) → x ≡ listed_of s (length l) → d ≡ listed_in x s l → (n : ℕ) → x ≡ Wrote n → n ≤ length d
+pub wrote-within : (s l d : List ℕ) (x : Result ℕ NoRoom) → x ≡ listed_of s (length l) → d ≡ listed_in x s l → (n : ℕ) → x ≡ Ok n → n ≤ length d
 unfolding listed_of
 wrote-within s l d x e w n q = go (leb (length s) (length l)) (sym e ∙ q)
   where
     held : d ≡ over s l
     held = w ∙ rw q
 
-    go : (b : Bool) → cond b (Wrote (length s)) (NoRoom (length s)) ≡ Wrote n → n ≤ length d
+    go : (b : Bool) → cond {A = Result ℕ NoRoom} b (Ok (length s)) (Err (record { 0 = length s })) ≡ Ok n → n ≤ length d
     go true f = let z : length s ≡ n = cc in omega (arith, z, ap length held, length-append s (drop (length s) l))
-    go false f = absurd (let z : ◌≡◌ {A = ℕ} 0 1 = cc in omega arith)
+    go false f = absurd cc

@@ -4,6 +4,7 @@ use Rattle.std.specs.Prelude.{ℕ, ◌+◌, ◌*◌, ◌/◌, List, [], ◌∷�
 use Rattle.laws.specs.Text.{text}
 use Rattle.record.specs.declared.Mode.TheVariants.{Loose}
 use Rattle.record.specs.Refusals.{too_long}
+use Rattle.record.specs.Refusals as Refusals
 use Rattle.spelling.specs.Spelling.{count_text}
 use Rattle.heading.specs.declared.Header.{Header}
 use Rattle.kinds.specs.Kinds.{row_width}
@@ -49,6 +50,10 @@ figure_at f i = nat_of (get_or f i (pos 0))
 unfoldable pub four_of : List ℤ → ℕ → List ℕ
 four_of f k = figure_at f (4 * k) ∷ figure_at f (4 * k + 1) ∷ figure_at f (4 * k + 2) ∷ figure_at f (4 * k + 3) ∷ []
 
+-- the line of class k
+abbrev pub class_line : List ℤ → ℕ → List ℕ
+class_line f k = word_line (get_or class_words k []) (four_of f k)
+
 -- the lines of these classes, the first of which is class k
 unfoldable pub class_lines : ℕ → List (List ℕ) → List ℤ → List ℕ
 class_lines k [] f = []
@@ -70,14 +75,14 @@ sheet_lines h count f = map_line h ++ (class_lines 0 class_words f ++ rows_line 
 -- "17 and 18 give the row and 0"
 unfoldable pub tallied_text : Header → ℕ → Taken → List ℕ
 tallied_text h count t =
-    cond (eqb (number_of t.refusal) 0) (sheet_lines h count t.tally.figures) (refused_line (number_of t.refusal) (row_of t.refusal) 0 0)
+    cond (eqb (number_of t.outcome) 0) (sheet_lines h count t.tally.figures) (refused_line (number_of t.outcome) (row_of t.outcome) 0 0)
 
 unfoldable pub sheet_listing : Header → ℕ → Tables → List ℕ
 sheet_listing h count o = tallied_text h count (tally_of h count o)
 
 abbrev pub read_text : ℕ → Reading → List ℕ
 read_text column (sheet h o) = sheet_listing h (length o.rows / row_width) o
-read_text column (refused number place offset) = refused_line number place offset column
+read_text column (refused refusal place offset) = refused_line (Refusals.number_of refusal) place offset column
 
 -- "at most 8,192 bytes .. loose mode"; "more input gives `REFUSED 1 0 0`", and the column 0
 abbrev pub input_most : ℕ

@@ -4,31 +4,28 @@
 // no room (14) is only ever said of the buffer that is lent for the text; it is then not altered.
 #![tactic(auto)]
 
-ghost use Rattle.std.specs.Prelude.{◌≡◌, ◌+◌, ◌*◌, ◌≤◌, ◌<◌, length};
+ghost use Rattle.std.specs.Prelude.{◌≡◌, ◌+◌, ◌*◌, ◌≤◌, ◌<◌, [], length, get_or};
 ghost use Rattle.record.specs.declared.Mode.TheVariants.{Loose};
 ghost use Rattle.sheet.specs.Reading.{reading};
-ghost use Rattle.made.specs.Made.{tables_of, nat_of};
+ghost use Rattle.made.specs.Made.{tables, nat_of};
 ghost use Rattle.writer.specs.Put.{Put};
-ghost use Rattle.listing.specs.Listing.{input_most, figure, figures, word_line, map_line, class_words, four_of, class_lines, refused_line, sheet_lines, sheet_listing, read_text, listing_of};
+ghost use Rattle.listing.specs.Listing.{input_most, figure, figures, word_line, map_line, class_words, four_of, class_line, class_lines, refused_line, sheet_lines, sheet_listing, read_text, listing_of};
 ghost use Rattle.reader.specs.Columns.{reading_column};
 ghost use Rattle.reader.specs.Exit.{used_part};
 ghost use Rattle.listing.specs.Listed.{listed_of, listed_in, text_most, UsedFits};
 
 use heading::Header;
 use kinds::ROW_WIDTH;
-use made::count_at;
-use reader::{Answer, Needs, read_as};
+use made::{Lent, Sheet, count_at};
+use reader::{Needs, Reading, Unread, read_as};
 use record::Mode;
-use record::refusal::TOO_LONG;
+use record::refusal::Refusal;
 use spelling::{put_bytes, put_count};
 use tally::{refused_of, tally_sheet};
 
-// The length of the text that was written; or no room (14), with the needed length.
-#[derive(Clone, Copy)]
-pub enum Listed {
-    Wrote(usize),
-    NoRoom(usize),
-}
+// No room (14) for a text, with the length that it needs.
+#[derive(Clone, Copy, Debug, PartialEq, Eq)]
+pub struct NoRoom(pub usize);
 
 // More input is not listed (1).
 pub const INPUT_MOST: usize = 8192;
@@ -37,13 +34,16 @@ pub const INPUT_MOST: usize = 8192;
 pub const TEXT_MOST: usize = 640;
 
 // Tables for any input: a row takes 28 bytes of it at least, a letter one, an island count two, each number of a point six.
-const ROWS_ROOM: usize = 4380;
+pub const ROWS_ROOM: usize = 4380;
 
-const LETTERS_ROOM: usize = 8192;
+pub const LETTERS_ROOM: usize = 8192;
 
-const ISLANDS_ROOM: usize = 4096;
+pub const ISLANDS_ROOM: usize = 4096;
 
-const POINTS_ROOM: usize = 1365;
+pub const POINTS_ROOM: usize = 1365;
+
+// The classes of borders, and the figures of each.
+const CLASSES: usize = 6;
 
 const CLASS_FIGURES: usize = 4;
 
@@ -62,10 +62,8 @@ fn put_figures(out: &mut [u8], at: usize, s: &[usize]) -> usize
     ensures { Put out.old at (figures s.now) out.new result }
 {
     let mut next = at;
-    let mut i = 0;
-    while i < s.len() {
-        next = put_figure(out, next, s[i]);
-        i += 1;
+    for &n in s {
+        next = put_figure(out, next, n);
     }
     put_bytes(out, next, b"\n")
 }
@@ -83,15 +81,13 @@ fn put_refused(out: &mut [u8], number: usize, place: usize, offset: usize, colum
     requires { length (refused_line number place offset column) ≤ length out.old }
     ensures { Put out.old 0 (refused_line number place offset column) out.new result }
 {
-    let s = [number, place, offset, column];
-    put_line(out, 0, b"REFUSED", &s)
+    put_line(out, 0, b"REFUSED", &[number, place, offset, column])
 }
 
 fn scale_of(header: Header) -> usize
     ensures { result ≡ nat_of header.scale }
 {
-    let scales = [header.scale];
-    count_at(&scales, 0)
+    usize::try_from(header.scale).unwrap_or(0)
 }
 
 // `MAP`, kind, name, scale in thousandths.
@@ -99,20 +95,33 @@ fn put_map(out: &mut [u8], header: Header) -> usize
     requires { length (map_line header) ≤ length out.old }
     ensures { Put out.old 0 (map_line header) out.new result }
 {
-    let kind = header.kind;
-    let name = header.name;
-    let scale = [scale_of(header)];
     let word_end = put_bytes(out, 0, b"MAP");
-    let kind_end = put_figure(out, word_end, kind);
+    let kind_end = put_figure(out, word_end, header.kind);
     let name_start = put_bytes(out, kind_end, b" ");
-    let name_end = put_bytes(out, name_start, &name);
-    put_figures(out, name_end, &scale)
+    let name_end = put_bytes(out, name_start, &header.name);
+    put_figures(out, name_end, &[scale_of(header)])
+}
+
+// The word of class k.
+#[tactic(auto, unfolding(crate::specs::Listing::class_words))]
+fn class_word(k: usize) -> &'static [u8]
+    ensures { result.now ≡ get_or class_words k [] }
+{
+    match k {
+        0 => b"CONFINE",
+        1 => b"OTHER",
+        2 => b"ROAD",
+        3 => b"WATER",
+        4 => b"BUILDING",
+        5 => b"PARCEL",
+        _ => b"",
+    }
 }
 
 // The line of class k: borders, outer total, islands, island total.
-fn put_class(out: &mut [u8], at: usize, word: &[u8], tally: &[i64], k: usize) -> usize
-    requires { (k < 6) × (at + length (word_line word.now (four_of tally.now k)) ≤ length out.old) }
-    ensures { Put out.old at (word_line word.now (four_of tally.now k)) out.new result }
+fn put_class(out: &mut [u8], at: usize, tally: &[i64], k: usize) -> usize
+    requires { (k < 6) × (at + length (class_line tally.now k) ≤ length out.old) }
+    ensures { Put out.old at (class_line tally.now k) out.new result }
 {
     let i = CLASS_FIGURES * k;
     let four = [
@@ -121,7 +130,7 @@ fn put_class(out: &mut [u8], at: usize, word: &[u8], tally: &[i64], k: usize) ->
         count_at(tally, i + 2),
         count_at(tally, i + 3),
     ];
-    put_line(out, at, word, &four)
+    put_line(out, at, class_word(k), &four)
 }
 
 // The six class lines.
@@ -129,12 +138,11 @@ fn put_classes(out: &mut [u8], at: usize, tally: &[i64]) -> usize
     requires { at + length (class_lines 0 class_words tally.now) ≤ length out.old }
     ensures { Put out.old at (class_lines 0 class_words tally.now) out.new result }
 {
-    let confine_end = put_class(out, at, b"CONFINE", tally, 0);
-    let other_end = put_class(out, confine_end, b"OTHER", tally, 1);
-    let road_end = put_class(out, other_end, b"ROAD", tally, 2);
-    let water_end = put_class(out, road_end, b"WATER", tally, 3);
-    let building_end = put_class(out, water_end, b"BUILDING", tally, 4);
-    put_class(out, building_end, b"PARCEL", tally, 5)
+    let mut next = at;
+    for k in 0..CLASSES {
+        next = put_class(out, next, tally, k);
+    }
+    next
 }
 
 // The lines of a sheet that is tallied.
@@ -144,64 +152,40 @@ fn put_sheet(out: &mut [u8], header: Header, count: usize, tally: &[i64]) -> usi
 {
     let map_end = put_map(out, header);
     let classes_end = put_classes(out, map_end, tally);
-    let rows = [count];
-    put_line(out, classes_end, b"ROWS", &rows)
+    put_line(out, classes_end, b"ROWS", &[count])
 }
 
 // The lines of a sheet, or the tally's refusal.
-fn put_tallied(
-    out: &mut [u8],
-    header: Header,
-    count: usize,
-    rows: &[i64],
-    letters: &[u8],
-    islands: &[u16],
-    points: &[i64],
-) -> usize
-    requires { length (sheet_listing header count (tables_of rows.now letters.now islands.now points.now)) ≤ length out.old }
-    ensures { Put out.old 0 (sheet_listing header count (tables_of rows.now letters.now islands.now points.now)) out.new result }
+fn put_tallied(out: &mut [u8], sheet: &Sheet<'_>) -> usize
+    requires { length (sheet_listing sheet.now.header sheet.now.count (tables sheet.now.lent)) ≤ length out.old }
+    ensures { Put out.old 0 (sheet_listing sheet.now.header sheet.now.count (tables sheet.now.lent)) out.new result }
 {
-    let taken = tally_sheet(header, count, rows, letters, islands, points);
-    let tally = taken.tally;
-    let refusal = taken.refusal;
-    let fault = refused_of(refusal);
-    let number = fault.number;
-    if number == 0 {
-        let figures = tally.figures;
-        return put_sheet(out, header, count, &figures);
+    let taken = tally_sheet(sheet);
+    let fault = refused_of(taken.outcome);
+    if fault.number == 0 {
+        return put_sheet(out, sheet.header, sheet.count, &taken.tally.figures);
     }
-    put_refused(out, number, fault.row, 0, 0)
+    put_refused(out, fault.number, fault.row, 0, 0)
 }
 
 // The same for tables of which only a part is used.
-fn put_used(
-    out: &mut [u8],
-    header: Header,
-    needs: Needs,
-    rows: &[i64],
-    letters: &[u8],
-    islands: &[u16],
-    points: &[i64],
-) -> usize
-    requires used_fits { UsedFits needs (length rows.now) (length letters.now) (length islands.now) (length points.now) }
-    requires points_in_bounds { length (sheet_listing header needs.rows (used_part needs (tables_of rows.now letters.now islands.now points.now))) ≤ length out.old }
-    ensures { Put out.old 0 (sheet_listing header needs.rows (used_part needs (tables_of rows.now letters.now islands.now points.now))) out.new result }
+fn put_used(out: &mut [u8], header: Header, needs: Needs, lent: &Lent<'_>) -> usize
+    requires used_fits { UsedFits needs (length lent.now.rows.now) (length lent.now.letters.now) (length lent.now.islands.now) (length lent.now.points.now) }
+    requires points_in_bounds { length (sheet_listing header needs.rows (used_part needs (tables lent.now))) ≤ length out.old }
+    ensures { Put out.old 0 (sheet_listing header needs.rows (used_part needs (tables lent.now))) out.new result }
 {
-    let n = needs.rows;
-    let l = needs.letters;
-    let i = needs.islands;
-    let v = needs.points;
-    let r = ROW_WIDTH * n;
-    let p = 2 * v;
-    put_tallied(
-        out,
+    let used = Lent {
+        rows: &lent.rows[..ROW_WIDTH * needs.rows],
+        letters: &lent.letters[..needs.letters],
+        islands: &lent.islands[..needs.islands],
+        points: &lent.points[..2 * needs.points],
+    };
+    let sheet = Sheet {
         header,
-        n,
-        &rows[..r],
-        &letters[..l],
-        &islands[..i],
-        &points[..p],
-    )
+        count: needs.rows,
+        lent: used,
+    };
+    put_tallied(out, &sheet)
 }
 
 // What an input of at most 8,192 bytes reads as.
@@ -213,7 +197,7 @@ fn put_reading(src: &[u8], out: &mut [u8]) -> usize
     let mut letters = [0u8; LETTERS_ROOM];
     let mut islands = [0u16; ISLANDS_ROOM];
     let mut points = [0i64; POINTS_ROOM];
-    let outcome = read_as(
+    let answer = read_as(
         Mode::Loose,
         src,
         &mut rows,
@@ -221,18 +205,25 @@ fn put_reading(src: &[u8], out: &mut [u8]) -> usize
         &mut islands,
         &mut points,
     );
-    let answer = outcome.answer;
-    let header = outcome.header;
-    let column = outcome.column;
     match answer {
-        Answer::Refused {
-            number,
-            record,
-            offset,
-        } => put_refused(out, number, record, offset, column),
+        Ok(Reading { header, needs }) => {
+            let lent = Lent {
+                rows: &rows,
+                letters: &letters,
+                islands: &islands,
+                points: &points,
+            };
+            put_used(out, header, needs, &lent)
+        }
         // The tables hold any such input.
-        Answer::NoRoom(_) => 0,
-        Answer::Read(needs) => put_used(out, header, needs, &rows, &letters, &islands, &points),
+        Err(Unread::NoRoom(_)) => 0,
+        Err(Unread::Refused(stopped, column)) => put_refused(
+            out,
+            stopped.refusal.number(),
+            stopped.record,
+            stopped.offset,
+            column,
+        ),
     }
 }
 
@@ -242,26 +233,26 @@ fn put_listing(src: &[u8], out: &mut [u8]) -> usize
     ensures { Put out.old 0 (listing_of src.now) out.new result }
 {
     if src.len() > INPUT_MOST {
-        return put_refused(out, TOO_LONG, 0, 0, 0);
+        return put_refused(out, Refusal::TooLong.number(), 0, 0, 0);
     }
     put_reading(src, out)
 }
 
 // A text at the start of `out`, where there is room.
-fn put_text(text: &[u8], out: &mut [u8]) -> Listed
+fn put_text(text: &[u8], out: &mut [u8]) -> Result<usize, NoRoom>
     ensures value { result ≡ listed_of text.now (length out.old) }
     ensures out_after { out.new ≡ listed_in result text.now out.old }
 {
     let size = text.len();
     if size > out.len() {
-        return Listed::NoRoom(size);
+        return Err(NoRoom(size));
     }
     put_bytes(out, 0, text);
-    Listed::Wrote(size)
+    Ok(size)
 }
 
 // Writes what the listing program writes for this input to the start of `out`, where there is room.
-pub fn list_text(src: &[u8], out: &mut [u8]) -> Listed
+pub fn list_text(src: &[u8], out: &mut [u8]) -> Result<usize, NoRoom>
     ensures value { result ≡ listed_of (listing_of src.now) (length out.old) }
     ensures out_after { out.new ≡ listed_in result (listing_of src.now) out.old }
 {
@@ -277,7 +268,7 @@ pub fn refused_text(
     offset: usize,
     column: usize,
     out: &mut [u8],
-) -> Listed
+) -> Result<usize, NoRoom>
     ensures value { result ≡ listed_of (refused_line number place offset column) (length out.old) }
     ensures out_after { out.new ≡ listed_in result (refused_line number place offset column) out.old }
 {

@@ -3,44 +3,25 @@
 // one more.
 #![tactic(auto)]
 
-ghost use Rattle.std.specs.Prelude.{◌≤◌, length};
-
-use listing::{Listed, list_text};
+use listing::{TEXT_MOST, list_text};
 use std::io;
 use std::io::{Print, Read};
 
 // How much of standard input is looked at.
 const INPUT_ROOM: u64 = 65536;
 
-// Where the input ends that begins at `at`: before the next byte 0, or at the end.
-fn end_of(src: &[u8], at: usize) -> usize
-    requires { at ≤ length src.now }
-    ensures { (at ≤ result) × (result ≤ length src.now) }
-{
-    let mut end = at;
-    while end < src.len() {
-        if src[end] == 0 {
-            return end;
-        }
-        end += 1;
-    }
-    end
-}
-
 fn print_listing(rt: &HostRuntime, src: &[u8]) -> io::Result<()> {
-    let mut text = [0u8; 640];
+    let mut text = [0u8; TEXT_MOST];
     match list_text(src, &mut text) {
-        Listed::Wrote(size) => rt.write_all(&text[..size]),
-        Listed::NoRoom(_) => Ok(()),
+        Ok(size) => rt.write_all(&text[..size]),
+        // The array holds any listing.
+        Err(_) => Ok(()),
     }
 }
 
 fn print_listings(rt: &HostRuntime, src: &[u8]) -> io::Result<()> {
-    let mut at = 0;
-    while at < src.len() {
-        let end = end_of(src, at);
-        print_listing(rt, &src[at..end])?;
-        at = end + 1;
+    for input in src.split(|&b| b == 0) {
+        print_listing(rt, input)?;
     }
     Ok(())
 }

@@ -1,33 +1,18 @@
 -- Which kind has a field at a place, by one test for each place; the tests are those of the schedule, by computation. Assumes nothing.
-use mathlib.Core.Path.{◌≡◌, refl, sym, ◌∙◌}
-use mathlib.Core.List.{[]}
+use mathlib.Core.Path.{◌≡◌, refl, sym, ap, ◌∙◌}
+use mathlib.Core.List.{List, []}
+use mathlib.Core.Logic.{◌⊎◌, inl, inr}
 use mathlib.Core.Bool.{Bool, true, false, cond, not, ◌||◌}
 use Prim.Native.Nat.{ℕ, zero, suc, ◌-◌, ◌≤◌, ◌<◌}
 use native.Mathlib.Omega.{arith}
 use lib.ListN.{get_or-eq_default}
 use lib.Dec.{eqb, leb}
-use borrow.Author.Tests.{eq-eqb, ne_eqb, leb-true, leb-false}
+use borrow.Author.Tests.{ne_eqb, leb-true, leb-false, eqb-true, eqb-false}
 use Rattle.laws.specs.Lists.{below, holds}
 use Rattle.laws.proofs.ListLaws.{below_at}
 use Rattle.token.specs.Lex.{kind_most}
 use Rattle.kinds.specs.Kinds.{vertices_place, islands_place, schedule}
-use Rattle.made.specs.Made.{has_field}
-
-pub either_first : (n a b : ℕ) → n ≡ a → true ≡ (eqb n a || eqb n b)
-either_first n a b e = rw (eq-eqb n a e)
-
-module _ (n a b : ℕ) (f : n ≡ a → ⊥) where
-  pub either_second : n ≡ b → true ≡ (eqb n a || eqb n b)
-  either_second e = rw (ne_eqb n a f, eq-eqb n b e)
-
-  pub either-none : (n ≡ b → ⊥) → false ≡ (eqb n a || eqb n b)
-  either-none g = rw (ne_eqb n a f, ne_eqb n b g)
-
-  pub among-rest : (c : ℕ) (r : Bool) → r ≡ (eqb n b || eqb n c) → r ≡ (eqb n a || (eqb n b || eqb n c))
-  among-rest c r q = rw (ne_eqb n a f) q
-
-pub among_first : (n a b c : ℕ) → n ≡ a → true ≡ (eqb n a || (eqb n b || eqb n c))
-among_first n a b c e = rw (eq-eqb n a e)
+use Rattle.made.specs.Made.{has_field, are_counts}
 
 agreed : (a b : Bool) → cond a b (not b) ≡ true → a ≡ b
 agreed true true e = refl
@@ -77,13 +62,35 @@ pub no-islands : (kind : ℕ) → (kind ≡ 1 → ⊥) → has_field kind island
 unfolding below has_field holds schedule
 no-islands kind n = has-any (λ (k : ℕ). eqb k 1) islands_place refl refl (λ k h. ne_eqb k 1 (λ q. omega arith)) kind ∙ ne_eqb kind 1 n
 
--- what is at most n + 1, and not n + 1, is at most n
-pub less : {p n : ℕ} → p ≤ suc n → (p ≡ suc n → ⊥) → p ≤ n
-less h f = omega arith
-
 -- no kind has a field at the places 0 and 1
 pub has-none : (p : ℕ) → p ≤ 1 → (kind : ℕ) → 1 ≤ kind → kind ≤ kind_most → false ≡ has_field kind p
 unfolding below has_field holds schedule
 has-none zero h = has-at (λ (k : ℕ). false) 0 refl
 has-none (suc zero) h = has-at (λ (k : ℕ). false) 1 refl
 has-none (suc (suc p)) h = absurd (omega arith)
+
+-- two places, one behind the other, that the same kinds have
+pub has-two : (f : ℕ → Bool) (p : ℕ) → below kind_most (agree f p) ≡ true → below kind_most (agree f (suc p)) ≡ true
+    → (place : ℕ) → p ≤ place → place ≤ suc p → (kind : ℕ) → 1 ≤ kind → kind ≤ kind_most → f kind ≡ has_field kind place
+has-two f p a b place l m = go (eqb place p) refl
+  where
+    go : (t : Bool) → eqb place p ≡ t → (kind : ℕ) → 1 ≤ kind → kind ≤ kind_most → f kind ≡ has_field kind place
+    go true e kind x y = has-at f p a kind x y ∙ ap (has_field kind) (sym (eqb-true place p e))
+    go false e kind x y =
+        let n = eqb-false place p e in
+        let z : suc p ≡ place = omega arith in
+        has-at f (suc p) b kind x y ∙ ap (has_field kind) z
+
+-- ---- counts of vertices
+
+module _ (kind i v : ℕ) (s : List ℕ) where
+  pub counts_line : (kind ≡ 5) ⊎ (kind ≡ 7) → leb 2 v ≡ are_counts kind i v s
+  unfolding are_counts below has_field holds schedule
+  counts_line (inl e) = rw e
+  counts_line (inr e) = rw e
+
+  pub counts_none : (kind ≡ 1 → ⊥) → ((kind ≡ 5) ⊎ (kind ≡ 7) → ⊥) → true ≡ are_counts kind i v s
+  unfolding are_counts
+  counts_none a b = rw (ne_eqb kind 1 a, vertices-line kind a, ne_eqb kind 5 (λ e. b (inl e)), ne_eqb kind 7 (λ e. b (inr e)))
+
+pub ruleset count_ways = (counts_line, counts_none)

@@ -6,4 +6,4 @@ pub mod RowWays
 pub mod OwnLaws
 pub mod UsedLaws
 pub mod StartLaws
-pub mod JudgeWays
+mod JudgeWays

@@ -1,26 +1,22 @@
 -- What a row that is made holds, and the ways through the functions that judge the rows. Assumes nothing.
-use mathlib.Core.Path.{◌≡◌, refl, sym, ◌∙◌, ap}
-use mathlib.Core.List.{List, []}
-use mathlib.Core.Bool.{Bool, true, false, not, ◌&&◌}
+use mathlib.Core.Path.{◌≡◌, refl, sym, ◌∙◌}
+use mathlib.Core.List.{List}
+use mathlib.Core.Bool.{Bool, true, false, ◌&&◌}
 use Prim.Native.Nat.{ℕ, ◌+◌, ◌*◌, ◌≤◌, ◌<◌, zero-le}
 use native.Mathlib.Omega.{arith}
 use lib.ListN.{length, get_or, take}
 use lib.Dec.{leb, eqb}
 use lib.IntN.{ℤ, pos, negsuc}
 use lib.Signed.{le_z}
-use borrow.Author.Tests.{leb-true, eqb-true, eqb-false, not-true, not-false}
+use borrow.Author.Tests.{leb-true, eqb-true, eqb-false}
 use Rattle.laws.specs.Lists.{all, below, holds}
 use Rattle.laws.specs.Whole.{eq_z}
 use Rattle.laws.proofs.Choice.{and_left, and_right}
 use Rattle.laws.proofs.ListLaws.{below_at, part_count}
-use Rattle.record.specs.declared.Mode.{Mode}
-use Rattle.record.specs.Record.{is_exact}
 use Rattle.token.specs.declared.Want.TheVariants.{Int}
-use Rattle.kinds.specs.Kinds.{row_width, own_width, code_place, letters_place, islands_place, vertices_place, schedule, unsaid, is_listed, want_at}
-use Rattle.sheet.specs.Tables.{Tables, Starts}
-use Rattle.made.specs.declared.RowJudged.TheVariants.{Wrong, Strange, On}
-use Rattle.made.specs.Made.{tables_of, nat_of, count_at, kind_of, islands_of, in_range, has_field, is_cell, cell_test, are_numbers, are_letters, sum, four_at_least, are_counts, are_reals, are_points, is_made, are_starts, is_coded}
-use Rattle.made.specs.Turn.{row_turn}
+use Rattle.kinds.specs.Kinds.{row_width, own_width, letters_place, islands_place, vertices_place, schedule, unsaid, want_at}
+use Rattle.sheet.specs.Tables.{Tables}
+use Rattle.made.specs.Made.{nat_of, count_at, kind_of, islands_of, in_range, has_field, is_cell, cell_test, are_numbers, are_letters, sum, four_at_least, are_counts, are_reals, are_points, is_made}
 use Rattle.made.proofs.FieldWays.{no-islands}
 
 -- ---- what a row that is made holds
@@ -79,10 +75,10 @@ module _ (i v : ℕ) (s : List ℕ) (e : are_counts 1 i v s ≡ true) where
   border-outer = leb-true (sum (take i s) + 4) v (and_right (enough && leb i (length s) && fours) outer e)
 
 -- the code has tested the numbers and the counts
-module _ (rows : List ℤ) (islands : List ℕ) (a : Bool) (p : a ≡ are_numbers rows) (t : not a ≡ false) (kind i v : ℕ)
-    (k : kind ≡ nat_of (get_or rows 0 (pos 0))) (o : i ≡ nat_of (get_or rows islands_place (pos 0))) (b : Bool) (q : b ≡ are_counts kind i v islands) (u : not b ≡ false) where
+module _ (rows : List ℤ) (islands : List ℕ) (a : Bool) (p : a ≡ are_numbers rows) (t : a ≡ true) (kind i v : ℕ)
+    (k : kind ≡ nat_of (get_or rows 0 (pos 0))) (o : i ≡ nat_of (get_or rows islands_place (pos 0))) (b : Bool) (q : b ≡ are_counts kind i v islands) (u : b ≡ true) where
   counted : are_counts kind i v islands ≡ true
-  counted = sym q ∙ not-false b u
+  counted = sym q ∙ u
 
   islands-in : i ≤ length islands
   islands-in = go (eqb kind 1) refl
@@ -90,7 +86,7 @@ module _ (rows : List ℤ) (islands : List ℕ) (a : Bool) (p : a ≡ are_number
       go : (x : Bool) → eqb kind 1 ≡ x → i ≤ length islands
       go true e = border-islands i v islands (rw (eqb-true kind 1 e) at counted)
       go false e =
-          let z : i ≡ 0 = o ∙ islands-none rows (sym p ∙ not-false a t) (λ f. eqb-false kind 1 e (k ∙ f)) in
+          let z : i ≡ 0 = o ∙ islands-none rows (sym p ∙ t) (λ f. eqb-false kind 1 e (k ∙ f)) in
           omega arith
 
   pub made-islands : i ≡ length (take i islands)
@@ -100,6 +96,8 @@ module _ (rows : List ℤ) (islands : List ℕ) (a : Bool) (p : a ≡ are_number
   made-rest e =
       let h = border-outer i v islands (rw e at counted) in
       omega arith
+
+pub ruleset parts = (made-islands, made-rest)
 
 first_of : (a b c d : Bool) → (a && b && c && d) ≡ true → a ≡ true
 first_of a b c d e = and_left a b (and_left (a && b) c (and_left (a && b && c) d e))
@@ -161,7 +159,7 @@ module _ (t : Tables) (e : is_made t ≡ true) where
       record {
         row = row-held t.rows N-right;
         letters = letters-in;
-        islands = islands-in t.rows t.islands N refl (ap not N-right) (kind_of t) (count_at t islands_place) (count_at t vertices_place) refl refl C refl (ap not C-right);
+        islands = islands-in t.rows t.islands N refl N-right (kind_of t) (count_at t islands_place) (count_at t vertices_place) refl refl C refl C-right;
         points = points-in;
       }
 
@@ -177,70 +175,5 @@ module _ (t : Tables) (e : is_made t ≡ true) where
           outer = border-outer (count_at t islands_place) (count_at t vertices_place) t.islands counts-right;
         }
 
--- ---- the row
-
-module _ (rows : List ℤ) (letters islands : List ℕ) (points : List ℤ) where
-  module _ (a : Bool) (p : a ≡ are_numbers rows) where
-    pub made-numbers : not a ≡ true → false ≡ is_made (tables_of rows letters islands points)
-    unfolding is_made
-    made-numbers t = rw (← p, not-true a t)
-
-    module _ (t : not a ≡ false) (n : ℕ) (o : n ≡ nat_of (get_or rows letters_place (pos 0))) (b : Bool) (q : b ≡ are_letters n letters) where
-      pub made-letters : not b ≡ true → false ≡ is_made (tables_of rows letters islands points)
-      unfolding is_made
-      made-letters u = rw (← p, not-false a t, ← o, ← q, not-true b u)
-
-      module _ (u : not b ≡ false) (kind i v : ℕ) (k : kind ≡ nat_of (get_or rows 0 (pos 0))) (j : i ≡ nat_of (get_or rows islands_place (pos 0)))
-          (w : v ≡ nat_of (get_or rows vertices_place (pos 0))) (d : Bool) (s : d ≡ are_counts kind i v islands) where
-        pub made-counts : not d ≡ true → false ≡ is_made (tables_of rows letters islands points)
-        unfolding is_made
-        made-counts x = rw (← p, not-false a t, ← o, ← q, not-false b u, ← k, ← j, ← w, ← s, not-true d x)
-
-        pub made-points : not d ≡ false → (r : Bool) → r ≡ are_points kind v (take i islands) points → r ≡ is_made (tables_of rows letters islands points)
-        unfolding is_made
-        made-points x r y = rw (← p, not-false a t, ← o, ← q, not-false b u, ← k, ← j, ← w, ← s, not-false d x) y
-
-pub ruleset made-ways = (made-numbers, made-letters, made-counts, made-points, made-islands, made-rest)
-
-module _ (mode : Mode) (kind code : ℕ) where
-  module _ (x : Bool) (y : x ≡ is_exact mode) where
-    pub coded-loose : not x ≡ true → true ≡ is_coded mode kind code
-    unfolding is_coded
-    coded-loose m = rw (← y, m)
-
-    module _ (m : not x ≡ false) (b : Bool) (h : b ≡ holds (get_or schedule kind []) code_place) where
-      pub coded-listed : b ≡ true → (r : Bool) → r ≡ is_listed kind code → r ≡ is_coded mode kind code
-      unfolding is_coded has_field
-      coded-listed t r q = rw (← y, m, ← h, t) q
-
-      pub coded_none : b ≡ false → true ≡ is_coded mode kind code
-      unfolding is_coded has_field
-      coded_none t = rw (← y, m, ← h, t)
-
-pub ruleset coded-ways = (coded-loose, coded-listed, coded_none)
-
-pub turn-held : (t : Tables) (a : Bool) → a ≡ is_made t → not a ≡ false → row_width ≤ length t.rows
-turn-held t a p u = (made_held t (sym p ∙ not-false a u)).row
-
-module _ (mode : Mode) (s : Starts) (t : Tables) (a : Bool) (p : a ≡ is_made t) where
-  pub turn-wrong : not a ≡ true → Wrong ≡ row_turn mode s t
-  unfolding row_turn
-  turn-wrong u = rw (← p, not-true a u)
-
-  module _ (u : not a ≡ false) where
-    module _ (d : Bool) (g : d ≡ are_starts s t.rows) where
-      pub turn-misplaced : not d ≡ true → Wrong ≡ row_turn mode s t
-      unfolding row_turn
-      turn-misplaced y = rw (← p, not-false a u, ← g, not-true d y)
-
-      module _ (y : not d ≡ false) (kind code : ℕ) (k : kind ≡ kind_of t) (o : code ≡ count_at t code_place) (b : Bool) (q : b ≡ is_coded mode kind code) where
-        pub turn-strange : not b ≡ true → Strange ≡ row_turn mode s t
-        unfolding row_turn
-        turn-strange x = rw (← p, not-false a u, ← g, not-false d y, ← k, ← o, ← q, not-true b x)
-
-        pub turn_on : not b ≡ false → (l i v : ℕ) → l ≡ count_at t letters_place → i ≡ count_at t islands_place → v ≡ count_at t vertices_place
-            → On l i v ≡ row_turn mode s t
-        unfolding row_turn
-        turn_on x l i v e f w = rw (← p, not-false a u, ← g, not-false d y, ← k, ← o, ← q, not-false b x, e, f, w)
-
-pub ruleset turn-ways = (turn-wrong, turn-misplaced, turn-strange, turn_on)
+pub made_row : (t : Tables) → is_made t ≡ true → row_width ≤ length t.rows
+made_row t e = (made_held t e).row

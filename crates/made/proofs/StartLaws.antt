@@ -18,7 +18,7 @@ use Rattle.kinds.specs.Kinds.{row_width, own_width, code_place, letters_place, i
 use Rattle.sheet.specs.Tables.{Tables, ◌then◌, Starts, no_starts, ◌plus◌, starts_of, start_cells, move_at, move_from, moved_on, starting_at, ◌followed◌}
 use Rattle.sheet.proofs.StartLaws.{length_moved, moved-own, moved_at, moved-append, moved-drop, moved-take}
 use Rattle.made.specs.Made.{count_at, kind_of, letters_of, islands_of, points_of, first_of, own_of, rest_of, alone_of, is_made, are_starts, starts_at, counts_of, Before, none_before, past_row, is_coded, judge_rows, used_of}
-use Rattle.made.specs.declared.Verdict.TheVariants.{Fine}
+use Rattle.std.specs.Prelude.{Ok}
 use Rattle.made.proofs.RowWays.{made_held}
 use Rattle.made.proofs.OwnLaws.{made-same, cell-alike, made_alike, starts-alike, first-own, rest-own}
 use Rattle.made.proofs.UsedLaws.{total, used-front, fine-on, fine_before, fine-long}
@@ -86,7 +86,7 @@ past_more n b t =
     rw (w, x, y, z)
 
 -- **each start is the sum of the counts before it**
-pub starts-total : (mode : Mode) (n : ℕ) (b : Before) (t : Tables) → judge_rows mode n b t ≡ Fine → (k : ℕ) → k < n
+pub starts-total : (mode : Mode) (n : ℕ) (b : Before) (t : Tables) → judge_rows mode n b t ≡ Ok tt → (k : ℕ) → k < n
     → are_starts (past_rows k b t).starts (drop (row_width * k) t.rows) ≡ true
 starts-total mode zero b t e k h = absurd (omega arith)
 starts-total mode (suc n) b t e zero h = ap (λ (x : Before). are_starts x.starts t.rows) (past-none b t) ∙ (fine-on mode n b t e).2
@@ -101,8 +101,8 @@ starts-total mode (suc n) b t e (suc k) h =
 pub then-assoc : (a b c : Tables) → a then b then c ≡ a then (b then c)
 then-assoc a b c = rw (append_assoc a.rows b.rows c.rows, append_assoc a.letters b.letters c.letters, append_assoc a.islands b.islands c.islands, append_assoc a.points b.points c.points)
 
-pub fine-then : (mode : Mode) (m : ℕ) (v : Tables) (n : ℕ) (b : Before) (t : Tables) → judge_rows mode n b t ≡ Fine → judge_rows mode m (past_rows n b t) v ≡ Fine
-    → judge_rows mode (n + m) b (used_of n t then v) ≡ Fine
+pub fine-then : (mode : Mode) (m : ℕ) (v : Tables) (n : ℕ) (b : Before) (t : Tables) → judge_rows mode n b t ≡ Ok tt → judge_rows mode m (past_rows n b t) v ≡ Ok tt
+    → judge_rows mode (n + m) b (used_of n t then v) ≡ Ok tt
 unfolding used_of
 fine-then mode m v zero b t e q =
     let z : zero + m ≡ m = omega arith in
@@ -176,7 +176,7 @@ unfolding move_from
 moved_nothing s = refl
 
 -- **they are fine there**, whatever the number of the first
-pub fine_moved : (mode : Mode) (s : Starts) (n : ℕ) (b c : Before) (t : Tables) → c.starts ≡ s plus b.starts → judge_rows mode n b t ≡ Fine → judge_rows mode n c (starting_at s t) ≡ Fine
+pub fine_moved : (mode : Mode) (s : Starts) (n : ℕ) (b c : Before) (t : Tables) → c.starts ≡ s plus b.starts → judge_rows mode n b t ≡ Ok tt → judge_rows mode n c (starting_at s t) ≡ Ok tt
 unfolding judge_rows
 fine_moved mode s zero b c t q e = refl
 fine_moved mode s (suc n) b c t q e =
@@ -188,7 +188,7 @@ fine_moved mode s (suc n) b c t q e =
     (ap (judge_rows mode n (past_row c (starting_at s t))) (rest-moved s t) ∙ fine_moved mode s n (past_row b t) (past_row c (starting_at s t)) (rest_of t) past f.1)
 
 -- and use the same, moved on
-pub used-moved : (mode : Mode) (s : Starts) (n : ℕ) (b : Before) (t : Tables) → judge_rows mode n b t ≡ Fine → used_of n (starting_at s t) ≡ starting_at s (used_of n t)
+pub used-moved : (mode : Mode) (s : Starts) (n : ℕ) (b : Before) (t : Tables) → judge_rows mode n b t ≡ Ok tt → used_of n (starting_at s t) ≡ starting_at s (used_of n t)
 unfolding used_of
 used-moved mode s zero b t e = rw (moved_nothing s)
 used-moved mode s (suc n) b t e =
@@ -262,7 +262,7 @@ module _ (s : Starts) (t : Tables) (h : row_width ≤ length t.rows) (e : are_st
 
 -- ---- **the rows of one sheet followed by those of another**
 
-module _ (mode : Mode) (n : ℕ) (t : Tables) (e : judge_rows mode n none_before t ≡ Fine) where
+module _ (mode : Mode) (n : ℕ) (t : Tables) (e : judge_rows mode n none_before t ≡ Ok tt) where
   -- the used part has as many letters, island counts and points as its rows say
   pub starts-used : starts_of (used_of n t) ≡ totals_of n t
   starts-used =
@@ -271,7 +271,7 @@ module _ (mode : Mode) (n : ℕ) (t : Tables) (e : judge_rows mode n none_before
       let z : length (take (2 * v) t.points) / 2 ≡ v = omega (arith, length-take-le (2 * v) t.points r.points-in) in
       ap starts_of (used-front n t) ∙ rw (length-take-le (total letters_place n t) t.letters r.letters-in, length-take-le (total islands_place n t) t.islands r.islands-in, z)
 
-  pub fine-followed : (m : ℕ) (u : Tables) → judge_rows mode m none_before u ≡ Fine → judge_rows mode (n + m) none_before (used_of n t followed u) ≡ Fine
+  pub fine-followed : (m : ℕ) (u : Tables) → judge_rows mode m none_before u ≡ Ok tt → judge_rows mode (n + m) none_before (used_of n t followed u) ≡ Ok tt
   fine-followed m u q =
       let s = starts_of (used_of n t) in
       let x : 0 + total letters_place n t ≡ total letters_place n t + 0 = omega arith in

@@ -12,7 +12,8 @@ use Rattle.heading.specs.declared.Header.{Header}
 use Rattle.kinds.specs.Kinds.{row_width, code_place, letters_place, islands_place, vertices_place}
 use Rattle.sheet.specs.Tables.{Tables, ◌then◌}
 use Rattle.made.specs.Made.{tables_of, cell_at, count_at, kind_of, first_of, rest_of, is_made, are_starts, Before, none_before, past_row, is_coded, judge_rows, judge_of, used_of}
-use Rattle.made.specs.declared.Verdict.TheVariants.{Fine, Faulty, Unlisted}
+use Rattle.std.specs.Prelude.{Ok, Err}
+use Rattle.made.specs.declared.Flaw.TheVariants.{Faulty, Unlisted}
 use Rattle.made.proofs.RowWays.{made_held}
 use Rattle.made.proofs.OwnLaws.{fronts_of, first-front, rest-front, cell-alike, made_alike, starts-alike, first_then, rest_then}
 
@@ -94,25 +95,25 @@ judge-used mode h n t = rw (judge-rows-used mode n none_before t)
 -- ---- rows that are judged fine
 
 -- the first is well made, those behind it are judged fine, its starts are right, and the mode takes its code
-pub fine-on : (mode : Mode) (n : ℕ) (b : Before) (t : Tables) → judge_rows mode (suc n) b t ≡ Fine
-    → (is_made t ≡ true) × (judge_rows mode n (past_row b t) (rest_of t) ≡ Fine) × (are_starts b.starts t.rows ≡ true) × (is_coded mode (kind_of t) (count_at t code_place) ≡ true)
+pub fine-on : (mode : Mode) (n : ℕ) (b : Before) (t : Tables) → judge_rows mode (suc n) b t ≡ Ok tt
+    → (is_made t ≡ true) × (judge_rows mode n (past_row b t) (rest_of t) ≡ Ok tt) × (are_starts b.starts t.rows ≡ true) × (is_coded mode (kind_of t) (count_at t code_place) ≡ true)
 unfolding judge_rows
 fine-on mode n b t e =
     let code = is_coded mode (kind_of t) (count_at t code_place) in
     let rest = judge_rows mode n (past_row b t) (rest_of t) in
     let starts = are_starts b.starts t.rows in
-    let f = cond-first (is_made t && starts) (cond code rest (Unlisted b.row)) (Faulty b.row) Fine (λ z. let y : ◌≡◌ {A = ℕ} 0 1 = cc in omega arith) e in
-    let g = cond-first code rest (Unlisted b.row) Fine (λ z. let y : ◌≡◌ {A = ℕ} 0 1 = cc in omega arith) f.1 in
+    let f = cond-first (is_made t && starts) (cond code rest (Err (Unlisted b.row))) (Err (Faulty b.row)) (Ok tt) (λ z. let y : ◌≡◌ {A = ℕ} 0 1 = cc in omega arith) e in
+    let g = cond-first code rest (Err (Unlisted b.row)) (Ok tt) (λ z. let y : ◌≡◌ {A = ℕ} 0 1 = cc in omega arith) f.1 in
     (and_left (is_made t) starts f.0, g.1, and_right (is_made t) starts f.0, g.0)
 
 -- and back
 pub fine_before : (mode : Mode) (n : ℕ) (b : Before) (t : Tables) → is_made t ≡ true → are_starts b.starts t.rows ≡ true → is_coded mode (kind_of t) (count_at t code_place) ≡ true
-    → judge_rows mode n (past_row b t) (rest_of t) ≡ Fine → judge_rows mode (suc n) b t ≡ Fine
+    → judge_rows mode n (past_row b t) (rest_of t) ≡ Ok tt → judge_rows mode (suc n) b t ≡ Ok tt
 unfolding judge_rows
 fine_before mode n b t m s c e = rw (m, s, c) e
 
 -- they use the same, whatever stands behind them
-pub used-then : (mode : Mode) (n : ℕ) (b : Before) (t u : Tables) → judge_rows mode n b t ≡ Fine → used_of n (t then u) ≡ used_of n t
+pub used-then : (mode : Mode) (n : ℕ) (b : Before) (t u : Tables) → judge_rows mode n b t ≡ Ok tt → used_of n (t then u) ≡ used_of n t
 unfolding used_of
 used-then mode zero b t u e = refl
 used-then mode (suc n) b t u e =
@@ -127,7 +128,7 @@ pub record Long (n : ℕ) (t : Tables) : Type 0 where
   pub islands-in : total islands_place n t ≤ length t.islands
   pub points-in : 2 * total vertices_place n t ≤ length t.points
 
-pub fine-long : (mode : Mode) (n : ℕ) (b : Before) (t : Tables) → judge_rows mode n b t ≡ Fine → Long n t
+pub fine-long : (mode : Mode) (n : ℕ) (b : Before) (t : Tables) → judge_rows mode n b t ≡ Ok tt → Long n t
 unfolding total
 fine-long mode zero b t e = record { rows_in = zero-le; letters-in = zero-le; islands-in = zero-le; points-in = zero-le }
 fine-long mode (suc n) b t e =

@@ -1,6 +1,6 @@
 -- A sheet that is handed in, and when it is well made: document 01, "Sheet tables", and document 02, T-07 (the starts). Assumes nothing: these are definitions.
 -- The rows before a row use up what stands before its own part of each table, so a row is judged on what is left of the four.
-use Rattle.std.specs.Prelude.{ℕ, zero, suc, ◌+◌, ◌-◌, ◌*◌, List, [], ◌∷◌, ◌++◌, Bool, true, false, cond, not, ◌&&◌, ◌||◌, length, get_or, take, drop, leb, eqb, ℤ, pos, negsuc}
+use Rattle.std.specs.Prelude.{ℕ, zero, suc, ◌+◌, ◌-◌, ◌*◌, List, [], ◌∷◌, ◌++◌, Bool, true, false, cond, not, ◌&&◌, ◌||◌, length, get_or, take, drop, leb, eqb, ℤ, pos, negsuc, Result, Ok, Err}
 use Rattle.std.specs.Int.Signed.{le_z}
 use Rattle.laws.specs.Lists.{all, below, holds}
 use Rattle.laws.specs.Whole.{eq_z}
@@ -17,12 +17,17 @@ use Rattle.heading.specs.declared.Header.{Header}
 use Rattle.heading.specs.Heading.{is_header}
 use Rattle.sheet.specs.Tables.{Tables, empty, ◌then◌, Starts, no_starts, ◌plus◌, start_cells}
 use Rattle.made.specs.declared.Fault.{Fault}
-use Rattle.made.specs.declared.Verdict.{Verdict}
-use Rattle.made.specs.declared.Verdict.TheVariants.{Fine, BadHeader, Faulty, Unlisted}
+use Rattle.made.specs.declared.Flaw.{Flaw}
+use Rattle.made.specs.declared.Flaw.TheVariants.{BadHeader, Faulty, Unlisted}
+use Rattle.made.specs.declared.Lent.{Lent}
 
 -- a sheet's tables, from the four lists
 abbrev pub tables_of : List ℤ → List ℕ → List ℕ → List ℤ → Tables
 tables_of rows letters islands points = record { rows = rows; letters = letters; islands = islands; points = points }
+
+-- the same of tables that are lent
+abbrev pub tables : Lent → Tables
+tables l = tables_of l.rows.now l.letters.now l.islands.now l.points.now
 
 -- ---- the first row of what is left
 
@@ -183,32 +188,32 @@ abbrev pub past_row : Before → Tables → Before
 past_row b t = record { row = b.row + 1; starts = b.starts plus counts_of t }
 
 -- rows in order, each 15, where its own part or a start is faulty, then 10
-unfoldable pub judge_rows : Mode → ℕ → Before → Tables → Verdict
-judge_rows mode zero b t = Fine
+unfoldable pub judge_rows : Mode → ℕ → Before → Tables → Result Unit Flaw
+judge_rows mode zero b t = Ok tt
 judge_rows mode (suc n) b t =
     cond (is_made t && are_starts b.starts t.rows)
-    (cond (is_coded mode (kind_of t) (count_at t code_place)) (judge_rows mode n (past_row b t) (rest_of t)) (Unlisted b.row)) (Faulty b.row)
+    (cond (is_coded mode (kind_of t) (count_at t code_place)) (judge_rows mode n (past_row b t) (rest_of t)) (Err (Unlisted b.row))) (Err (Faulty b.row))
 
 -- the header (6) first. In loose mode any code is taken: that is "well made"
-unfoldable pub judge_of : Mode → Header → ℕ → Tables → Verdict
-judge_of mode h count t = cond (is_header h) (judge_rows mode count none_before t) BadHeader
+unfoldable pub judge_of : Mode → Header → ℕ → Tables → Result Unit Flaw
+judge_of mode h count t = cond (is_header h) (judge_rows mode count none_before t) (Err BadHeader)
 
 -- ---- the paper's number and values
 
-abbrev pub number_of : Verdict → ℕ
-number_of Fine = 0
-number_of BadHeader = bad_header
-number_of (Faulty k) = not_made
-number_of (Unlisted k) = unlisted_code
+abbrev pub number_of : Result Unit Flaw → ℕ
+number_of (Ok u) = 0
+number_of (Err BadHeader) = bad_header
+number_of (Err (Faulty k)) = not_made
+number_of (Err (Unlisted k)) = unlisted_code
 
-abbrev pub row_of : Verdict → ℕ
-row_of Fine = 0
-row_of BadHeader = 0
-row_of (Faulty k) = k
-row_of (Unlisted k) = k
+abbrev pub row_of : Result Unit Flaw → ℕ
+row_of (Ok u) = 0
+row_of (Err BadHeader) = 0
+row_of (Err (Faulty k)) = k
+row_of (Err (Unlisted k)) = k
 
 -- what is wrong with a sheet that was handed in: the row with 15 and 10
-abbrev pub fault_of : Verdict → Fault
+abbrev pub fault_of : Result Unit Flaw → Fault
 fault_of v = record { number = number_of v; row = row_of v }
 
 -- ---- the part of the tables that the rows use

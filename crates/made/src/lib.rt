@@ -6,43 +6,55 @@
 mod numbers;
 mod rings;
 
-ghost use Rattle.std.specs.Prelude.{◌≡◌, ◌-◌, ◌^◌, ◌<◌, get_or, pos};
-ghost use Rattle.made.specs.Made.{tables_of, starts_at, none_before, nat_of, are_letters, sum, is_made, is_coded, judge_rows, judge_of, fault_of};
+ghost use Rattle.std.specs.Prelude.{◌≡◌, ◌-◌, get_or, pos};
+ghost use Rattle.made.specs.Made.{tables, none_before, nat_of, are_letters, sum, rest_of, is_made, is_coded, judge_rows, judge_of, fault_of};
 ghost use Rattle.made.specs.Turn.{row_turn};
 
 use crate::numbers::{are_numbers, are_starts};
 use crate::rings::{are_counts, are_points};
 use heading::{Header, is_header};
 use kinds::{ROW_WIDTH, has_field, is_listed};
-use record::refusal::{CODE, HEADER, NOT_MADE};
+use record::refusal::Refusal;
 use record::{Mode, is_exact, is_plain};
 
-// The sheet is well made; or its header is wrong (6); or the first row that is faulty (15), or whose code is not listed (10).
+// The four tables of a sheet, or what is left of them from a row on.
 #[derive(Clone, Copy)]
-pub enum Verdict {
-    Fine,
+pub struct Lent<'a> {
+    pub rows: &'a [i64],
+    pub letters: &'a [u8],
+    pub islands: &'a [u16],
+    pub points: &'a [i64],
+}
+
+// A sheet that is handed in: its header, how many rows it has, and its tables.
+#[derive(Clone, Copy)]
+pub struct Sheet<'a> {
+    pub header: Header,
+    pub count: usize,
+    pub lent: Lent<'a>,
+}
+
+// What is wrong with a sheet: its header (6); or the first row that is faulty (15), or whose code is not listed (10).
+#[derive(Clone, Copy, Debug, PartialEq, Eq)]
+pub enum Flaw {
     BadHeader,
     Faulty(usize),
     Unlisted(usize),
 }
 
-// A verdict in the paper's numbers: the refusal, or 0, and the row with 15 and 10.
+// A judgement in the paper's numbers: the refusal, or 0, and the row with 15 and 10.
 #[derive(Clone, Copy)]
 pub struct Fault {
     pub number: usize,
     pub row: usize,
 }
 
-// Where a row that is judged leads: to its refusal, or past its letters, island counts and points.
+// How many letters, island counts and points.
 #[derive(Clone, Copy)]
-enum RowJudged {
-    Wrong,
-    Strange,
-    On {
-        letters: usize,
-        islands: usize,
-        points: usize,
-    },
+struct Counts {
+    letters: usize,
+    islands: usize,
+    points: usize,
 }
 
 const CODE_PLACE: usize = 2;
@@ -53,209 +65,162 @@ const ISLANDS_PLACE: usize = 10;
 
 const VERTICES_PLACE: usize = 11;
 
-pub fn wide(n: u16) -> usize
-    ensures { result ≡ n }
-{
-    n as usize
-}
-
 // A count; a number below 0 counts nothing.
 pub fn count_of(z: i64) -> usize
     ensures { result ≡ nat_of z }
 {
-    if z < 0 {
-        return 0;
-    }
-    z as usize
+    usize::try_from(z).unwrap_or(0)
 }
 
 // The count at a place of the first row; past the end there is none.
 pub fn count_at(rows: &[i64], place: usize) -> usize
     ensures { result ≡ nat_of (get_or rows.now place (pos 0)) }
 {
-    if place >= rows.len() {
-        return 0;
-    }
-    count_of(rows[place])
+    rows.get(place).map_or(0, |&z| count_of(z))
 }
 
 // The first n letters are held: bytes 32 to 126, no blank at an end.
+#[tactic(auto, unfolding(crate::specs::Made::are_letters))]
 fn are_letters(n: usize, s: &[u8]) -> bool
     ensures { result ≡ are_letters n s.now }
 {
-    if s.len() < n {
+    let Some(own) = s.get(..n) else {
         return false;
-    }
-    if n == 0 {
-        return true;
-    }
-    if !is_plain(&s[..n]) {
-        return false;
-    }
-    if s[0] == b' ' {
-        return false;
-    }
-    if s[n - 1] == b' ' { false } else { true }
+    };
+    is_plain(own) && own.first() != Some(&b' ') && own.last() != Some(&b' ')
 }
 
 // The vertices that the islands leave for the outer ring; none where they are more.
+#[tactic(auto, using(crate::proofs::TableWays::sums))]
 pub fn outer_of(v: usize, s: &[u16]) -> usize
     ensures { result ≡ v - sum s.now }
 {
     let mut rest = v;
-    let mut i = 0;
-    while i < s.len() {
-        let n = wide(s[i]);
-        if rest < n {
-            return 0;
-        }
-        rest -= n;
-        i += 1;
+    for &n in s {
+        rest = rest.saturating_sub(usize::from(n));
     }
     rest
 }
 
 // The first row of the tables is well made.
-fn is_made(rows: &[i64], letters: &[u8], islands: &[u16], points: &[i64]) -> bool
-    ensures { result ≡ is_made (tables_of rows.now letters.now islands.now points.now) }
+#[tactic(auto, using(crate::proofs::RowWays::parts), unfolding(crate::specs::Made::is_made))]
+fn is_made(part: &Lent<'_>) -> bool
+    ensures { result ≡ is_made (tables part.now) }
 {
-    if !are_numbers(rows) {
-        return false;
-    }
-    if !are_letters(count_at(rows, LETTERS_PLACE), letters) {
-        return false;
-    }
+    let Lent {
+        rows,
+        letters,
+        islands,
+        points,
+    } = *part;
     let kind = count_at(rows, 0);
     let i = count_at(rows, ISLANDS_PLACE);
     let v = count_at(rows, VERTICES_PLACE);
-    if !are_counts(kind, i, v, islands) {
-        return false;
+    are_numbers(rows)
+        && are_letters(count_at(rows, LETTERS_PLACE), letters)
+        && are_counts(kind, i, v, islands)
+        && are_points(kind, v, &islands[..i], points)
+}
+
+// What is left of the tables behind their first row; past the end of one of them, none of it.
+pub fn rest_of<'a>(part: &Lent<'a>) -> Lent<'a>
+    ensures { tables result ≡ rest_of (tables part.now) }
+{
+    let letters = count_at(part.rows, LETTERS_PLACE);
+    let islands = count_at(part.rows, ISLANDS_PLACE);
+    let points = count_at(part.rows, VERTICES_PLACE).saturating_mul(2);
+    Lent {
+        rows: &part.rows[ROW_WIDTH.min(part.rows.len())..],
+        letters: &part.letters[letters.min(part.letters.len())..],
+        islands: &part.islands[islands.min(part.islands.len())..],
+        points: &part.points[points.min(part.points.len())..],
     }
-    are_points(kind, v, &islands[..i], points)
 }
 
 // A code that the mode takes.
+#[tactic(auto, unfolding(crate::specs::Made::is_coded, crate::specs::Made::has_field))]
 fn is_coded(mode: Mode, kind: usize, code: usize) -> bool
     ensures { result ≡ is_coded mode kind code }
 {
-    if !is_exact(mode) {
-        return true;
-    }
-    if has_field(kind, CODE_PLACE) {
-        return is_listed(kind, code);
-    }
-    true
+    !is_exact(mode) || !has_field(kind, CODE_PLACE) || is_listed(kind, code)
 }
 
-// The first row of the tables, behind so many letters, island counts and points: 15, then 10.
-fn judge_row(
-    mode: Mode,
-    l: usize,
-    i: usize,
-    p: usize,
-    rows: &[i64],
-    letters: &[u8],
-    islands: &[u16],
-    points: &[i64],
-) -> RowJudged
-    requires { (l < 2 ^ 63) × (i < 2 ^ 63) × (p < 2 ^ 63) }
-    ensures { result ≡ row_turn mode (starts_at l i p) (tables_of rows.now letters.now islands.now points.now) }
+// The first row of the tables, number k, behind so many letters, island counts and points: 15, then 10, or how many it has itself.
+#[tactic(auto, using(crate::proofs::RowWays::made_row), unfolding(crate::specs::Turn::row_turn))]
+fn judge_row(mode: Mode, k: usize, before: Counts, part: &Lent<'_>) -> Result<Counts, Flaw>
+    ensures { result ≡ row_turn mode k before (tables part.now) }
 {
-    if !is_made(rows, letters, islands, points) {
-        return RowJudged::Wrong;
+    if !is_made(part) || !are_starts(before, part.rows) {
+        return Err(Flaw::Faulty(k));
     }
-    if !are_starts(l, i, p, rows) {
-        return RowJudged::Wrong;
+    if !is_coded(
+        mode,
+        count_at(part.rows, 0),
+        count_at(part.rows, CODE_PLACE),
+    ) {
+        return Err(Flaw::Unlisted(k));
     }
-    if !is_coded(mode, count_at(rows, 0), count_at(rows, CODE_PLACE)) {
-        return RowJudged::Strange;
-    }
-    RowJudged::On {
-        letters: count_at(rows, LETTERS_PLACE),
-        islands: count_at(rows, ISLANDS_PLACE),
-        points: count_at(rows, VERTICES_PLACE),
-    }
+    Ok(Counts {
+        letters: count_at(part.rows, LETTERS_PLACE),
+        islands: count_at(part.rows, ISLANDS_PLACE),
+        points: count_at(part.rows, VERTICES_PLACE),
+    })
 }
 
 // The rows in order, each on what the rows before it leave of the tables.
-fn judge_rows(
-    mode: Mode,
-    count: usize,
-    rows: &[i64],
-    letters: &[u8],
-    islands: &[u16],
-    points: &[i64],
-) -> Verdict
-    ensures { result ≡ judge_rows mode count none_before (tables_of rows.now letters.now islands.now points.now) }
+fn judge_rows(mode: Mode, count: usize, lent: &Lent<'_>) -> Result<(), Flaw>
+    ensures { result ≡ judge_rows mode count none_before (tables lent.now) }
 {
-    let mut k = 0;
-    let mut r = 0;
-    let mut l = 0;
-    let mut i = 0;
-    let mut p = 0;
-    while k < count {
-        match judge_row(
-            mode,
-            l,
-            i,
-            p,
-            &rows[r..],
-            &letters[l..],
-            &islands[i..],
-            &points[2 * p..],
-        ) {
-            RowJudged::Wrong => return Verdict::Faulty(k),
-            RowJudged::Strange => return Verdict::Unlisted(k),
-            RowJudged::On {
-                letters: a,
-                islands: b,
-                points: c,
-            } => {
-                r += ROW_WIDTH;
-                l += a;
-                i += b;
-                p += c;
-                k += 1;
-            }
-        }
+    let mut left = *lent;
+    let mut before = Counts {
+        letters: 0,
+        islands: 0,
+        points: 0,
+    };
+    for k in 0..count {
+        let own = judge_row(mode, k, before, &left)?;
+        left = Lent {
+            rows: &left.rows[ROW_WIDTH..],
+            letters: &left.letters[own.letters..],
+            islands: &left.islands[own.islands..],
+            points: &left.points[2 * own.points..],
+        };
+        before = Counts {
+            letters: before.letters + own.letters,
+            islands: before.islands + own.islands,
+            points: before.points + own.points,
+        };
     }
-    Verdict::Fine
+    Ok(())
 }
 
 // The header first, then every row.
-pub fn judge(
-    mode: Mode,
-    header: Header,
-    count: usize,
-    rows: &[i64],
-    letters: &[u8],
-    islands: &[u16],
-    points: &[i64],
-) -> Verdict
-    ensures { result ≡ judge_of mode header count (tables_of rows.now letters.now islands.now points.now) }
+#[tactic(auto, unfolding(crate::specs::Made::judge_of))]
+pub fn judge(mode: Mode, sheet: &Sheet<'_>) -> Result<(), Flaw>
+    ensures { result ≡ judge_of mode sheet.now.header sheet.now.count (tables sheet.now.lent) }
 {
-    if !is_header(header) {
-        return Verdict::BadHeader;
+    if !is_header(sheet.header) {
+        return Err(Flaw::BadHeader);
     }
-    judge_rows(mode, count, rows, letters, islands, points)
+    judge_rows(mode, sheet.count, &sheet.lent)
 }
 
-// What a verdict says in the paper's numbers.
-pub fn fault_of(v: Verdict) -> Fault
-    ensures { result ≡ fault_of v }
+// What a judgement says in the paper's numbers.
+pub fn fault_of(judged: Result<(), Flaw>) -> Fault
+    ensures { result ≡ fault_of judged }
 {
-    match v {
-        Verdict::Fine => Fault { number: 0, row: 0 },
-        Verdict::BadHeader => Fault {
-            number: HEADER,
+    match judged {
+        Ok(()) => Fault { number: 0, row: 0 },
+        Err(Flaw::BadHeader) => Fault {
+            number: Refusal::Header.number(),
             row: 0,
         },
-        Verdict::Faulty(k) => Fault {
-            number: NOT_MADE,
+        Err(Flaw::Faulty(k)) => Fault {
+            number: Refusal::NotMade.number(),
             row: k,
         },
-        Verdict::Unlisted(k) => Fault {
-            number: CODE,
+        Err(Flaw::Unlisted(k)) => Fault {
+            number: Refusal::Code.number(),
             row: k,
         },
     }

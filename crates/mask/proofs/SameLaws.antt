@@ -15,8 +15,10 @@ use Rattle.plane.specs.Moved.{moved}
 use Rattle.plane.proofs.RingLaws.{held-has}
 use Rattle.plane.proofs.MovedLaws.{x-moved, y-moved}
 use Rattle.made.specs.Made.{sum, ring_sizes}
+use Rattle.std.specs.Prelude.{Result, Ok, Err}
+use Rattle.plane.specs.declared.NoArea.{NoArea}
+use Rattle.plane.specs.declared.NoArea.TheVariants.{Wide as AnyWide, Missing as AnyMissing}
 use Rattle.area.specs.declared.Areas.{Areas}
-use Rattle.area.specs.declared.Areas.TheVariants.{Of, Wide as AnyWide, Missing as AnyMissing}
 use Rattle.area.specs.BorderRings.{areas_of}
 use Rattle.area.proofs.AreaLaws.{AllHeld, areas-held, areas-own, areas-moved}
 use Rattle.grid.specs.Inside.{centre-x, centre-y, is_odd, crossings}
@@ -31,7 +33,7 @@ use Rattle.mask.specs.Covers.{all-crossings, in-border, covers}
 use Rattle.mask.specs.Redrawn.{RingRedrawn, begun-at, turned_round, Redrawn}
 use Rattle.mask.specs.Masks.{drawn, undrawn, mask_after, border_mask, mask_of}
 use Rattle.mask.specs.declared.Mask.{Mask}
-use Rattle.mask.specs.declared.MaskAnswer.TheVariants.{Drawn, BadSide, OffGrid}
+use Rattle.mask.specs.declared.Unmasked.TheVariants.{BadSide, OffGrid}
 
 -- ---- masks of the same cells
 
@@ -39,7 +41,7 @@ drawn-same : (p q : ℕ → ℕ → Bool) → ((r c : ℕ) → p r c ≡ q r c) 
 drawn-same p q h =
     let w : row_words p grid_side ≡ row_words q grid_side = words_same p q grid_side h in
     let n : all_cells_set p grid_side ≡ all_cells_set q grid_side = sym (words-set p grid_side) ∙ ap set_bits w ∙ words-set q grid_side in
-    ap₂ (λ (k : ℕ) (l : List ℕ). record { answer = Drawn k; rows = l }) n w
+    ap₂ (λ (k : ℕ) (l : List ℕ). record { answer = Ok k; rows = l }) n w
 
 -- two borders of as many vertices and islands, each with a grid
 module _ (v : ℕ) (islands : List ℕ) (ps qs : List ℤ) (cx cy bx by : ℤ) (s : ℕ) where
@@ -49,20 +51,20 @@ module _ (v : ℕ) (islands : List ℕ) (ps qs : List ℤ) (cx cy bx by : ℤ) (
   border-same g n f =
       ap₂ (λ (b : Bool) (m : Mask). cond b m (undrawn OffGrid)) (ap₂ ◌&&◌ g n) (drawn-same (covers ps (ring_sizes v islands) cx cy s) (covers qs (ring_sizes v islands) bx by s) f)
 
-  mask-same : areas_of v islands ps ≡ areas_of v islands qs → ((outer inner : ℤ) → areas_of v islands qs ≡ Of outer inner → border_mask v islands ps cx cy s ≡ border_mask v islands qs bx by s)
+  mask-same : areas_of v islands ps ≡ areas_of v islands qs → ((a : Areas) → areas_of v islands qs ≡ Ok a → border_mask v islands ps cx cy s ≡ border_mask v islands qs bx by s)
       → mask_of v islands ps cx cy s ≡ mask_of v islands qs bx by s
   unfolding mask_of
   mask-same e f = ap (λ (m : Mask). cond (is_cell_side s) m (undrawn BadSide)) (rw e (case (areas_of v islands qs) refl))
     where
-      case : (x : Areas) → areas_of v islands qs ≡ x → mask_after (border_mask v islands ps cx cy s) x ≡ mask_after (border_mask v islands qs bx by s) x
-      case (Of outer inner) q = f outer inner q
-      case AnyWide q = refl
-      case AnyMissing q = refl
+      case : (x : Result Areas NoArea) → areas_of v islands qs ≡ x → mask_after (border_mask v islands ps cx cy s) x ≡ mask_after (border_mask v islands qs bx by s) x
+      case (Ok a) q = f a q
+      case (Err AnyWide) q = refl
+      case (Err AnyMissing) q = refl
 
-  mask-both : (a b c d : ℤ) → areas_of v islands ps ≡ Of a b → areas_of v islands qs ≡ Of c d → border_mask v islands ps cx cy s ≡ border_mask v islands qs bx by s
+  mask-both : (a c : Areas) → areas_of v islands ps ≡ Ok a → areas_of v islands qs ≡ Ok c → border_mask v islands ps cx cy s ≡ border_mask v islands qs bx by s
       → mask_of v islands ps cx cy s ≡ mask_of v islands qs bx by s
   unfolding mask_of
-  mask-both a b c d e f m = ap (λ (x : Mask). cond (is_cell_side s) x (undrawn BadSide)) (rw (e, f) m)
+  mask-both a c e f m = ap (λ (x : Mask). cond (is_cell_side s) x (undrawn BadSide)) (rw (e, f) m)
 
 -- the outer ring is held, so the islands leave it some vertices
 sizes-sum : (v : ℕ) (islands : List ℕ) (ps : List ℤ) → AllHeld ps 0 ((v - sum islands) ∷ islands) → sum (ring_sizes v islands) ≡ v
@@ -93,7 +95,7 @@ pub mask-own : (v : ℕ) (islands : List ℕ) (ps qs : List ℤ) (cx cy : ℤ) (
 unfolding covers in-border ring_sizes
 mask-own v islands ps qs cx cy s l =
     mask-same v islands (ps ++ qs) ps cx cy cx cy s (areas-own v islands ps qs l)
-    (λ outer inner e. let h = areas-held v islands ps outer inner e in
+    (λ a e. let h = areas-held v islands ps a.outer a.inner e in
     let z = sizes-sum v islands ps h in
     border-same v islands (ps ++ qs) ps cx cy cx cy s refl (run-same (ps ++ qs) ps cx cy 0 v (λ k g. each k (omega arith)))
     (λ r c. ap is_odd (all_same (ps ++ qs) ps 0 ((v - sum islands) ∷ islands) (centre-x cx s c) (centre-y cy s r) (λ k g. each k (omega (arith, z))) h)))
@@ -168,12 +170,12 @@ module _ (ps qs : List ℤ) where
       ∙ ap₂ ◌&&◌ (ring-near ps qs from cx cy n (held-has (length ps) from n h.0).0 d.0) (rings-near cx cy (from + n) ns h.1 d.1) ∙ sym (near-split qs cx cy from n (sum ns))
 
   -- **where a border's rings start and their direction do not matter**, 17 apart, which is measured from a ring's first vertex
-  pub mask-redrawn : (v : ℕ) (islands : List ℕ) (cx cy : ℤ) (s : ℕ) (a b c d : ℤ) → areas_of v islands ps ≡ Of a b → areas_of v islands qs ≡ Of c d → Redrawn ps qs 0 (ring_sizes v islands)
+  pub mask-redrawn : (v : ℕ) (islands : List ℕ) (cx cy : ℤ) (s : ℕ) (a c : Areas) → areas_of v islands ps ≡ Ok a → areas_of v islands qs ≡ Ok c → Redrawn ps qs 0 (ring_sizes v islands)
       → mask_of v islands ps cx cy s ≡ mask_of v islands qs cx cy s
   unfolding covers in-border ring_sizes
-  mask-redrawn v islands cx cy s a b c d e f w =
-      let h = areas-held v islands ps a b e in
-      mask-both v islands ps qs cx cy cx cy s a b c d e f
+  mask-redrawn v islands cx cy s a c e f w =
+      let h = areas-held v islands ps a.outer a.inner e in
+      mask-both v islands ps qs cx cy cx cy s a c e f
       (border-same v islands ps qs cx cy cx cy s refl (rw (← sizes-sum v islands ps h) (rings-near cx cy 0 ((v - sum islands) ∷ islands) h w))
       (λ r k. ap is_odd (rings-crossings 0 ((v - sum islands) ∷ islands) (centre-x cx s k) (centre-y cy s r) w)))
 
@@ -213,7 +215,7 @@ module _ (dx dy : ℤ) (ps : List ℤ) (cx cy : ℤ) where
   unfolding covers in-border ring_sizes
   mask-moved v islands s g =
       mask-same v islands (moved dx dy ps) ps (cx +ℤ dx) (cy +ℤ dy) cx cy s (areas-moved dx dy ps v islands)
-      (λ outer inner e. let h = areas-held v islands ps outer inner e in
+      (λ a e. let h = areas-held v islands ps a.outer a.inner e in
       let z : sum ((v - sum islands) ∷ islands) ≡ v = sizes-sum v islands ps h in
       let q = held-room 0 ((v - sum islands) ∷ islands) (omega arith) h in
       let room : 2 * v ≤ length ps = omega (arith, z, q) in

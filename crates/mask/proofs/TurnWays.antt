@@ -1,6 +1,6 @@
 -- Rows turned over by a ring's, and by one ring after another. Assumes nothing.
 use mathlib.Core.Path.{◌≡◌, refl, sym, ◌∙◌, ap}
-use mathlib.Core.Bool.{Bool, true, false, not, ◌&&◌}
+use mathlib.Core.Bool.{Bool, true, false, ◌&&◌}
 use mathlib.Core.List.{List, [], ◌∷◌, ◌++◌}
 use Prim.Native.Nat.{ℕ, ◌+◌, ◌-◌, ◌*◌, ◌≤◌, ◌<◌}
 use native.Mathlib.Nat.{add_assoc, add-zero, zero-add}
@@ -14,12 +14,12 @@ use lib.IntN.{ℤ}
 use mir.Syntax.{w64}
 use mir.Val.{SFits, to_z, of_z}
 use mir.Facts.{to_z-of_z}
-use borrow.Author.Tests.{eqb-true, eqb-false, not-true, not-false}
+use borrow.Author.Tests.{eqb-true, eqb-false}
 use Rattle.laws.proofs.Choice.{false≢true}
 use Rattle.laws.proofs.ListLaws.{left, left-none}
 use Rattle.plane.proofs.RingLaws.{held-has}
 use Rattle.made.specs.Made.{sum}
-use Rattle.grid.specs.declared.RingCells.{RingCells}
+use Rattle.std.specs.Prelude.{Option, Some, None, is_some}
 use Rattle.grid.specs.Inside.{centre-x, centre-y, is_odd, crossings, in-ring, ring-covers}
 use Rattle.grid.specs.Words.{grid_side, row_words}
 use Rattle.grid.specs.Cells.{ring_cells}
@@ -113,41 +113,41 @@ module _ (ps : List ℤ) (from : ℕ) (sizes : List ℕ) (cx cy : ℤ) (s : ℕ)
     unfolding all-traced
     islands-over h = (sym (q.traces ∙ rw (left-none sizes i h)), rw (take_all i sizes h) at q.holds)
 
-    module _ (h : i < length sizes) (n : ℕ) (e : n ≡ get_or sizes i 0) (ring : RingCells) (er : ring ≡ ring_cells ps at n cx cy s) where
-      traces-on : all-traced ps from sizes cx cy s ≡ (ring.traced && all-traced ps (at + n) (drop (i + 1) sizes) cx cy s)
+    module _ (h : i < length sizes) (n : ℕ) (e : n ≡ get_or sizes i 0) (ring : Option (List ℕ)) (er : ring ≡ ring_cells ps at n cx cy s) where
+      traces-on : all-traced ps from sizes cx cy s ≡ (is_some ring && all-traced ps (at + n) (drop (i + 1) sizes) cx cy s)
       unfolding all-traced
       traces-on = q.traces ∙ rw (left sizes i 0 h, ← e, ← er)
 
-      pub islands-off : not ring.traced ≡ true → false ≡ all-traced ps from sizes cx cy s
-      islands-off t = sym (traces-on ∙ rw (not-true ring.traced t))
+      pub islands-off : ring ≡ None → false ≡ all-traced ps from sizes cx cy s
+      islands-off t = sym (traces-on ∙ rw t)
 
-      module _ (t : not ring.traced ≡ false) where
-        is-traced : (ring_cells ps at n cx cy s).traced ≡ true
-        is-traced = rw (← er) (not-false ring.traced t)
+      module _ (cells : List ℕ) (t : ring ≡ Some cells) where
+        is-traced : ring_cells ps at n cx cy s ≡ Some cells
+        is-traced = sym er ∙ t
 
         pub islands-room : 2 * (at + n) ≤ length ps
-        islands-room = (held-has (length ps) at n (traced-held ps at n cx cy s is-traced)).2
+        islands-room = (held-has (length ps) at n (traced-held ps at n cx cy s cells is-traced)).2
 
-        ring-rows : ring.rows ≡ row_words (ring-covers ps at n cx cy s) grid_side
-        ring-rows = ap (λ (x : RingCells). x.rows) er ∙ traced-cells ps at n cx cy s is-traced
+        ring-rows : cells ≡ row_words (ring-covers ps at n cx cy s) grid_side
+        ring-rows = traced-cells ps at n cx cy s cells is-traced
 
-        pub islands-sized : length ring.rows ≡ grid_side
+        pub islands-sized : length cells ≡ grid_side
         islands-sized = ap (λ (x : List ℕ). length x) ring-rows ∙ words-length (ring-covers ps at n cx cy s) grid_side
 
-        over-xored : (m' : List ℕ) → TurnedOver m ring.rows m' → Xored m m' (ring-covers ps at n cx cy s)
+        over-xored : (m' : List ℕ) → TurnedOver m cells m' → Xored m m' (ring-covers ps at n cx cy s)
         over-xored m' x =
             record {
               sized = x.sized;
               turns = λ r g. x.each r g ∙ ap (bit_xor (get_or m r 0)) (ap (λ (y : List ℕ). get_or y r 0) ring-rows ∙ words-at (ring-covers ps at n cx cy s) grid_side r g);
             }
 
-        pub islands-on : (m' : List ℕ) → TurnedOver m ring.rows m' → Islanding m' ps from sizes cx cy s (at + n) (i + 1)
+        pub islands-on : (m' : List ℕ) → TurnedOver m cells m' → Islanding m' ps from sizes cx cy s (at + n) (i + 1)
         islands-on m' x =
             let k : take (i + 1) sizes ≡ take i sizes ++ n ∷ [] = rw (add-one i, e) (take-suc sizes i 0 h) in
             record {
               within = omega arith;
               place = rw k (sym (sum-snoc (from ∷ take i sizes) n ∙ ap (λ (j : ℕ). j + n) (sym q.place)));
-              traces = traces-on ∙ rw (not-false ring.traced t);
+              traces = traces-on ∙ rw t;
               holds = rw k (covers_snoc ps (from ∷ take i sizes) n cx cy s m m' q.holds (rw (← q.place) (over-xored m' x)));
             }
 
@@ -164,7 +164,7 @@ module _ (ps : List ℤ) (from : ℕ) (sizes : List ℕ) (cx cy : ℤ) (s : ℕ)
   turn-start m h = islands-start ps from sizes (bits cx) (bits cy) s m (rw (to_z-of_z f, to_z-of_z g) h)
 
   module _ (m : List ℕ) (at i : ℕ) (q : Islanding m ps from sizes (bits cx) (bits cy) s at i) where
-    pub turn-off : i < length sizes → (n : ℕ) → n ≡ get_or sizes i 0 → (ring : RingCells) → ring ≡ ring_cells ps at n (bits cx) (bits cy) s → not ring.traced ≡ true → Turned false m
+    pub turn-off : i < length sizes → (n : ℕ) → n ≡ get_or sizes i 0 → (ring : Option (List ℕ)) → ring ≡ ring_cells ps at n (bits cx) (bits cy) s → ring ≡ None → Turned false m
     turn-off h n e ring er t = (rw (to_z-of_z f, to_z-of_z g) at (islands-off ps from sizes (bits cx) (bits cy) s m at i q h n e ring er t), λ z. absurd (false≢true z))
 
     pub turn-all : length sizes ≤ i → Turned true m

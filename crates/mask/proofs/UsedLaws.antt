@@ -10,7 +10,7 @@ use Rattle.record.specs.declared.Mode.TheVariants.{Loose}
 use Rattle.kinds.specs.Kinds.{vertices_place}
 use Rattle.heading.specs.declared.Header.{Header}
 use Rattle.sheet.specs.Tables.{Tables}
-use Rattle.made.specs.declared.Verdict.TheVariants.{Fine}
+use Rattle.std.specs.Prelude.{Ok}
 use Rattle.made.specs.Made.{nat_of, count_at, islands_of, points_of, own_of, is_made, judge_of, used_of}
 use Rattle.made.proofs.RowWays.{made_held}
 use Rattle.made.proofs.OwnLaws.{cell-own, islands-own}
@@ -42,6 +42,6 @@ module _ (h : Header) (n : ℕ) (t : Tables) (k : ℕ) (cx cy side : ℤ) where
   mask-used = asked-used (mask_found cx cy (nat_of side)) (masks cx cy (nat_of side)) h n t k
 
   -- **asked of the row alone**, a row of a well made sheet
-  pub mask-alone : judge_of Loose h n t ≡ Fine → k < n → mask_at h 1 (row_alone k t) 0 cx cy side ≡ mask_at h n t k cx cy side
+  pub mask-alone : judge_of Loose h n t ≡ Ok tt → k < n → mask_at h 1 (row_alone k t) 0 cx cy side ≡ mask_at h n t k cx cy side
   unfolding mask_at
   mask-alone e l = asked-alone h n t k e l (mask_found cx cy (nat_of side)) (masks cx cy (nat_of side))

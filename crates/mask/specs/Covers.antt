@@ -1,5 +1,5 @@
 -- Which centres lie inside a border (document 02, T-03): "inside by the even-odd rule over all rings". Assumes nothing: these are definitions.
-use Rattle.std.specs.Prelude.{◌≡◌, Bool, true, ◌&&◌, List, [], ◌∷◌, ℕ, ◌+◌, ◌-◌, ◌<◌, length, get_or, ℤ}
+use Rattle.std.specs.Prelude.{◌≡◌, Bool, true, ◌&&◌, List, [], ◌∷◌, ℕ, ◌+◌, ◌-◌, ◌<◌, length, get_or, ℤ, is_some}
 use Rattle.std.specs.Int.Bits.{bit_xor}
 use Rattle.grid.specs.Inside.{centre-x, centre-y, one_if, is_odd, crossings, in-ring}
 use Rattle.grid.specs.Words.{grid_side}
@@ -30,7 +30,7 @@ rings-round ps from (n ∷ ns) x y = one_if (in-ring ps from n x y) + rings-roun
 -- rings of these sizes can all be traced
 unfoldable pub all-traced : List ℤ → ℕ → List ℕ → ℤ → ℤ → ℕ → Bool
 all-traced ps from [] cx cy s = true
-all-traced ps from (n ∷ ns) cx cy s = (ring_cells ps from n cx cy s).traced && all-traced ps (from + n) ns cx cy s
+all-traced ps from (n ∷ ns) cx cy s = is_some (ring_cells ps from n cx cy s) && all-traced ps (from + n) ns cx cy s
 
 -- each of the 64 rows is xored by the other's
 pub record TurnedOver (before cells after : List ℕ) : Type 0 where

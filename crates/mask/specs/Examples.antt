@@ -1,5 +1,5 @@
 -- Masks of a sheet's borders, computed (document 02, T-03): a courtyard, rings in rings, and each refusal in its order. Assumes nothing.
-use Rattle.std.specs.Prelude.{ℕ, ◌+◌, ◌≡◌, refl, true, false, List, [], ◌∷◌, ◌++◌, take, replicate, ℤ, pos, negsuc}
+use Rattle.std.specs.Prelude.{ℕ, ◌+◌, ◌≡◌, refl, true, false, List, [], ◌∷◌, ◌++◌, take, replicate, ℤ, pos, negsuc, Ok, Err}
 use Rattle.laws.specs.Text.{text}
 use Rattle.heading.specs.declared.Header.{Header}
 use Rattle.sheet.specs.Tables.{Tables}
@@ -9,7 +9,7 @@ use Rattle.row.specs.Examples.{computed as computed_sought}
 use Rattle.area.specs.Examples.{computed as computed_areas}
 use Rattle.grid.specs.Examples.{computed_count}
 use Rattle.mask.specs.declared.Mask.{Mask}
-use Rattle.mask.specs.declared.MaskAnswer.TheVariants.{Drawn, BadSide}
+use Rattle.mask.specs.declared.Unmasked.TheVariants.{BadSide}
 use Rattle.mask.specs.Covers.{all-crossings, in-border, covers}
 use Rattle.mask.specs.Masks.{border_mask, mask_of, mask_of_row, mask_at, number_of, row_of, covered_of}
 
@@ -39,7 +39,7 @@ court-rows : take 5 (asked 1 (pos 0) (pos 8) (pos 2)).rows ≡ 17293822569102704
 unfolding asked
 court-rows = refl
 
-court-covered : (asked 1 (pos 0) (pos 8) (pos 2)).answer ≡ Drawn 12
+court-covered : (asked 1 (pos 0) (pos 8) (pos 2)).answer ≡ Ok 12
 unfolding asked
 court-covered = refl
 
@@ -72,13 +72,13 @@ off-grid = (refl, refl, refl)
 abbrev wide_court : Tables
 wide_court = tables_of (border 0 1 10) (text "7") (5 ∷ []) (square 0 8 ++ square 2 20000003)
 
-too_wide : (refusal_of (mask_at (header 1) 1 wide_court 0 (pos 99999999999) (pos 8) (pos 2)) ≡ refusal 17 0) × ((mask_at (header 1) 1 wide_court 0 (pos 99999999999) (pos 8) (pos 0)).answer ≡ BadSide)
+too_wide : (refusal_of (mask_at (header 1) 1 wide_court 0 (pos 99999999999) (pos 8) (pos 2)) ≡ refusal 17 0) × ((mask_at (header 1) 1 wide_court 0 (pos 99999999999) (pos 8) (pos 0)).answer ≡ Err BadSide)
 unfolding computed refusal_of
 too_wide = (refl, refl)
 
 -- 26 comes before 17: 1 and 10,000 pass
 bad-side : (refusal_of (mask_at (header 1) 1 wide_court 0 (pos 0) (pos 8) (pos 10001)) ≡ refusal 26 0) × (refusal_of (asked 1 (pos 0) (pos 8) (pos 0)) ≡ refusal 26 0) × (refusal_of (asked 1 (pos 0) (pos 8) (negsuc 0)) ≡ refusal 26 0)
-    × ((asked 1 (pos 0) (pos 8) (pos 1)).answer ≡ Drawn 48) × ((asked 1 (pos 0) (pos 8) (pos 10000)).answer ≡ Drawn 0)
+    × ((asked 1 (pos 0) (pos 8) (pos 1)).answer ≡ Ok 48) × ((asked 1 (pos 0) (pos 8) (pos 10000)).answer ≡ Ok 0)
 unfolding asked refusal_of
 bad-side = (refl, refl, refl, refl, refl)
 

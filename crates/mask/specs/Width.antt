@@ -1,17 +1,12 @@
 -- For private contracts: what refuses an area (17, 19), without the area. Assumes nothing: these are definitions.
-use Rattle.plane.specs.declared.Area.{Area}
-use Rattle.plane.specs.declared.Area.TheVariants as Area
+use Rattle.std.specs.Prelude.{ℤ, Result, Ok, Err}
+use Rattle.plane.specs.declared.NoArea.{NoArea}
 use Rattle.area.specs.declared.Areas.{Areas}
-use Rattle.area.specs.declared.Areas.TheVariants as Areas
-use Rattle.mask.specs.declared.Widths.{Widths}
-use Rattle.mask.specs.declared.Widths.TheVariants.{Fine, Wide, Missing}
 
-abbrev pub width_of : Area → Widths
-width_of (Area.Doubled d) = Fine
-width_of Area.Wide = Wide
-width_of Area.Missing = Missing
+abbrev pub width_of : Result ℤ NoArea → Result Unit NoArea
+width_of (Ok d) = Ok tt
+width_of (Err e) = Err e
 
-abbrev pub widths_of : Areas → Widths
-widths_of (Areas.Of outer inner) = Fine
-widths_of Areas.Wide = Wide
-widths_of Areas.Missing = Missing
+abbrev pub widths_of : Result Areas NoArea → Result Unit NoArea
+widths_of (Ok a) = Ok tt
+widths_of (Err e) = Err e

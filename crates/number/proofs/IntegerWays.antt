@@ -1,25 +1,23 @@
 -- The ways through the functions of an integer, each with what the code has in hand there. Assumes nothing.
 use Prim.Native.Nat.{ℕ, ◌+◌, ◌-◌, ◌*◌, ◌^◌, ◌≤◌, ◌<◌}
-use mathlib.Core.Path.{◌≡◌, refl, sym, ◌∙◌}
-use mathlib.Core.List.{List, [], ◌∷◌}
+use mathlib.Core.Path.{◌≡◌, sym, ◌∙◌}
+use mathlib.Core.List.{List}
 use mathlib.Core.Bool.{Bool, true, false, not}
 use native.Mathlib.Numerals.{add-one}
 use native.Mathlib.Nat.{pow-suc, pow-le-pow_right}
 use native.Mathlib.Omega.{arith}
 use lib.ListN.{length, get_or, take, drop, length-take}
-use lib.Dec.{eqb, leb}
+use lib.Dec.{leb}
 use mir.Syntax.{w64}
 use mir.Val.{Fits}
 use borrow.Author.Tests.{eq-eqb, ne_eqb, le-leb, lt-leb, leb-true, not-true, not-false}
+use Rattle.std.specs.Prelude.{Some, None}
 use Rattle.laws.specs.Lists.{run, all, tail}
 use Rattle.laws.proofs.Choice.{and_left, and_right}
 use Rattle.laws.proofs.ListLaws.{left, left-none, rest-is, all-run, all_here, all-next}
 use Rattle.record.specs.declared.Mode.{Mode}
-use Rattle.record.specs.Record.{is_exact, is_former}
-use Rattle.number.specs.Words.{blank, unled}
-use Rattle.number.specs.Number.{digit, value, parted, ended, lean, integer_is, integer_at, integer_of}
-use Rattle.number.specs.declared.Whole.{Whole}
-use Rattle.number.specs.declared.Whole.TheVariants as Whole
+use Rattle.record.specs.Record.{is_exact}
+use Rattle.number.specs.Number.{digit, value, ended, lean, integer_is, integer_at}
 
 -- ---- a digit
 
@@ -39,7 +37,7 @@ module _ (b : ℕ) where
   pub digit-to : digit b ≡ true → b ≤ 57
   digit-to e = leb-true b 57 (and_right (leb 48 b) (leb b 57) e)
 
-pub ruleset digit-tests = (digit_low, digit-high, digit-is)
+pub ruleset digit_tests = (digit_low, digit-high, digit-is)
 
 -- ---- the value of a few digits: after i of them it is below 10 ^ i
 
@@ -77,112 +75,53 @@ pub value-step : (s : List ℕ) (v i d : ℕ) → i < length s → d ≡ get_or 
 unfolding value
 value-step s v i d h e q = q ∙ rw (left s i 0 h, e)
 
-pub ruleset value-ways = (value-from, value-fits, value-more-fits, value-more, value-step, value-end, value-below, all-next)
-
--- ---- the end, and zeros in front
-
-pub parted-none : (s : List ℕ) → length s ≡ 0 → true ≡ parted s
-unfolding parted
-parted-none [] e = refl
-parted-none (b ∷ s) e = absurd (omega arith)
-
-module _ (s : List ℕ) (h : length s ≡ 0 → ⊥) where
-  parted-by : eqb (get_or s 0 0) 32 ≡ parted s
-  unfolding parted
-  parted-by = go s h
-    where
-      go : (t : List ℕ) → (length t ≡ 0 → ⊥) → eqb (get_or t 0 0) 32 ≡ parted t
-      go [] e = absurd (e refl)
-      go (b ∷ t) e = refl
-
-  pub parted-blank : get_or s 0 0 ≡ 32 → true ≡ parted s
-  parted-blank e = sym (eq-eqb (get_or s 0 0) 32 e) ∙ parted-by
-
-  pub parted-not : (get_or s 0 0 ≡ 32 → ⊥) → false ≡ parted s
-  parted-not e = sym (ne_eqb (get_or s 0 0) 32 e) ∙ parted-by
-
-pub ruleset parted-ways = (parted-none, parted-blank, parted-not)
-
-module _ (mode : Mode) (s : List ℕ) (x : Bool) (m : x ≡ is_former mode) (r : Bool) where
-  pub ended-former : x ≡ true → r ≡ parted s → r ≡ ended mode s
-  unfolding ended
-  ended-former y e = e ∙ rw (← m, y)
-
-  pub ended-now : x ≡ false → r ≡ all blank s → r ≡ ended mode s
-  unfolding ended
-  ended-now y e = e ∙ rw (← m, y)
-
-pub ruleset ended-ways = (ended-former, ended-now)
-
-pub lean-none : (t : List ℕ) (n : ℕ) → (n ≡ 1 → ⊥) → length t ≡ 0 → true ≡ lean t n
-unfolding lean
-lean-none [] n e h = rw (ne_eqb n 1 e)
-lean-none (b ∷ t) n e h = absurd (omega arith)
-
-module _ (t : List ℕ) (n : ℕ) where
-  pub lean-one : n ≡ 1 → true ≡ lean t n
-  unfolding lean
-  lean-one e = rw (eq-eqb n 1 e)
-
-  module _ (e : n ≡ 1 → ⊥) where
-    pub lean-zero : get_or t 0 0 ≡ 48 → false ≡ lean t n
-    unfolding lean
-    lean-zero h = rw (ne_eqb n 1 e, eq-eqb (get_or t 0 0) 48 h)
-
-    pub lean-other : (get_or t 0 0 ≡ 48 → ⊥) → true ≡ lean t n
-    unfolding lean
-    lean-other h = rw (ne_eqb n 1 e, ne_eqb (get_or t 0 0) 48 h)
-
-pub ruleset lean-ways = (lean-none, lean-one, lean-zero, lean-other)
+pub ruleset value_ways = (value-from, value-fits, value-more-fits, value-more, value-step, value-end, value-below, all-next)
 
 -- ---- the integer: n digits stand at the front of t
 
 -- what `value_of` asks of them
-pub digits-ask : (t : List ℕ) (n : ℕ) → n ≡ run digit t → n ≤ 8 → (length (take n t) ≤ 8) × (all digit (take n t) ≡ true)
-digits-ask t n q h = (simp length-take (omega arith), rw q (all-run digit t))
+module _ (t : List ℕ) (n : ℕ) (q : n ≡ run digit t) where
+  pub front_few : n ≤ 8 → length (take n t) ≤ 8
+  front_few h = simp length-take (omega arith)
 
-pub four-ask : (t : List ℕ) (n : ℕ) → n ≡ run digit t → n ≤ 4 → (length (take n t) ≤ 8) × (all digit (take n t) ≡ true)
-four-ask t n q h = digits-ask t n q (omega arith)
+  pub front_digits : all digit (take n t) ≡ true
+  front_digits = rw q (all-run digit t)
 
 module _ (mode : Mode) (size : ℕ) (t : List ℕ) (n : ℕ) (q : n ≡ run digit t) where
-  pub integer-none : n < 1 → Whole.Malformed ≡ integer_at mode size t
+  pub integer-none : n < 1 → None ≡ integer_at mode size t
   unfolding integer_at integer_is
   integer-none h = rw (← q, lt-leb 1 n h)
 
-  pub integer-many : 4 < n → Whole.Malformed ≡ integer_at mode size t
+  pub integer-many : 4 < n → None ≡ integer_at mode size t
   unfolding integer_at integer_is
   integer-many h = rw (← q, le-leb 1 n (omega arith), lt-leb n 4 h)
 
   module _ (h : 1 ≤ n) (k : n ≤ 4) (r : Bool) (e : r ≡ ended mode (tail t n)) where
-    pub integer-tail : not r ≡ true → Whole.Malformed ≡ integer_at mode size t
+    pub integer-tail : not r ≡ true → None ≡ integer_at mode size t
     unfolding integer_at integer_is
     integer-tail f = rw (← q, le-leb 1 n h, le-leb n 4 k, ← rest-is t n, ← e, not-true r f)
 
     module _ (f : not r ≡ false) (x : Bool) (o : x ≡ is_exact mode) where
-      pub integer-loose : (v : ℕ) → not x ≡ true → v ≡ value 0 (take n t) → Whole.Is v ≡ integer_at mode size t
+      pub integer-loose : (v : ℕ) → not x ≡ true → v ≡ value 0 (take n t) → Some v ≡ integer_at mode size t
       unfolding integer_at integer_is
       integer-loose v m w = rw (← q, le-leb 1 n h, le-leb n 4 k, ← rest-is t n, ← e, not-false r f, ← o, m, w)
 
       module _ (m : not x ≡ false) where
-        pub integer-size : (size ≡ 4 → ⊥) → Whole.Malformed ≡ integer_at mode size t
+        pub integer-size : (size ≡ 4 → ⊥) → None ≡ integer_at mode size t
         unfolding integer_at integer_is
         integer-size a = rw (← q, le-leb 1 n h, le-leb n 4 k, ← rest-is t n, ← e, not-false r f, ← o, m, ne_eqb size 4 a)
 
-        pub integer-more : size ≡ 4 → (length t ≡ n → ⊥) → Whole.Malformed ≡ integer_at mode size t
+        pub integer-more : size ≡ 4 → (length t ≡ n → ⊥) → None ≡ integer_at mode size t
         unfolding integer_at integer_is
         integer-more a b = rw (← q, le-leb 1 n h, le-leb n 4 k, ← rest-is t n, ← e, not-false r f, ← o, m, eq-eqb size 4 a, ne_eqb (length t) n b)
 
         module _ (a : size ≡ 4) (b : length t ≡ n) (l : Bool) (d : l ≡ lean t n) where
-          pub integer-zero : l ≡ false → Whole.Malformed ≡ integer_at mode size t
+          pub integer-zero : l ≡ false → None ≡ integer_at mode size t
           unfolding integer_at integer_is
           integer-zero g = rw (← q, le-leb 1 n h, le-leb n 4 k, ← rest-is t n, ← e, not-false r f, ← o, m, eq-eqb size 4 a, eq-eqb (length t) n b, ← d, g)
 
-          pub integer-exact : (v : ℕ) → l ≡ true → v ≡ value 0 (take n t) → Whole.Is v ≡ integer_at mode size t
+          pub integer-exact : (v : ℕ) → l ≡ true → v ≡ value 0 (take n t) → Some v ≡ integer_at mode size t
           unfolding integer_at integer_is
           integer-exact v g w = rw (← q, le-leb 1 n h, le-leb n 4 k, ← rest-is t n, ← e, not-false r f, ← o, m, eq-eqb size 4 a, eq-eqb (length t) n b, ← d, g, w)
 
-pub ruleset integer-ways = (integer-none, integer-many, integer-tail, integer-loose, integer-size, integer-more, integer-zero, integer-exact)
-
-pub integer-is : (mode : Mode) (c : List ℕ) (k : ℕ) (w : Whole) → k ≡ run blank c → w ≡ integer_at mode (length c) (tail c k) → w ≡ integer_of mode c
-unfolding integer_of unled
-integer-is mode c k w q e = e ∙ rw (rest-is c k, q)
+pub ruleset integer_ways = (front_few, front_digits, integer-none, integer-many, integer-tail, integer-loose, integer-size, integer-more, integer-zero, integer-exact)

@@ -9,6 +9,7 @@ use lib.ListN.{length, take, drop, length-take}
 use lib.Dec.{eqb, leb}
 use lib.IntN.{ℤ, pos, neg_ℤ}
 use borrow.Author.Tests.{le-leb, leb-true, eqb-true, not-true}
+use Rattle.std.specs.Prelude.{Option, Some, None}
 use Rattle.laws.specs.Lists.{run, all}
 use Rattle.laws.proofs.Choice.{and_left, and_right, and_both, and-false, cond-elim, cond-first, false≢true}
 use Rattle.laws.proofs.ListLaws.{all-run}
@@ -18,19 +19,15 @@ use Rattle.record.specs.Record.{is_exact, is_former, widens}
 use Rattle.record.proofs.RecordLaws.{rule-widens}
 use Rattle.number.specs.Words.{blank, unled}
 use Rattle.number.specs.Number.{digit, value, parted, ended, is_note, lean, integer_is, integer_at, integer_of, behind_integer, sign_of, signs, signed, thousandths, is_token, is_neat, real_is, real_at, real_signed, real_of, unsigned, behind_real, is_real}
-use Rattle.number.specs.declared.Whole.{Whole}
-use Rattle.number.specs.declared.Whole.TheVariants as Whole
-use Rattle.number.specs.declared.Decimal.{Decimal}
-use Rattle.number.specs.declared.Decimal.TheVariants as Decimal
 use Rattle.number.proofs.IntegerWays.{digit-to}
 use Rattle.number.proofs.RealWays.{token-eight, token-three, token-twelve}
 
 -- ---- the modes
 
-no_whole : (v : ℕ) → Whole.Malformed ≡ Whole.Is v → ⊥
+no_whole : (v : ℕ) → None ≡ Some v → ⊥
 no_whole v e = let z : ◌≡◌ {A = ℕ} 0 1 = cc in omega arith
 
-no-decimal : (v : ℤ) → Decimal.Malformed ≡ Decimal.Is v → ⊥
+no-decimal : (v : ℤ) → None ≡ Some v → ⊥
 no-decimal v e = let z : ◌≡◌ {A = ℕ} 0 1 = cc in omega arith
 
 -- blanks alone begin with a blank, or are none
@@ -88,22 +85,22 @@ module _ (from to : Mode) (wide : widens from to ≡ true) (a x : Bool) (s : Lis
 
 module _ (from to : Mode) (wide : widens from to ≡ true) (c : List ℕ) where
   -- an integer that one mode takes, a wider one takes with the same value
-  pub integer-widens : (v : ℕ) → integer_of from c ≡ Whole.Is v → integer_of to c ≡ Whole.Is v
+  pub integer-widens : (v : ℕ) → integer_of from c ≡ Some v → integer_of to c ≡ Some v
   unfolding integer_of integer_at integer_is
   integer-widens v h =
       let t = unled c in
       let n = run digit t in
-      row-widens from to wide (leb 1 n && leb n 4) (eqb (length c) 4 && eqb (length t) n && lean t n) (drop n t) (Whole.Is (value 0 (take n t))) Whole.Malformed
-      (Whole.Is v) (no_whole v) h
+      row-widens from to wide (leb 1 n && leb n 4) (eqb (length c) 4 && eqb (length t) n && lean t n) (drop n t) (Some (value 0 (take n t))) None
+      (Some v) (no_whole v) h
 
   -- a real that one mode takes, a wider one takes with the same value
-  pub real-widens : (z : ℤ) → real_of from c ≡ Decimal.Is z → real_of to c ≡ Decimal.Is z
+  pub real-widens : (z : ℤ) → real_of from c ≡ Some z → real_of to c ≡ Some z
   unfolding real_of real_signed real_at real_is
   real-widens z h =
       let sign = sign_of (unled c) in
       let u = drop (signs sign) (unled c) in
       let n = run digit u in
-      row-widens from to wide (is_token sign u n) (is_neat (length c) sign u n) (drop (n + 4) u) (Decimal.Is (signed sign (thousandths u n))) Decimal.Malformed (Decimal.Is z)
+      row-widens from to wide (is_token sign u n) (is_neat (length c) sign u n) (drop (n + 4) u) (Some (signed sign (thousandths u n))) None (Some z)
       (no-decimal z) h
 
 -- ---- notes
@@ -128,56 +125,56 @@ row-noted a x s y z e = rw (not-true (all blank s) (and_right (parted s) (not (a
 
 module _ (c : List ℕ) where
   -- an integer that the former reading takes and loose mode does not has a note behind its digits
-  integer-note : (v : ℕ) → integer_of Former c ≡ Whole.Is v → integer_of Loose c ≡ Whole.Malformed → is_note (behind_integer c) ≡ true
+  integer-note : (v : ℕ) → integer_of Former c ≡ Some v → integer_of Loose c ≡ None → is_note (behind_integer c) ≡ true
   unfolding integer_of integer_at integer_is behind_integer
   integer-note v h k =
       let t = unled c in
       let n = run digit t in
-      row-note (leb 1 n && leb n 4) (eqb (length c) 4 && eqb (length t) n && lean t n) (drop n t) (Whole.Is (value 0 (take n t))) Whole.Malformed
-      (Whole.Is v) (no_whole v) h k (λ e. no_whole (value 0 (take n t)) (sym e))
+      row-note (leb 1 n && leb n 4) (eqb (length c) 4 && eqb (length t) n && lean t n) (drop n t) (Some (value 0 (take n t))) None
+      (Some v) (no_whole v) h k (λ e. no_whole (value 0 (take n t)) (sym e))
 
   -- and with a note loose mode takes none
-  pub integer-noted : is_note (behind_integer c) ≡ true → integer_of Loose c ≡ Whole.Malformed
+  pub integer-noted : is_note (behind_integer c) ≡ true → integer_of Loose c ≡ None
   unfolding integer_of integer_at integer_is behind_integer
   integer-noted e =
       let t = unled c in
       let n = run digit t in
-      row-noted (leb 1 n && leb n 4) true (drop n t) (Whole.Is (value 0 (take n t))) Whole.Malformed e
+      row-noted (leb 1 n && leb n 4) true (drop n t) (Some (value 0 (take n t))) None e
 
   -- a real has it behind its token
-  real-note : (z : ℤ) → real_of Former c ≡ Decimal.Is z → real_of Loose c ≡ Decimal.Malformed → is_note (behind_real c) ≡ true
+  real-note : (z : ℤ) → real_of Former c ≡ Some z → real_of Loose c ≡ None → is_note (behind_real c) ≡ true
   unfolding real_of real_signed real_at real_is behind_real unsigned
   real-note z h k =
       let sign = sign_of (unled c) in
       let u = drop (signs sign) (unled c) in
       let n = run digit u in
-      row-note (is_token sign u n) (is_neat (length c) sign u n) (drop (n + 4) u) (Decimal.Is (signed sign (thousandths u n))) Decimal.Malformed (Decimal.Is z)
+      row-note (is_token sign u n) (is_neat (length c) sign u n) (drop (n + 4) u) (Some (signed sign (thousandths u n))) None (Some z)
       (no-decimal z) h k (λ e. no-decimal (signed sign (thousandths u n)) (sym e))
 
   -- loose mode takes an integer as the former reading does, or there is a note
   pub integer-former : (P : Type 0) → (integer_of Loose c ≡ integer_of Former c → P) → (is_note (behind_integer c) ≡ true → P) → P
   integer-former P same note = go (integer_of Loose c) refl (integer_of Former c) refl
     where
-      go : (l : Whole) → integer_of Loose c ≡ l → (f : Whole) → integer_of Former c ≡ f → P
-      go (Whole.Is n) p f q = same (p ∙ sym (integer-widens Loose Former refl c n p))
-      go Whole.Malformed p (Whole.Is n) q = note (integer-note n q p)
-      go Whole.Malformed p Whole.Malformed q = same (p ∙ sym q)
+      go : (l : Option ℕ) → integer_of Loose c ≡ l → (f : Option ℕ) → integer_of Former c ≡ f → P
+      go (Some n) p f q = same (p ∙ sym (integer-widens Loose Former refl c n p))
+      go None p (Some n) q = note (integer-note n q p)
+      go None p None q = same (p ∙ sym q)
 
   pub real-former : (P : Type 0) → (real_of Loose c ≡ real_of Former c → P) → (is_note (behind_real c) ≡ true → P) → P
   real-former P same note = go (real_of Loose c) refl (real_of Former c) refl
     where
-      go : (l : Decimal) → real_of Loose c ≡ l → (f : Decimal) → real_of Former c ≡ f → P
-      go (Decimal.Is z) p f q = same (p ∙ sym (real-widens Loose Former refl c z p))
-      go Decimal.Malformed p (Decimal.Is z) q = note (real-note z q p)
-      go Decimal.Malformed p Decimal.Malformed q = same (p ∙ sym q)
+      go : (l : Option ℤ) → real_of Loose c ≡ l → (f : Option ℤ) → real_of Former c ≡ f → P
+      go (Some z) p f q = same (p ∙ sym (real-widens Loose Former refl c z p))
+      go None p (Some z) q = note (real-note z q p)
+      go None p None q = same (p ∙ sym q)
 
-  pub real-noted : is_note (behind_real c) ≡ true → real_of Loose c ≡ Decimal.Malformed
+  pub real-noted : is_note (behind_real c) ≡ true → real_of Loose c ≡ None
   unfolding real_of real_signed real_at real_is behind_real unsigned
   real-noted e =
       let sign = sign_of (unled c) in
       let u = drop (signs sign) (unled c) in
       let n = run digit u in
-      row-noted (is_token sign u n) true (drop (n + 4) u) (Decimal.Is (signed sign (thousandths u n))) Decimal.Malformed e
+      row-noted (is_token sign u n) true (drop (n + 4) u) (Some (signed sign (thousandths u n))) None e
 
 -- ---- ranges
 
@@ -198,18 +195,18 @@ front-lt t n k q h =
     omega (arith, value-lt (take n t) 0 1 (rw q (all-run digit t)) (omega arith), pow-le-pow_right {n = 10} (omega arith) {i = length (take n t)} {j = k} l)
 
 -- an integer is at most 9999
-pub integer-most : (mode : Mode) (c : List ℕ) (v : ℕ) → integer_of mode c ≡ Whole.Is v → v ≤ 9999
+pub integer-most : (mode : Mode) (c : List ℕ) (v : ℕ) → integer_of mode c ≡ Some v → v ≤ 9999
 unfolding integer_of integer_at integer_is
 integer-most mode c v h =
     let t = unled c in
     let n = run digit t in
     let x = not (is_exact mode) || eqb (length c) 4 && eqb (length t) n && lean t n in
-    let w = cond-first (leb 1 n && leb n 4 && ended mode (drop n t) && x) (Whole.Is (value 0 (take n t))) Whole.Malformed (Whole.Is v) (no_whole v) h in
+    let w = cond-first (leb 1 n && leb n 4 && ended mode (drop n t) && x) (Some (value 0 (take n t))) None (Some v) (no_whole v) h in
     let k = leb-true n 4 (and_right (leb 1 n) (leb n 4) (and_left (leb 1 n && leb n 4) (ended mode (drop n t)) (and_left (leb 1 n && leb n 4 && ended mode (drop n t)) x w.0))) in
     let e : value 0 (take n t) ≡ v = is-value (value 0 (take n t)) v w.1 in
     omega (arith, front-lt t n 4 refl k)
   where
-    is-value : (a b : ℕ) → Whole.Is a ≡ Whole.Is b → a ≡ b
+    is-value : (a b : ℕ) → Some a ≡ Some b → a ≡ b
     is-value a b e = cc
 
 -- a token's value: seven digits go with a sign
@@ -240,7 +237,7 @@ signed-in sign u n q h =
     (λ e. in-plus m (token-lt sign u n q h 8 (token-eight sign u n h)))
 
 -- a real is within the range
-pub real-in : (mode : Mode) (c : List ℕ) (z : ℤ) → real_of mode c ≡ Decimal.Is z → is_real z ≡ true
+pub real-in : (mode : Mode) (c : List ℕ) (z : ℤ) → real_of mode c ≡ Some z → is_real z ≡ true
 unfolding real_of real_signed real_at real_is
 real-in mode c z h =
     let sign = sign_of (unled c) in
@@ -248,9 +245,9 @@ real-in mode c z h =
     let n = run digit u in
     let end = ended mode (drop (n + 4) u) in
     let x = not (is_exact mode) || is_neat (length c) sign u n in
-    let w = cond-first (is_token sign u n && end && x) (Decimal.Is (signed sign (thousandths u n))) Decimal.Malformed (Decimal.Is z) (no-decimal z) h in
+    let w = cond-first (is_token sign u n && end && x) (Some (signed sign (thousandths u n))) None (Some z) (no-decimal z) h in
     let e : signed sign (thousandths u n) ≡ z = is-value (signed sign (thousandths u n)) z w.1 in
     rw (← e) (signed-in sign u n refl (and_left (is_token sign u n) end (and_left (is_token sign u n && end) x w.0)))
   where
-    is-value : (a b : ℤ) → Decimal.Is a ≡ Decimal.Is b → a ≡ b
+    is-value : (a b : ℤ) → Some a ≡ Some b → a ≡ b
     is-value a b e = cc

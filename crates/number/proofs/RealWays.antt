@@ -1,6 +1,6 @@
 -- The ways through the functions of a real, each with what the code has in hand there. Assumes nothing.
 use Prim.Native.Nat.{ℕ, zero, suc, ◌+◌, ◌-◌, ◌*◌, ◌^◌, ◌≤◌, ◌<◌}
-use mathlib.Core.Path.{◌≡◌, sym, ◌∙◌, ap}
+use mathlib.Core.Path.{◌≡◌, sym, ◌∙◌}
 use mathlib.Core.List.{List, [], ◌∷◌}
 use mathlib.Core.Bool.{Bool, true, false, cond, not, ◌&&◌}
 use native.Mathlib.Nat.{pow-le-pow_right}
@@ -13,16 +13,14 @@ use mir.Syntax.{w64}
 use mir.Val.{Fits, SFits, to_z, of_z}
 use mir.ValLaws.{to_z_pos, to_z-of_z}
 use borrow.Author.Tests.{eq-eqb, ne_eqb, le-leb, lt-leb, leb-true, eqb-true, not-true, not-false}
+use Rattle.std.specs.Prelude.{Option, Some, None}
 use Rattle.laws.specs.Lists.{run, all, tail}
-use Rattle.laws.proofs.Choice.{and_left, and_right}
+use Rattle.laws.proofs.Choice.{and_left, and_right, cond-elim}
 use Rattle.laws.proofs.ListLaws.{rest-is, run-le, all-run}
 use Rattle.record.specs.declared.Mode.{Mode}
 use Rattle.record.specs.Record.{is_exact}
-use Rattle.number.specs.Words.{blank, unled}
-use Rattle.number.specs.Number.{digit, value, ended, lean, sign_of, signs, signed, thousandths, is_token, is_neat, real_is, real_at, real_signed, real_of}
-use Rattle.number.specs.declared.Decimal.{Decimal}
-use Rattle.number.specs.declared.Decimal.TheVariants as Decimal
-use Rattle.number.proofs.IntegerWays.{eight}
+use Rattle.number.specs.Number.{digit, value, ended, sign_of, signs, signed, thousandths, is_token, is_neat, real_is, real_at, real_signed}
+use Rattle.number.proofs.IntegerWays.{eight, front_few, front_digits}
 
 -- ---- the sign
 
@@ -76,6 +74,9 @@ fits-minus : (m : ℕ) → m < 100000000000 → SFits w64 (neg_ℤ (pos m))
 fits-minus zero h = record { sfits = omega arith }
 fits-minus (suc m) h = record { sfits = omega arith }
 
+fits-plus : (m : ℕ) → m < 100000000000 → SFits w64 (pos m)
+fits-plus m h = record { sfits = omega arith }
+
 module _ (m : ℕ) (h : m < 100000000000) where
   as-plus : to_z w64 m ≡ pos m
   as-plus = to_z_pos w64 m (omega arith)
@@ -94,7 +95,7 @@ module _ (m : ℕ) (h : m < 100000000000) where
   unfolding signed
   plus-is sign e = as-plus ∙ rw (ne_eqb sign 45 e)
 
-pub ruleset sign-ways = (sign-none, sign-plus, sign-minus, sign-other, signs-zero, signs-one, minus-fits, minus_is, plus-is)
+pub ruleset sign_ways = (sign-none, sign-plus, sign-minus, sign-other, signs-zero, signs-one, minus-fits, minus_is, plus-is)
 
 -- ---- the token
 
@@ -135,14 +136,7 @@ module _ (sign : ℕ) (u : List ℕ) (n : ℕ) where
 pub places-within : (u : List ℕ) (n : ℕ) → run digit (drop (n + 1) u) ≡ 3 → n + 4 ≤ length u
 places-within u n h = omega (arith, run-le digit (drop (n + 1) u), length-drop (n + 1) u)
 
-module _ (sign n g : ℕ) (k : n ≤ 8) (w : g ≡ signs sign) where
-  pub width_fits : Fits w64 (g + n)
-  width_fits = record { fits = omega (arith, signs-most sign) }
-
-  pub width-fits-4 : Fits w64 (g + n + 4)
-  width-fits-4 = record { fits = omega (arith, signs-most sign) }
-
-pub ruleset token-ways = (token-none, token-many, token-point, token-cut, token-places, token-is, token-long, width_fits, width-fits-4)
+pub ruleset token_ways = (token-none, token-many, token-point, token-cut, token-places, token-is, token-long, signs-most)
 
 -- what a token has
 module _ (sign : ℕ) (u : List ℕ) (n : ℕ) (h : is_token sign u n ≡ true) where
@@ -178,117 +172,77 @@ module _ (u : List ℕ) (n : ℕ) where
     pub whole-within : n ≡ length (take n u)
     whole-within = sym (length-take-le n u (omega (arith, places-within u n h)))
 
-    pub places-ask : (length (places u n) ≤ 8) × (all digit (places u n) ≡ true)
-    places-ask = rw places-are (simp length-take (omega arith), rw (← h) (all-run digit (drop (n + 1) u)))
+    pub places_few : length (places u n) ≤ 8
+    places_few = rw places-are (simp length-take (omega arith))
 
-  module _ (k : n ≤ 8) (a : ℕ) (l : a < 10 ^ length (take n u)) where
-    whole-lt : a < 100000000
-    whole-lt =
-        let z : length (take n u) ≤ 8 = simp length-take (omega arith) in
-        omega (arith, eight (length (take n u)) z)
+    pub places_digits : all digit (places u n) ≡ true
+    places_digits = rw places-are (rw (← h) (all-run digit (drop (n + 1) u)))
 
-    pub whole-fits : Fits w64 (a * 1000)
-    whole-fits = record { fits = omega (arith, whole-lt) }
+  pub whole_lt : n ≤ 8 → 10 ^ length (take n u) ≤ 100000000
+  whole_lt k = eight (length (take n u)) (simp length-take (omega arith))
 
-    module _ (b : ℕ) (o : b < 10 ^ length (places u n)) where
-      pub value-lt : a * 1000 + b < 100000000000
-      value-lt =
-          let z : length (places u n) ≤ 3 = simp length-take (omega arith) in
-          omega (arith, whole-lt, pow-le-pow_right {n = 10} (omega arith) {i = length (places u n)} {j = 3} z)
+  pub places_lt : 10 ^ length (places u n) ≤ 1000
+  places_lt =
+      let z : length (places u n) ≤ 3 = simp length-take (omega arith) in
+      pow-le-pow_right {n = 10} (omega arith) {i = length (places u n)} {j = 3} z
 
-      pub value-lt-fits : Fits w64 (a * 1000 + b)
-      value-lt-fits = record { fits = omega (arith, value-lt) }
-
-  pub value-is : (a b : ℕ) → a ≡ value 0 (take n u) → b ≡ value 0 (places u n) → a * 1000 + b ≡ thousandths u n
+  pub value_is : thousandths u n ≡ value 0 (take n u) * 1000 + value 0 (places u n)
   unfolding thousandths
-  value-is a b d e = rw (d, e, places-are)
+  value_is = rw places-are
 
-pub ruleset thousand-ways = (places-within, whole-within, places-ask, whole-fits, value-lt, value-lt-fits, value-is)
-
--- ---- what exact mode asks besides
-
-module _ (size sign : ℕ) (u : List ℕ) (n : ℕ) where
-  pub neat-size : (size ≡ 12 → ⊥) → false ≡ is_neat size sign u n
-  unfolding is_neat
-  neat-size a = rw (ne_eqb size 12 a)
-
-  module _ (a : size ≡ 12) where
-    pub neat-more : (length u ≡ n + 4 → ⊥) → false ≡ is_neat size sign u n
-    unfolding is_neat
-    neat-more b = rw (eq-eqb size 12 a, ne_eqb (length u) (n + 4) b)
-
-    module _ (b : length u ≡ n + 4) where
-      pub neat-plus : sign ≡ 43 → false ≡ is_neat size sign u n
-      unfolding is_neat
-      neat-plus d = rw (eq-eqb size 12 a, eq-eqb (length u) (n + 4) b, eq-eqb sign 43 d)
-
-      module _ (d : sign ≡ 43 → ⊥) where
-        pub neat-zero : (m : ℕ) → m ≡ thousandths u n → sign ≡ 45 → m ≡ 0 → false ≡ is_neat size sign u n
-        unfolding is_neat
-        neat-zero m q e f = rw (eq-eqb size 12 a, eq-eqb (length u) (n + 4) b, ne_eqb sign 43 d, eq-eqb sign 45 e, ← q, eq-eqb m 0 f)
-
-        module _ (r : Bool) (o : r ≡ lean u n) where
-          pub neat-minus : (m : ℕ) → m ≡ thousandths u n → sign ≡ 45 → (m ≡ 0 → ⊥) → r ≡ is_neat size sign u n
-          unfolding is_neat
-          neat-minus m q e f = rw (o, eq-eqb size 12 a, eq-eqb (length u) (n + 4) b, ne_eqb sign 43 d, eq-eqb sign 45 e, ← q, ne_eqb m 0 f)
-
-          pub neat-none : (sign ≡ 45 → ⊥) → r ≡ is_neat size sign u n
-          unfolding is_neat
-          neat-none e = rw (o, eq-eqb size 12 a, eq-eqb (length u) (n + 4) b, ne_eqb sign 43 d, ne_eqb sign 45 e)
-
-pub ruleset neat-ways = (neat-size, neat-more, neat-plus, neat-zero, neat-minus, neat-none)
+pub ruleset thousand_ways = (front_few, front_digits, places-within, whole-within, places_few, places_digits, whole_lt, places_lt, value_is)
 
 -- ---- the real: n digits stand at the front of u
 
--- what `thousandths_of` and `is_neat` ask
-module _ (sign : ℕ) (u : List ℕ) (n : ℕ) (r : Bool) (e : r ≡ is_token sign u n) (f : not r ≡ false) where
-  pub token-asks : n ≡ run digit u → (n ≡ run digit u) × (n ≤ 8) × (run digit (drop (n + 1) u) ≡ 3)
-  token-asks q = (q, token-eight sign u n (sym e ∙ not-false r f), token-three sign u n (sym e ∙ not-false r f))
+-- what `thousandths_of` and `is_neat` ask, and what stands behind it begins in the list
+module _ (sign : ℕ) (u : List ℕ) (n : ℕ) (r : Bool) (e : r ≡ is_token sign u n) (f : r ≡ true) where
+  pub token_most : n ≤ 8
+  token_most = token-eight sign u n (sym e ∙ f)
 
-  pub neat-asks : (m : ℕ) → m ≡ thousandths u n → (m ≡ thousandths u n) × (n ≤ 8)
-  neat-asks m w = (w, token-eight sign u n (sym e ∙ not-false r f))
+  pub token_places : run digit (drop (n + 1) u) ≡ 3
+  token_places = token-three sign u n (sym e ∙ f)
 
-  -- what stands behind it begins in the list
   pub token-within : n + 4 ≤ length u
-  token-within = places-within u n (token-three sign u n (sym e ∙ not-false r f))
+  token-within = places-within u n token_places
 
   pub token-fits : Fits w64 (n + 4)
-  token-fits = record { fits = omega (arith, token-eight sign u n (sym e ∙ not-false r f)) }
+  token-fits = record { fits = omega (arith, token_most) }
+
+-- a signed number in an Option is read back from its bits
+pub signed_back : (sign m : ℕ) → m < 100000000000 → to_z w64 (of_z w64 (signed sign m)) ≡ signed sign m
+unfolding signed
+signed_back sign m h =
+    to_z-of_z w64 (signed sign m) (cond-elim (SFits w64) (eqb sign 45) (neg_ℤ (pos m)) (pos m) (λ _. fits-minus m h) (λ _. fits-plus m h))
 
 module _ (mode : Mode) (size sign : ℕ) (u : List ℕ) (n : ℕ) (q : n ≡ run digit u) (r : Bool) (e : r ≡ is_token sign u n) where
-  pub real-bad : not r ≡ true → Decimal.Malformed ≡ real_at mode size sign u
+  pub real-bad : not r ≡ true → None ≡ real_at mode size sign u
   unfolding real_at real_is
   real-bad f = rw (← q, ← e, not-true r f)
 
   module _ (f : not r ≡ false) (b : Bool) (g : b ≡ ended mode (tail u (n + 4))) where
-    pub real-tail : not b ≡ true → Decimal.Malformed ≡ real_at mode size sign u
+    pub real-tail : not b ≡ true → None ≡ real_at mode size sign u
     unfolding real_at real_is
     real-tail h = rw (← q, ← e, not-false r f, ← rest-is u (n + 4), ← g, not-true b h)
 
     module _ (h : not b ≡ false) (a : Bool) (j : a ≡ is_exact mode) where
-      -- a signed number in an enum is read back from its bits
-      pub real-loose : (z : ℤ) (m : ℕ) → SFits w64 z → a ≡ false → m ≡ thousandths u n → z ≡ signed sign m
-          → Decimal.Is (to_z w64 (of_z w64 z)) ≡ real_at mode size sign u
+      pub real-loose : (z : ℤ) (m : ℕ) → m < 100000000000 → a ≡ false → m ≡ thousandths u n → z ≡ signed sign m → Some (to_z w64 (of_z w64 z)) ≡ real_at mode size sign u
       unfolding real_at real_is
-      real-loose z m o l w v = ap Decimal.Is (to_z-of_z w64 z o) ∙ rw (← q, ← e, not-false r f, ← rest-is u (n + 4), ← g, not-false b h, ← j, l, v, w)
+      real-loose z m o l w v = rw (v, signed_back sign m o, ← q, ← e, not-false r f, ← rest-is u (n + 4), ← g, not-false b h, ← j, l, w)
 
       module _ (x : a ≡ true) (k : Bool) (o : k ≡ is_neat size sign u n) where
-        pub real-exact : (z : ℤ) (m : ℕ) → SFits w64 z → k ≡ true → m ≡ thousandths u n → z ≡ signed sign m
-            → Decimal.Is (to_z w64 (of_z w64 z)) ≡ real_at mode size sign u
+        pub real-exact : (z : ℤ) (m : ℕ) → m < 100000000000 → k ≡ true → m ≡ thousandths u n → z ≡ signed sign m → Some (to_z w64 (of_z w64 z)) ≡ real_at mode size sign u
         unfolding real_at real_is
-        real-exact z m p l w v = ap Decimal.Is (to_z-of_z w64 z p) ∙ rw (← q, ← e, not-false r f, ← rest-is u (n + 4), ← g, not-false b h, ← j, x, ← o, l, v, w)
+        real-exact z m p l w v = rw (v, signed_back sign m p, ← q, ← e, not-false r f, ← rest-is u (n + 4), ← g, not-false b h, ← j, x, ← o, l, w)
 
-        pub real-untidy : k ≡ false → Decimal.Malformed ≡ real_at mode size sign u
+        pub real-untidy : k ≡ false → None ≡ real_at mode size sign u
         unfolding real_at real_is
         real-untidy l = rw (← q, ← e, not-false r f, ← rest-is u (n + 4), ← g, not-false b h, ← j, x, ← o, l)
 
-pub ruleset real-ways = (token-within, token-fits, real-bad, real-tail, real-loose, real-exact, real-untidy)
+pub ruleset real_ways = (token_most, token_places, token-within, token-fits, signed_back, real-bad, real-tail, real-loose, real-exact, real-untidy)
 
-pub signed_is : (mode : Mode) (size : ℕ) (t : List ℕ) (sign k : ℕ) (d : Decimal) → sign ≡ sign_of t → k ≡ signs sign → d ≡ real_at mode size sign (tail t k)
+pub signed_is : (mode : Mode) (size : ℕ) (t : List ℕ) (sign k : ℕ) (d : Option ℤ) → sign ≡ sign_of t → k ≡ signs sign → d ≡ real_at mode size sign (tail t k)
     → d ≡ real_signed mode size t
 unfolding real_signed
 signed_is mode size t sign k d q p e = e ∙ rw (rest-is t k, p, q)
 
-pub real-is : (mode : Mode) (c : List ℕ) (k : ℕ) (d : Decimal) → k ≡ run blank c → d ≡ real_signed mode (length c) (tail c k) → d ≡ real_of mode c
-unfolding real_of unled
-real-is mode c k d q e = e ∙ rw (rest-is c k, q)
+pub ruleset signed_ways = (signs-within, signed_is)

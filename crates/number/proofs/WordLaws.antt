@@ -10,6 +10,7 @@ use lib.ListN.{length, get_or, take, drop, length-drop}
 use lib.Seq.{take-length, get_or-take, get_or-drop}
 use lib.Dec.{eqb}
 use borrow.Author.Tests.{eq-eqb, eqb-true}
+use Rattle.std.specs.Prelude.{None}
 use Rattle.laws.specs.Lists.{run, kept, all}
 use Rattle.laws.proofs.Choice.{cond-first}
 use Rattle.laws.proofs.ListLaws.{run-le, run-fails, kept-le, kept-last, kept_whole, all_take, all_drop}
@@ -17,9 +18,8 @@ use Rattle.record.specs.declared.Mode.{Mode}
 use Rattle.record.specs.declared.Mode.TheVariants.{Loose, Exact, Former}
 use Rattle.record.specs.Record.{is_exact, widens, plain}
 use Rattle.record.proofs.RecordLaws.{rule-widens}
-use Rattle.number.specs.Words.{blank, unled, trimmed, word_of}
+use Rattle.number.specs.Words.{blank, unled, trimmed, word_at, word_of}
 use Rattle.number.specs.declared.Word.{Word}
-use Rattle.number.specs.declared.Word.TheVariants as Word
 use Rattle.number.proofs.WordWays.{trimmed-kept}
 
 -- ---- trimmed contents
@@ -65,18 +65,21 @@ trimmed-plain c e = all_take plain (unled c) (kept blank (unled c)) (all_drop pl
 -- ---- words
 
 -- what is told of a word, by the test that passed
-module _ (mode : Mode) (c : List ℕ) (start len : ℕ) (h : word_of mode c ≡ Word.Is start len) where
-  word-by : ((not (is_exact mode) || eqb (length (trimmed c)) (length c)) ≡ true) × (Word.Is (run blank c) (length (trimmed c)) ≡ Word.Is start len)
+module _ (mode : Mode) (c : List ℕ) (start len : ℕ) (h : word_of mode c ≡ word_at start len) where
+  word-by : ((not (is_exact mode) || eqb (length (trimmed c)) (length c)) ≡ true) × (word_at (run blank c) (length (trimmed c)) ≡ word_at start len)
   unfolding word_of
   word-by =
-      cond-first (not (is_exact mode) || eqb (length (trimmed c)) (length c)) (Word.Is (run blank c) (length (trimmed c))) Word.Padded (Word.Is start len)
+      cond-first (not (is_exact mode) || eqb (length (trimmed c)) (length c)) (word_at (run blank c) (length (trimmed c))) None (word_at start len)
       (λ e. let z : ◌≡◌ {A = ℕ} 0 1 = cc in omega arith) h
 
+  word-same : ◌≡◌ {A = Word} (record { start = run blank c; len = length (trimmed c) }) (record { start = start; len = len })
+  word-same = let e = word-by.1 in cc
+
   word-start : run blank c ≡ start
-  word-start = let e = word-by.1 in cc
+  word-start = ap (λ (w : Word). w.start) word-same
 
   word_len : length (trimmed c) ≡ len
-  word_len = let e = word-by.1 in cc
+  word_len = ap (λ (w : Word). w.len) word-same
 
   -- a word lies in its content, and is the content without the blanks at its ends
   pub word-is : (start + len ≤ length c) × (take len (drop start c) ≡ trimmed c) × (len ≡ length (trimmed c))
@@ -84,7 +87,7 @@ module _ (mode : Mode) (c : List ℕ) (start len : ℕ) (h : word_of mode c ≡ 
   word-is = (omega (arith, led-in c, word-start, word_len), rw (← word-start, ← word_len, trimmed-kept c), sym word_len)
 
 -- in exact mode it is the whole content
-pub word-exact : (c : List ℕ) (start len : ℕ) → word_of Exact c ≡ Word.Is start len → (trimmed c ≡ c) × (start ≡ 0) × (len ≡ length c)
+pub word-exact : (c : List ℕ) (start len : ℕ) → word_of Exact c ≡ word_at start len → (trimmed c ≡ c) × (start ≡ 0) × (len ≡ length c)
 word-exact c start len h =
     let w = word-is Exact c start len h in
     let k : length (trimmed c) ≡ length c = eqb-true (length (trimmed c)) (length c) (word-by Exact c start len h).0 in
@@ -93,7 +96,7 @@ word-exact c start len h =
     (sym w.1 ∙ rw (s, l) (take-length c), s, l)
 
 -- a content with no blank at either end is read in every mode
-pub word-make : (mode : Mode) (c : List ℕ) → blank (get_or c 0 0) ≡ false → blank (get_or c (length c - 1) 0) ≡ false → word_of mode c ≡ Word.Is 0 (length c)
+pub word-make : (mode : Mode) (c : List ℕ) → blank (get_or c 0 0) ≡ false → blank (get_or c (length c - 1) 0) ≡ false → word_of mode c ≡ word_at 0 (length c)
 unfolding word_of
 word-make mode c f l =
     let e = untrimmed c f l in
@@ -101,13 +104,13 @@ word-make mode c f l =
     let s : run blank c ≡ 0 = omega (arith, led-in c) in
     rw (eq-eqb (length (trimmed c)) (length c) k, k, s) (go mode)
   where
-    go : (m : Mode) → cond (not (is_exact m) || true) (Word.Is 0 (length c)) Word.Padded ≡ Word.Is 0 (length c)
+    go : (m : Mode) → cond (not (is_exact m) || true) (word_at 0 (length c)) None ≡ word_at 0 (length c)
     go Loose = refl
     go Exact = refl
     go Former = refl
 
 -- what one mode takes, a wider one takes as the same
-pub word-widens : (from to : Mode) → widens from to ≡ true → (c : List ℕ) (start len : ℕ) → word_of from c ≡ Word.Is start len → word_of to c ≡ Word.Is start len
+pub word-widens : (from to : Mode) → widens from to ≡ true → (c : List ℕ) (start len : ℕ) → word_of from c ≡ word_at start len → word_of to c ≡ word_at start len
 unfolding word_of
 word-widens from to wide c start len h =
     let w = word-by from c start len h in

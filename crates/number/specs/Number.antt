@@ -1,16 +1,12 @@
 -- The numbers that a record's content holds: document 01, "Records"; what may stand behind them: document 02, T-09. Assumes nothing: these are definitions.
 -- Each form is one row of tests, left to right as the characters stand; what exact mode asks besides stands at its end.
-use Rattle.std.specs.Prelude.{ℕ, ◌+◌, ◌-◌, ◌*◌, List, [], ◌∷◌, Bool, true, cond, not, ◌&&◌, ◌||◌, length, get_or, take, drop, leb, eqb, ℤ, pos, neg_ℤ}
+use Rattle.std.specs.Prelude.{ℕ, ◌+◌, ◌-◌, ◌*◌, List, [], ◌∷◌, Bool, true, cond, not, ◌&&◌, ◌||◌, length, get_or, take, drop, leb, eqb, ℤ, pos, neg_ℤ, Option, Some, None}
 use Rattle.std.specs.Int.Signed.{le_z}
 use Rattle.laws.specs.Lists.{run, all}
 use Rattle.record.specs.declared.Mode.{Mode}
 use Rattle.record.specs.Record.{is_exact, is_former}
 use Rattle.record.specs.Refusals.{malformed}
 use Rattle.number.specs.Words.{blank, unled}
-use Rattle.number.specs.declared.Whole.{Whole}
-use Rattle.number.specs.declared.Whole.TheVariants as Whole
-use Rattle.number.specs.declared.Decimal.{Decimal}
-use Rattle.number.specs.declared.Decimal.TheVariants as Decimal
 
 abbrev pub digit : ℕ → Bool
 digit b = leb 48 b && leb b 57
@@ -42,16 +38,16 @@ lean t n = eqb n 1 || not (eqb (get_or t 0 0) 48)
 -- any blanks, 1 to 4 digits, then what the mode lets stand behind a number;
 -- exact: 4 characters, right aligned with blanks, no zero in front except for 0 itself
 -- (`size` is the content's length, `t` what follows its blanks, `n` the digits at the front of that)
-unfoldable pub integer_is : Mode → ℕ → List ℕ → ℕ → Whole
+unfoldable pub integer_is : Mode → ℕ → List ℕ → ℕ → Option ℕ
 integer_is mode size t n =
     cond (leb 1 n && leb n 4 && ended mode (drop n t) && (not (is_exact mode) || eqb size 4 && eqb (length t) n && lean t n))
-    (Whole.Is (value 0 (take n t)))
-    Whole.Malformed
+    (Some (value 0 (take n t)))
+    None
 
-unfoldable pub integer_at : Mode → ℕ → List ℕ → Whole
+unfoldable pub integer_at : Mode → ℕ → List ℕ → Option ℕ
 integer_at mode size t = integer_is mode size t (run digit t)
 
-unfoldable pub integer_of : Mode → List ℕ → Whole
+unfoldable pub integer_of : Mode → List ℕ → Option ℕ
 integer_of mode c = integer_at mode (length c) (unled c)
 
 -- what stands behind its digits
@@ -86,17 +82,17 @@ is_neat size sign u n =
     eqb size 12 && eqb (length u) (n + 4) && not (eqb sign 43) && not (eqb sign 45 && eqb (thousandths u n) 0) && lean u n
 
 -- a token, then what the mode lets stand behind a number
-unfoldable pub real_is : Mode → ℕ → ℕ → List ℕ → ℕ → Decimal
+unfoldable pub real_is : Mode → ℕ → ℕ → List ℕ → ℕ → Option ℤ
 real_is mode size sign u n =
-    cond (is_token sign u n && ended mode (drop (n + 4) u) && (not (is_exact mode) || is_neat size sign u n)) (Decimal.Is (signed sign (thousandths u n))) Decimal.Malformed
+    cond (is_token sign u n && ended mode (drop (n + 4) u) && (not (is_exact mode) || is_neat size sign u n)) (Some (signed sign (thousandths u n))) None
 
-unfoldable pub real_at : Mode → ℕ → ℕ → List ℕ → Decimal
+unfoldable pub real_at : Mode → ℕ → ℕ → List ℕ → Option ℤ
 real_at mode size sign u = real_is mode size sign u (run digit u)
 
-unfoldable pub real_signed : Mode → ℕ → List ℕ → Decimal
+unfoldable pub real_signed : Mode → ℕ → List ℕ → Option ℤ
 real_signed mode size t = real_at mode size (sign_of t) (drop (signs (sign_of t)) t)
 
-unfoldable pub real_of : Mode → List ℕ → Decimal
+unfoldable pub real_of : Mode → List ℕ → Option ℤ
 real_of mode c = real_signed mode (length c) (unled c)
 
 -- what follows its sign, and what stands behind its token
@@ -118,18 +114,18 @@ is_real z = le_z real_least z && le_z z real_most
 
 -- ---- the paper's number and value: 8, and no value, where it is malformed
 
-abbrev pub integer_number : Whole → ℕ
-integer_number (Whole.Is n) = 0
-integer_number Whole.Malformed = malformed
+abbrev pub integer_number : Option ℕ → ℕ
+integer_number (Some n) = 0
+integer_number None = malformed
 
-abbrev pub integer_value : Whole → ℤ
-integer_value (Whole.Is n) = pos n
-integer_value Whole.Malformed = pos 0
+abbrev pub integer_value : Option ℕ → ℤ
+integer_value (Some n) = pos n
+integer_value None = pos 0
 
-abbrev pub real_number : Decimal → ℕ
-real_number (Decimal.Is z) = 0
-real_number Decimal.Malformed = malformed
+abbrev pub real_number : Option ℤ → ℕ
+real_number (Some z) = 0
+real_number None = malformed
 
-abbrev pub real_value : Decimal → ℤ
-real_value (Decimal.Is z) = z
-real_value Decimal.Malformed = pos 0
+abbrev pub real_value : Option ℤ → ℤ
+real_value (Some z) = z
+real_value None = pos 0

@@ -4,220 +4,172 @@
 
 ghost use Rattle.std.specs.Prelude.{◌≡◌, true, ◌+◌, ◌^◌, ◌<◌, ◌≤◌, length, drop};
 ghost use Rattle.laws.specs.Lists.{run, kept, all};
-ghost use Rattle.number.specs.Words.{blank, word_of};
+ghost use Rattle.number.specs.Words.{blank, unled, word_of};
 ghost use Rattle.number.specs.Number.{digit, value, parted, ended, lean, integer_at, integer_of, sign_of, signs, signed, thousandths, is_token, is_neat, real_at, real_signed, real_of};
 
 use record::{Mode, is_exact, is_former};
 
-// The place and the length of a word in a content, or a blank at an end in exact mode.
+// The place and the length of a word in a content.
 #[derive(Clone, Copy)]
-pub enum Word {
-    Is { start: usize, len: usize },
-    Padded,
-}
-
-// A content as an integer.
-#[derive(Clone, Copy)]
-pub enum Whole {
-    Is(usize),
-    Malformed,
-}
-
-// A content as a real, in thousandths.
-#[derive(Clone, Copy)]
-pub enum Decimal {
-    Is(i64),
-    Malformed,
+pub struct Word {
+    pub start: usize,
+    pub len: usize,
 }
 
 const BLANK: u8 = 32;
 
 // How many blanks stand at the front.
+#[tactic(auto, using(laws::proofs::ListLaws::runs, crate::proofs::WordWays::blank_tests))]
 fn blanks(s: &[u8]) -> usize
     ensures { result ≡ run blank s.now }
 {
-    let mut i = 0;
-    while i < s.len() {
-        if s[i] != BLANK {
+    for (i, &b) in s.iter().enumerate() {
+        if b != BLANK {
             return i;
         }
-        i += 1;
     }
-    i
+    s.len()
 }
 
 // How many bytes are left when the blanks at the end are dropped.
+#[tactic(auto, using(crate::proofs::WordWays::padded_ways))]
 fn unpadded(s: &[u8]) -> usize
     ensures { result ≡ kept blank s.now }
 {
-    let mut i = s.len();
-    while i > 0 {
-        if s[i - 1] != BLANK {
-            return i;
-        }
-        i -= 1;
+    let mut left = s;
+    while let [front @ .., BLANK] = left {
+        left = front;
     }
-    i
+    left.len()
 }
 
-// A content as a word: keyword, first word, letters, name.
-pub fn word_of(c: &[u8], mode: Mode) -> Word
+// A content as a word: keyword, first word, letters, name. None: a blank at an end in exact mode.
+#[tactic(auto, using(laws::proofs::ListLaws::runs, crate::proofs::WordWays::word_ways))]
+pub fn word_of(c: &[u8], mode: Mode) -> Option<Word>
     ensures { result ≡ word_of mode c.now }
 {
     let start = blanks(c);
     let len = unpadded(&c[start..]);
-    if !is_exact(mode) {
-        return Word::Is { start, len };
+    if is_exact(mode) && len != c.len() {
+        return None;
     }
-    if len == c.len() {
-        return Word::Is { start, len };
-    }
-    Word::Padded
+    Some(Word { start, len })
 }
 
-fn wide(b: u8) -> usize
-    ensures { result ≡ b }
-{
-    b as usize
-}
-
-// How many digits stand at the front.
+// How many digits stand at the front. The loop is `plain_run`'s with another test: the test handed in as a closure is no plainer.
+#[tactic(auto, using(laws::proofs::ListLaws::runs, crate::proofs::IntegerWays::digit_tests))]
 fn digits(s: &[u8]) -> usize
     ensures { result ≡ run digit s.now }
 {
-    let mut i = 0;
-    while i < s.len() {
-        let b = s[i];
-        if b < b'0' {
+    for (i, &b) in s.iter().enumerate() {
+        if b < b'0' || b > b'9' {
             return i;
         }
-        if b > b'9' {
-            return i;
-        }
-        i += 1;
     }
-    i
+    s.len()
 }
 
 // The number that a few digits spell.
+#[tactic(auto, using(crate::proofs::IntegerWays::value_ways))]
 fn value_of(s: &[u8]) -> usize
     requires { (length s.now ≤ 8) × (all digit s.now ≡ true) }
     ensures { (result ≡ value 0 s.now) × (result < 10 ^ length s.now) }
 {
-    let mut v: usize = 0;
-    let mut i = 0;
-    while i < s.len() {
-        v = v * 10 + wide(s[i] - b'0');
-        i += 1;
+    let mut v = 0;
+    for &b in s {
+        v = v * 10 + usize::from(b - b'0');
     }
     v
 }
 
 // Blanks alone, or nothing.
+#[tactic(auto, using(laws::proofs::ListLaws::wholes))]
 fn are_blanks(s: &[u8]) -> bool
     ensures { result ≡ all blank s.now }
 {
-    if blanks(s) < s.len() {
-        return false;
-    }
-    true
+    blanks(s) == s.len()
 }
 
 // The end, or a blank and any tail.
+#[tactic(auto, unfolding(crate::specs::Number::parted))]
 fn is_parted(s: &[u8]) -> bool
     ensures { result ≡ parted s.now }
 {
-    if s.len() == 0 {
-        return true;
-    }
-    if s[0] == BLANK { true } else { false }
+    matches!(s, [] | [BLANK, ..])
 }
 
 // What may stand behind a number: blanks; in the former reading a blank and any tail.
+#[tactic(auto, unfolding(crate::specs::Number::ended))]
 fn is_ended(s: &[u8], mode: Mode) -> bool
     ensures { result ≡ ended mode s.now }
 {
     if is_former(mode) {
-        return is_parted(s);
+        is_parted(s)
+    } else {
+        are_blanks(s)
     }
-    are_blanks(s)
 }
 
 // Of `n` digits at the front, no zero comes first except where it is the only one.
+#[tactic(auto, unfolding(crate::specs::Number::lean))]
 fn is_lean(t: &[u8], n: usize) -> bool
     ensures { result ≡ lean t.now n }
 {
-    if n == 1 {
-        return true;
-    }
-    if t.len() == 0 {
-        return true;
-    }
-    if t[0] == b'0' { false } else { true }
+    n == 1 || !matches!(t, [b'0', ..])
 }
 
 // An integer, in what follows the blanks of a content of `size` bytes.
-fn integer_at(t: &[u8], size: usize, mode: Mode) -> Whole
+#[tactic(auto, using(laws::proofs::ListLaws::runs, crate::proofs::IntegerWays::integer_ways))]
+fn integer_at(t: &[u8], size: usize, mode: Mode) -> Option<usize>
     ensures { result ≡ integer_at mode size t.now }
 {
     let n = digits(t);
-    if n < 1 {
-        return Whole::Malformed;
+    if n < 1 || n > 4 || !is_ended(&t[n..], mode) {
+        return None;
     }
-    if n > 4 {
-        return Whole::Malformed;
+    if is_exact(mode) && (size != 4 || t.len() != n || !is_lean(t, n)) {
+        return None;
     }
-    if !is_ended(&t[n..], mode) {
-        return Whole::Malformed;
-    }
-    if !is_exact(mode) {
-        return Whole::Is(value_of(&t[..n]));
-    }
-    if size != 4 {
-        return Whole::Malformed;
-    }
-    if t.len() != n {
-        return Whole::Malformed;
-    }
-    if is_lean(t, n) {
-        return Whole::Is(value_of(&t[..n]));
-    }
-    Whole::Malformed
+    Some(value_of(&t[..n]))
+}
+
+// A content without the blanks at its front.
+#[tactic(auto, using(laws::proofs::ListLaws::runs), unfolding(crate::specs::Words::unled))]
+fn unled(c: &[u8]) -> &[u8]
+    ensures { result.now ≡ unled c.now }
+{
+    &c[blanks(c)..]
 }
 
 // A content as an integer.
-pub fn integer(c: &[u8], mode: Mode) -> Whole
+#[tactic(auto, unfolding(crate::specs::Number::integer_of))]
+pub fn integer(c: &[u8], mode: Mode) -> Option<usize>
     ensures { result ≡ integer_of mode c.now }
 {
-    let k = blanks(c);
-    integer_at(&c[k..], c.len(), mode)
+    integer_at(unled(c), c.len(), mode)
 }
 
 // The sign at the front: `+`, `-`, or 0 for none.
+#[tactic(auto, unfolding(crate::specs::Number::sign_of))]
 fn sign_of(t: &[u8]) -> u8
     ensures { result ≡ sign_of t.now }
 {
-    if t.len() == 0 {
-        return 0;
+    match t {
+        [b @ (b'+' | b'-'), ..] => *b,
+        _ => 0,
     }
-    let b = t[0];
-    if b == b'+' {
-        return b;
-    }
-    if b == b'-' {
-        return b;
-    }
-    0
 }
 
 // How many characters it takes.
+#[tactic(auto, unfolding(crate::specs::Number::signs))]
 fn sign_len(sign: u8) -> usize
     ensures { result ≡ signs sign }
 {
-    if sign == 0 { 0 } else { 1 }
+    usize::from(sign != 0)
 }
 
 // A number with its sign: the sign is the token's, not the whole part's.
+#[tactic(auto, using(crate::proofs::RealWays::sign_ways))]
 fn with_sign(sign: u8, m: usize) -> i64
     requires { m < 100000000000 }
     ensures { result ≡ signed sign m }
@@ -226,99 +178,62 @@ fn with_sign(sign: u8, m: usize) -> i64
 }
 
 // The value in thousandths of `n` digits at the front, a point and three digits.
+#[tactic(auto, using(crate::proofs::RealWays::thousand_ways))]
 fn thousandths_of(u: &[u8], n: usize) -> usize
     requires { (n ≡ run digit u.now) × (n ≤ 8) × (run digit (drop (n + 1) u.now) ≡ 3) }
     ensures { (result ≡ thousandths u.now n) × (result < 100000000000) }
 {
-    let a = n + 1;
-    let e = n + 4;
-    value_of(&u[..n]) * 1000 + value_of(&u[a..e])
+    value_of(&u[..n]) * 1000 + value_of(&u[n + 1..n + 4])
 }
 
 // A token: what follows the sign is `u`, with `n` digits at its front.
+#[tactic(auto, using(crate::proofs::RealWays::token_ways))]
 fn is_token(u: &[u8], n: usize, sign: u8) -> bool
     ensures { result ≡ is_token sign u.now n }
 {
-    if n < 1 {
+    if n < 1 || n > 8 || u.len() <= n || u[n] != b'.' {
         return false;
     }
-    if n > 8 {
-        return false;
-    }
-    if u.len() <= n {
-        return false;
-    }
-    if u[n] != b'.' {
-        return false;
-    }
-    let a = n + 1;
-    if digits(&u[a..]) != 3 {
-        return false;
-    }
-    if sign_len(sign) + n + 4 <= 12 {
-        true
-    } else {
-        false
-    }
+    digits(&u[n + 1..]) == 3 && sign_len(sign) + n + 4 <= 12
 }
 
 // What exact mode asks besides.
+#[tactic(auto, unfolding(crate::specs::Number::is_neat))]
 fn is_neat(u: &[u8], n: usize, size: usize, sign: u8, m: usize) -> bool
     requires { (m ≡ thousandths u.now n) × (n ≤ 8) }
     ensures { result ≡ is_neat size sign u.now n }
 {
-    if size != 12 {
-        return false;
-    }
-    if u.len() != n + 4 {
-        return false;
-    }
-    if sign == b'+' {
-        return false;
-    }
-    if sign == b'-' {
-        if m == 0 {
-            return false;
-        }
-        return is_lean(u, n);
-    }
-    is_lean(u, n)
+    size == 12 && u.len() == n + 4 && sign != b'+' && !(sign == b'-' && m == 0) && is_lean(u, n)
 }
 
 // A real, in what follows the blanks and the sign of a content of `size` bytes.
-fn real_at(u: &[u8], size: usize, sign: u8, mode: Mode) -> Decimal
+#[tactic(auto, using(crate::proofs::RealWays::real_ways))]
+fn real_at(u: &[u8], size: usize, sign: u8, mode: Mode) -> Option<i64>
     ensures { result ≡ real_at mode size sign u.now }
 {
     let n = digits(u);
-    if !is_token(u, n, sign) {
-        return Decimal::Malformed;
-    }
-    let e = n + 4;
-    if !is_ended(&u[e..], mode) {
-        return Decimal::Malformed;
+    if !is_token(u, n, sign) || !is_ended(&u[n + 4..], mode) {
+        return None;
     }
     let m = thousandths_of(u, n);
-    if is_exact(mode) {
-        if is_neat(u, n, size, sign, m) {
-            return Decimal::Is(with_sign(sign, m));
-        }
-        return Decimal::Malformed;
+    if is_exact(mode) && !is_neat(u, n, size, sign, m) {
+        return None;
     }
-    Decimal::Is(with_sign(sign, m))
+    Some(with_sign(sign, m))
 }
 
-fn real_signed(t: &[u8], size: usize, mode: Mode) -> Decimal
+#[tactic(auto, using(crate::proofs::RealWays::signed_ways))]
+fn real_signed(t: &[u8], size: usize, mode: Mode) -> Option<i64>
     ensures { result ≡ real_signed mode size t.now }
 {
     let sign = sign_of(t);
-    let k = sign_len(sign);
-    real_at(&t[k..], size, sign, mode)
+    real_at(&t[sign_len(sign)..], size, sign, mode)
 }
 
 // A content as a real, in thousandths.
-pub fn real(c: &[u8], mode: Mode) -> Decimal
+#[tactic(auto, unfolding(crate::specs::Number::real_of))]
+pub fn real(c: &[u8], mode: Mode) -> Option<i64>
     ensures { result ≡ real_of mode c.now }
 {
-    let k = blanks(c);
-    real_signed(&c[k..], c.len(), mode)
+    real_signed(unled(c), c.len(), mode)
 }

@@ -1,10 +1,9 @@
 -- Parts of a list up to a place, or from a place on, where a place past the end is the end. Assumes nothing.
 use Prim.Native.Nat.{ℕ, zero, suc, min}
-use mathlib.Core.Path.{◌≡◌, refl, sym, ap, ◌∙◌}
+use mathlib.Core.Path.{◌≡◌, refl, ap, ◌∙◌}
 use mathlib.Core.List.{List, [], ◌∷◌}
 use native.Mathlib.Omega.{arith}
 use lib.ListN.{length, take, drop}
-use lib.Seq.{length-take-le}
 use Rattle.laws.specs.Lists.{tail}
 use Rattle.laws.proofs.ListLaws.{rest-is}
 
@@ -33,6 +32,3 @@ module _ {A : Type 0} where
 
   pub tail-clip : (k : ℕ) (s : List A) (n : ℕ) → n ≡ min k (length s) → tail s n ≡ drop k s
   tail-clip k s n e = rest-is s n ∙ drop-clip k s n e
-
-  pub count-clip : (k : ℕ) (s : List A) (n : ℕ) → n ≡ min k (length s) → n ≡ length (take n s)
-  count-clip k s n e = sym (length-take-le n s (omega arith))

@@ -8,16 +8,15 @@ use mathlib.Core.Logic.{◌⊎◌, inl, inr}
 use native.Mathlib.Omega.{arith}
 use lib.ListN.{length, take, length-take}
 use lib.IntN.{ℤ}
+use Rattle.std.specs.Prelude.{Option, Some, None}
 use Rattle.laws.proofs.Choice.{false≢true}
 use Rattle.heading.specs.declared.Header.{Header}
 use Rattle.sheet.specs.Tables.{Tables}
 use Rattle.made.specs.Made.{tables_of, letters_of}
 use Rattle.row.specs.declared.Stand.{Stand}
 use Rattle.row.specs.Walk.{left_at}
-use Rattle.order.specs.declared.Comes.{Comes}
-use Rattle.order.specs.declared.Comes.TheVariants.{Before, Same, After}
-use Rattle.order.specs.declared.Since.{Since}
-use Rattle.order.specs.declared.Since.TheVariants.{First, Past}
+use Rattle.std.specs.declared.cmp.Ordering.{Ordering}
+use Rattle.std.specs.declared.cmp.Ordering.TheVariants.{Less, Equal, Greater}
 use Rattle.order.specs.declared.Window.{Window}
 use Rattle.order.specs.Compare.{is_after, by_bytes}
 use Rattle.order.specs.Sorting.{sort_by, filter, EachOf, EachOf.each_nil, EachOf.each_on, Sorted, Sorted.sorted-nil, Sorted.sorted-on}
@@ -59,13 +58,12 @@ module _ {A : Type 0} (lt : A → A → Bool) (p : A → Bool) (down : (x y : A)
 
 -- ---- the window on those that pass a test as well
 
-unfoldable pub window_among : Header → ℕ → Tables → Since → (Stand → Bool) → List Stand
+unfoldable pub window_among : Header → ℕ → Tables → Option Stand → (Stand → Bool) → List Stand
 window_among h count t since p = take window_width (sort_by (goes_before t) (filter p (filter (is_past t since) (sup_borders h count t))))
 
 -- ---- letters
 
 none_after : (s : List ℕ) → is_after (by_bytes [] s) ≡ false
-unfolding by_bytes
 none_after [] = refl
 none_after (b ∷ s) = refl
 
@@ -74,28 +72,28 @@ module _ (t : Tables) where
   code d = letters_of (left_at t d)
 
   -- letters decide first
-  letters-after : (a b : Stand) → by_bytes (code a) (code b) ≡ After → goes_before t a b ≡ false
+  letters-after : (a b : Stand) → by_bytes (code a) (code b) ≡ Greater → goes_before t a b ≡ false
   unfolding goes_before comes_at by_code_and_net
   letters-after a b e = rw e
 
-  letters-before : (a b : Stand) → by_bytes (code a) (code b) ≡ Before → goes_before t a b ≡ true
+  letters-before : (a b : Stand) → by_bytes (code a) (code b) ≡ Less → goes_before t a b ≡ true
   unfolding goes_before comes_at by_code_and_net
   letters-before a b e = rw e
 
   -- what comes before the border that was had last, by its letters, is not past it
-  module _ (since : Since) (d : Stand) where
+  module _ (since : Option Stand) (d : Stand) where
     before-first : is_after (by_bytes (since_letters t since) (code d)) ≡ true → is_past t since d ≡ false
     unfolding since_letters is_past
     before-first = go since
       where
-        one : (a : Stand) (x : Comes) → by_bytes (code a) (code d) ≡ x → is_after x ≡ true → goes_before t a d ≡ false
-        one a Before q e = absurd (false≢true e)
-        one a Same q e = absurd (false≢true e)
-        one a After q e = letters-after a d q
+        one : (a : Stand) (x : Ordering) → by_bytes (code a) (code d) ≡ x → is_after x ≡ true → goes_before t a d ≡ false
+        one a Less q e = absurd (false≢true e)
+        one a Equal q e = absurd (false≢true e)
+        one a Greater q e = letters-after a d q
 
-        go : (v : Since) → is_after (by_bytes (since_letters t v) (code d)) ≡ true → is_past t v d ≡ false
-        go First e = absurd (false≢true (sym (none_after (code d)) ∙ e))
-        go (Past a) e = one a (by_bytes (code a) (code d)) refl e
+        go : (v : Option Stand) → is_after (by_bytes (since_letters t v) (code d)) ≡ true → is_past t v d ≡ false
+        go None e = absurd (false≢true (sym (none_after (code d)) ∙ e))
+        go (Some a) e = one a (by_bytes (code a) (code d)) refl e
 
   -- ---- the guide
 
@@ -107,18 +105,18 @@ module _ (t : Tables) where
     unfolding is_up_to
     up-down x y e = go guided
       where
-        on : (v u : Comes) → by_bytes (code y) (code x) ≡ v → by_bytes (code y) guide ≡ u → not (is_after u) ≡ true → not (is_after (by_bytes (code x) guide)) ≡ true
-        on Before u p q f = absurd (false≢true (sym e ∙ letters-before y x p))
-        on Same u p q f = rw (← bytes-total.alike (code y) (code x) guide p, q) f
-        on After Before p q f = rw (bytes-total.through (code x) (code y) guide (bytes-total.turn (code y) (code x) ∙ ap turned p) q)
-        on After Same p q f = rw (alike_right bytes-total (code x) (code y) guide q, bytes-total.turn (code y) (code x), p)
-        on After After p q f = absurd (false≢true f)
+        on : (v u : Ordering) → by_bytes (code y) (code x) ≡ v → by_bytes (code y) guide ≡ u → not (is_after u) ≡ true → not (is_after (by_bytes (code x) guide)) ≡ true
+        on Less u p q f = absurd (false≢true (sym e ∙ letters-before y x p))
+        on Equal u p q f = rw (← bytes-total.alike (code y) (code x) guide p, q) f
+        on Greater Less p q f = rw (bytes-total.through (code x) (code y) guide (bytes-total.turn (code y) (code x) ∙ ap turned p) q)
+        on Greater Equal p q f = rw (alike_right bytes-total (code x) (code y) guide q, bytes-total.turn (code y) (code x), p)
+        on Greater Greater p q f = absurd (false≢true f)
 
         go : (g : Bool) → is_up_to guide g (code y) ≡ true → is_up_to guide g (code x) ≡ true
         go false f = refl
         go true f = on (by_bytes (code y) (code x)) (by_bytes (code y) guide) refl refl f
 
-    module _ (h : Header) (count : ℕ) (since : Since) where
+    module _ (h : Header) (count : ℕ) (since : Option Stand) where
       abbrev all : List Stand
       all = sort_by (goes_before t) (filter (is_past t since) (sup_borders h count t))
 
@@ -138,7 +136,7 @@ module _ (t : Tables) where
           rw e at s
 
   -- and so is one without a guide
-  pub unguided : (guide : List ℕ) (guided : Bool) → guided ≡ false → (h : Header) (count : ℕ) (since : Since) (w : Window) → Shows w (window_among h count t since (up_to guide guided))
+  pub unguided : (guide : List ℕ) (guided : Bool) → guided ≡ false → (h : Header) (count : ℕ) (since : Option Stand) (w : Window) → Shows w (window_among h count t since (up_to guide guided))
       → Shows w (window_of h count t since)
   unfolding window_of window_among is_up_to
   unguided guide guided g h count since w s =
@@ -148,7 +146,7 @@ module _ (t : Tables) where
 
 -- ---- rows that are looked at, and those that are passed by
 
-module _ (rows : List ℤ) (letters islands : List ℕ) (points : List ℤ) (d : Stand) (since : Since) (guide : List ℕ) (guided : Bool) where
+module _ (rows : List ℤ) (letters islands : List ℕ) (points : List ℤ) (d : Stand) (since : Option Stand) (guide : List ℕ) (guided : Bool) where
   abbrev tables : Tables
   tables = tables_of rows letters islands points
 
@@ -156,9 +154,9 @@ module _ (rows : List ℤ) (letters islands : List ℕ) (points : List ℤ) (d :
   unfolding since_letters
   since-is = go since
     where
-      go : (v : Since) → since_letters (tables_of rows letters [] []) v ≡ since_letters tables v
-      go First = refl
-      go (Past e) = refl
+      go : (v : Option Stand) → since_letters (tables_of rows letters [] []) v ≡ since_letters tables v
+      go None = refl
+      go (Some e) = refl
 
   module _ (from s : List ℕ) (ef : from ≡ since_letters (tables_of rows letters [] []) since) (es : s ≡ letters_of (left_at (tables_of rows letters [] []) d)) (b : Bool) (eb : b ≡ is_within from guide guided s) where
     pub within-up : b ≡ true → up_to tables guide guided d ≡ true

@@ -1,8 +1,5 @@
 -- The proofs of `order`; the laws are open to other crates. `OrderLaws` says that the list is sorted and the same borders.
-mod CompareWays
 mod ClipLaws
-mod RowWays
-mod OrderWays
 mod ChoosingWays
 pub mod EachLaws
 mod PlaceWays

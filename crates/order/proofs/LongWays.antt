@@ -4,11 +4,11 @@ use mathlib.Core.Path.{◌≡◌, sym, ◌∙◌}
 use mathlib.Core.Bool.{Bool, true, false}
 use native.Mathlib.Nat.{sub-zero}
 use native.Mathlib.Omega.{arith}
+use Rattle.std.specs.Prelude.{Some, None}
 use Rattle.heading.specs.declared.Header.{Header}
 use Rattle.sheet.specs.Tables.{Tables}
 use Rattle.row.specs.declared.Stand.{Stand}
 use Rattle.row.specs.Walk.{first_stand, stand_after, left_at}
-use Rattle.order.specs.declared.LongCode.TheVariants.{Nowhere, Row}
 use Rattle.order.specs.SupBorders.{is_long, first_long, first_long_from}
 
 -- none of the k rows behind it has one
@@ -20,7 +20,7 @@ pub looking-start : (h : Header) (count : ℕ) (t : Tables) (d : Stand) → d �
 looking-start h count t d q = rw q (record { within = omega arith; rest = rw (sub-zero count) })
 
 module _ {h : Header} {count : ℕ} {t : Tables} {d : Stand} {k : ℕ} (c : Looking h count t d k) where
-  pub looking-end : count ≤ k → Nowhere ≡ first_long h count t
+  pub looking-end : count ≤ k → None ≡ first_long h count t
   unfolding first_long_from
   looking-end l = let z : count - k ≡ 0 = omega arith in sym (c.rest ∙ rw z)
 
@@ -28,7 +28,7 @@ module _ {h : Header} {count : ℕ} {t : Tables} {d : Stand} {k : ℕ} (c : Look
     one_more : count - k ≡ suc (count - (k + 1))
     one_more = omega arith
 
-    pub looking-found : b ≡ true → Row k ≡ first_long h count t
+    pub looking-found : b ≡ true → Some k ≡ first_long h count t
     unfolding first_long_from
     looking-found f = sym (c.rest ∙ rw (one_more, ← e, f))
 

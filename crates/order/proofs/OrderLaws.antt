@@ -6,31 +6,25 @@ use mathlib.Core.Bool.{Bool, true, false}
 use native.Mathlib.Omega.{arith}
 use lib.ListN.{length}
 use lib.IntN.{ℤ}
+use Rattle.std.specs.Prelude.{Ok}
 use Rattle.heading.specs.declared.Header.{Header}
 use Rattle.record.specs.declared.Mode.TheVariants.{Loose}
 use Rattle.sheet.specs.Tables.{Tables}
-use Rattle.made.specs.declared.Verdict.TheVariants.{Fine}
 use Rattle.made.specs.Made.{tables_of, none_before, judge_rows}
 use Rattle.row.specs.declared.Stand.{Stand}
-use Rattle.row.specs.Walk.{word_most, first_stand, next_stand, stand_after, left_at}
+use Rattle.row.specs.Walk.{first_stand, next_stand, stand_after, left_at}
 use Rattle.row.proofs.Walk.{Walk, walk_start, walk-on, walk-stands, stands-small}
 use Rattle.row.proofs.NextWays.{after_next}
 use Rattle.border.specs.Borders.{border_of}
-use Rattle.order.specs.declared.Comes.TheVariants.{Same}
+use Rattle.std.specs.declared.cmp.Ordering.TheVariants.{Equal}
 use Rattle.order.specs.Compare.{by_number}
 use Rattle.order.specs.Sorting.{filter, EachOf, Sorted, Rising}
 use Rattle.order.specs.SupBorders.{is_in_sup, with_if, sup_borders, sup_borders_from}
 use Rattle.order.specs.SupOrder.{by_code_and_net, paper_before, comes_at, goes_before, sup_in_order}
+use Rattle.order.specs.Windows.{Small}
 use Rattle.order.proofs.CompareLaws.{or_same, number-eq, one-before}
 use Rattle.order.proofs.SortLaws.{sorted-map, sort-perm, each-sort, sort_sorted, Climbs, climbs-from, sort-rising, length-sort, count-sort}
 use Rattle.order.proofs.TotalLaws.{comes-total, before-code, before-through, before-turn}
-
--- a table's length is a number of the code
-pub record Small (t : Tables) : Type 0 where
-  pub rows : length t.rows ≤ word_most
-  pub letters : length t.letters ≤ word_most
-  pub islands : length t.islands ≤ word_most
-  pub points : length t.points ≤ word_most
 
 -- which borders are listed is a matter of rows and letters
 sup-own : (h : Header) (rows : List ℤ) (letters islands : List ℕ) (points : List ℤ) (n : ℕ) (d : Stand)
@@ -79,7 +73,7 @@ rows_apart : (t : Tables) (a b : Stand) → b.row < a.row → goes_before t a b 
 unfolding goes_before comes_at
 rows_apart t a b h e = one-before (comes_at t) (comes-total t) a b unlike e
   where
-    unlike : comes_at t a b ≡ Same → ⊥
+    unlike : comes_at t a b ≡ Equal → ⊥
     unlike q =
         let k = or_same (by_code_and_net t a b) (by_number a.row b.row) q in
         omega (arith, number-eq a.row b.row k.1)
@@ -109,7 +103,7 @@ listed-climb h t count m (suc n) d k e w =
     go false c r = climbs-from (goes_before t) (before-through t) (before-turn t) (λ (d : Stand). d.row) (rows_apart t) (omega arith) c
 
 -- in a judged sheet each comes before those behind it, as rows decide where code and area are equal
-pub in-order-rising : (h : Header) (count : ℕ) (t : Tables) → Small t → judge_rows Loose count none_before t ≡ Fine → Rising (goes_before t) (sup_in_order h count t)
+pub in-order-rising : (h : Header) (count : ℕ) (t : Tables) → Small t → judge_rows Loose count none_before t ≡ Ok tt → Rising (goes_before t) (sup_in_order h count t)
 unfolding sup_in_order
 in-order-rising h count t m f =
     sort-rising (goes_before t) (before-through t) (before-turn t) (λ (d : Stand). d.row) (rows_apart t) [] Rising.rising-nil EachOf.each_nil

@@ -5,18 +5,19 @@ use mathlib.Core.List.{List, [], ◌∷◌}
 use native.Mathlib.Omega.{arith}
 use lib.ListN.{length, get_or}
 use lib.IntN.{ℤ}
+use Rattle.std.specs.Prelude.{Ok}
 use Rattle.laws.proofs.ListLaws.{values, values-are}
 use Rattle.heading.specs.declared.Header.{Header}
 use Rattle.record.specs.declared.Mode.TheVariants.{Loose}
 use Rattle.sheet.specs.Tables.{Tables}
-use Rattle.made.specs.declared.Verdict.TheVariants.{Fine}
 use Rattle.made.specs.Made.{none_before, judge_rows}
 use Rattle.row.specs.declared.Stand.{Stand}
 use Rattle.row.specs.Walk.{first_stand, stand_after, stand_of, left_at}
 use Rattle.row.proofs.Walk.{walk-to}
 use Rattle.order.specs.Sorting.{filter}
 use Rattle.order.specs.SupBorders.{is_in_sup, sup_borders_from, sup_borders}
-use Rattle.order.proofs.OrderLaws.{Small, walk_after}
+use Rattle.order.specs.Windows.{Small}
+use Rattle.order.proofs.OrderLaws.{walk_after}
 
 -- n stands of a walk
 unfoldable steps : List ℤ → ℕ → Stand → List Stand
@@ -33,7 +34,7 @@ unfolding sup_borders_from filter steps
 sup-steps h t zero d = refl
 sup-steps h t (suc n) d = rw (sup-steps h t n (stand_after t.rows d))
 
-module _ (t : Tables) (count : ℕ) (m : Small t) (f : judge_rows Loose count none_before t ≡ Fine) where
+module _ (t : Tables) (count : ℕ) (m : Small t) (f : judge_rows Loose count none_before t ≡ Ok tt) where
   pub next-stand : (k : ℕ) → k < count → stand_after t.rows (stand_of k t.rows) ≡ stand_of (suc k) t.rows
   unfolding stand_of
   next-stand k l = walk_after m (walk-to Loose t count f k (omega arith)) l

@@ -5,8 +5,8 @@ use Rattle.sheet.specs.Tables.{Tables}
 use Rattle.made.specs.Made.{letters_of}
 use Rattle.row.specs.declared.Stand.{Stand}
 use Rattle.row.specs.Walk.{left_at}
-use Rattle.order.specs.declared.Comes.{Comes}
-use Rattle.order.specs.declared.Comes.TheVariants.{Before, Same, After}
+use Rattle.std.specs.declared.cmp.Ordering.{Ordering}
+use Rattle.std.specs.declared.cmp.Ordering.TheVariants.{Less, Equal, Greater}
 use Rattle.order.specs.Compare.{or_else, is_before, by_number}
 use Rattle.order.specs.SupOrder.{net_left, by_code_and_net, paper_before, comes_at, goes_before}
 use Rattle.order.proofs.CompareLaws.{Total, number-total, whole-total, bytes-total, by_key, by_both, not_through, not-both}
@@ -33,7 +33,7 @@ pub before-code : (t : Tables) (a b : Stand) → goes_before t a b ≡ false →
 unfolding goes_before comes_at
 before-code t a b = go (by_code_and_net t a b)
   where
-    go : (x : Comes) → is_before (or_else x (by_number a.row b.row)) ≡ false → is_before x ≡ false
-    go Before e = e
-    go Same e = refl
-    go After e = refl
+    go : (x : Ordering) → is_before (or_else x (by_number a.row b.row)) ≡ false → is_before x ≡ false
+    go Less e = e
+    go Equal e = refl
+    go Greater e = refl

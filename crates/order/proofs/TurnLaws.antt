@@ -3,29 +3,27 @@ use Prim.Native.Nat.{ℕ, suc, ◌+◌, ◌-◌, ◌≤◌, ◌<◌, min}
 use mathlib.Core.Path.{◌≡◌, ◌∙◌}
 use native.Mathlib.Omega.{arith}
 use lib.ListN.{length, get_or}
+use Rattle.std.specs.Prelude.{Some, None, Ok}
 use Rattle.heading.specs.declared.Header.{Header}
 use Rattle.record.specs.declared.Mode.TheVariants.{Loose}
 use Rattle.sheet.specs.Tables.{Tables}
-use Rattle.made.specs.declared.Verdict.TheVariants.{Fine}
 use Rattle.made.specs.Made.{none_before, judge_rows}
 use Rattle.row.specs.declared.Stand.{Stand}
-use Rattle.order.specs.declared.Since.TheVariants.{First, Past}
 use Rattle.order.specs.declared.Window.{Window}
 use Rattle.order.specs.SupOrder.{sup_in_order}
-use Rattle.order.specs.Windows.{window_width, Shows, window_of}
-use Rattle.order.proofs.OrderLaws.{Small}
+use Rattle.order.specs.Windows.{window_width, Shows, window_of, Small}
 use Rattle.order.proofs.WindowLaws.{Viewing, view_first, view-count, view-item, view-next}
 
 pub record Turning (h : Header) (count : ℕ) (t : Tables) (w : Window) (i j : ℕ) : Type 0 where
   pub small : Small t
-  pub fine : judge_rows Loose count none_before t ≡ Fine
+  pub fine : judge_rows Loose count none_before t ≡ Ok tt
   pub views : Viewing h count t small fine w (i - j)
   pub past : j ≤ i
   pub within : j ≤ w.count
   pub inside : j < window_width
   pub reached : i ≤ length (sup_in_order h count t)
 
-pub turning-start : (h : Header) (count : ℕ) (t : Tables) → Small t → judge_rows Loose count none_before t ≡ Fine → (w : Window) → Shows w (window_of h count t First) → Turning h count t w 0 0
+pub turning-start : (h : Header) (count : ℕ) (t : Tables) → Small t → judge_rows Loose count none_before t ≡ Ok tt → (w : Window) → Shows w (window_of h count t None) → Turning h count t w 0 0
 turning-start h count t m f w s =
     record { small = m; fine = f; views = view_first h count t m f w s; past = omega arith; within = omega arith; inside = omega arith; reached = omega arith }
 
@@ -58,7 +56,7 @@ module _ {h : Header} {count : ℕ} {t : Tables} {w : Window} {i j : ℕ} (g : T
           reached = omega (arith, turning-more);
         }
 
-    pub turning-next : (z : Stand) (u : Window) → Shows u (window_of h count t (Past (get_or w.items j z))) → Turning h count t u (i + 1) 0
+    pub turning-next : (z : Stand) (u : Window) → Shows u (window_of h count t (Some (get_or w.items j z))) → Turning h count t u (i + 1) 0
     turning-next z u s =
         record {
           small = g.small;

@@ -10,12 +10,12 @@ use lib.ListN.{length, get_or, take, set, length-take, length-set}
 use lib.Seq.{get_or-take, take_all}
 use lib.Dec.{ltb}
 use borrow.Author.Tests.{ltb-false}
+use Rattle.std.specs.Prelude.{Option}
 use Rattle.laws.proofs.Choice.{false≢true}
 use Rattle.heading.specs.declared.Header.{Header}
 use Rattle.sheet.specs.Tables.{Tables}
 use Rattle.row.specs.declared.Stand.{Stand}
 use Rattle.row.specs.Walk.{first_stand, stand_after, left_at}
-use Rattle.order.specs.declared.Since.{Since}
 use Rattle.order.specs.Sorting.{insert, sort_into, filter, Sorted}
 use Rattle.order.specs.SupBorders.{is_in_sup, sup_borders_from}
 use Rattle.order.specs.SupOrder.{goes_before}
@@ -29,19 +29,19 @@ use Rattle.order.proofs.SortLaws.{take-sort, insert-sorted, take-sorted, full-st
 
 -- ---- the walk: what is to come is put into what is held
 
-pub record Filling (h : Header) (count : ℕ) (t : Tables) (since : Since) (p : Stand → Bool) (items : List Stand) (n : ℕ) (d : Stand) (k : ℕ) : Type 0 where
+pub record Filling (h : Header) (count : ℕ) (t : Tables) (since : Option Stand) (p : Stand → Bool) (items : List Stand) (n : ℕ) (d : Stand) (k : ℕ) : Type 0 where
   pub within : k ≤ count
   pub size : length items ≡ window_width + 1
   pub room : n ≤ window_width
   pub ordered : Sorted (goes_before t) (take n items)
   pub rest : window_among h count t since p ≡ take window_width (sort_into (goes_before t) (take n items) (filter p (filter (is_past t since) (sup_borders_from h t (count - k) d))))
 
-pub filling-start : (h : Header) (count : ℕ) (t : Tables) (since : Since) (p : Stand → Bool) (items : List Stand) → length items ≡ window_width + 1 → (d : Stand) → d ≡ first_stand → Filling h count t since p items 0 d 0
+pub filling-start : (h : Header) (count : ℕ) (t : Tables) (since : Option Stand) (p : Stand → Bool) (items : List Stand) → length items ≡ window_width + 1 → (d : Stand) → d ≡ first_stand → Filling h count t since p items 0 d 0
 unfolding window_among
 filling-start h count t since p items s d q =
     rw q (record { within = omega arith; size = s; room = omega arith; ordered = Sorted.sorted-nil; rest = rw (sub-zero count) })
 
-module _ {h : Header} {count : ℕ} {t : Tables} {since : Since} {p : Stand → Bool} {items : List Stand} {n : ℕ} {d : Stand} {k : ℕ} (f : Filling h count t since p items n d k) where
+module _ {h : Header} {count : ℕ} {t : Tables} {since : Option Stand} {p : Stand → Bool} {items : List Stand} {n : ℕ} {d : Stand} {k : ℕ} (f : Filling h count t since p items n d k) where
   held-size : length (take n items) ≡ n
   held-size = omega (arith, length-take n items, f.size, f.room)
 

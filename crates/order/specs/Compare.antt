@@ -1,36 +1,27 @@
 -- How one comes to another, before or after it: document 02, T-01, "by bytes of their code, equal codes by rising exact area". Assumes nothing:
 -- these are definitions.
-use Rattle.std.specs.Prelude.{ℕ, List, [], ◌∷◌, Bool, true, false, cond, ltb, ℤ}
-use Rattle.std.specs.Int.Signed.{lt_z}
-use Rattle.order.specs.declared.Comes.{Comes}
-use Rattle.order.specs.declared.Comes.TheVariants.{Before, Same, After}
+use Rattle.std.specs.Prelude.{ℕ, List, Bool, ℤ}
+use Rattle.std.specs.declared.cmp.Ordering.{Ordering}
+use Rattle.std.specs.Ordering.{nat_cmp, int_cmp, ordering_then, is_lt, is_gt}
+use Rattle.std.specs.Cmp.Lexicographic.{slice_cmp}
 
 -- the second question decides where the first does not
-abbrev pub or_else : Comes → Comes → Comes
-or_else Before o = Before
-or_else Same o = o
-or_else After o = After
+abbrev pub or_else : Ordering → Ordering → Ordering
+or_else a b = ordering_then a b
 
-abbrev pub is_before : Comes → Bool
-is_before Before = true
-is_before Same = false
-is_before After = false
+abbrev pub is_before : Ordering → Bool
+is_before o = is_lt o
 
-abbrev pub is_after : Comes → Bool
-is_after Before = false
-is_after Same = false
-is_after After = true
+abbrev pub is_after : Ordering → Bool
+is_after o = is_gt o
 
-unfoldable pub by_number : ℕ → ℕ → Comes
-by_number a b = cond (ltb a b) Before (cond (ltb b a) After Same)
+abbrev pub by_number : ℕ → ℕ → Ordering
+by_number a b = nat_cmp a b
 
 -- whole numbers of either sign, rising
-unfoldable pub by_whole : ℤ → ℤ → Comes
-by_whole a b = cond (lt_z a b) Before (cond (lt_z b a) After Same)
+abbrev pub by_whole : ℤ → ℤ → Ordering
+by_whole a b = int_cmp a b
 
 -- "by bytes": unsigned, the first that differ decide, and a beginning comes before its continuation
-unfoldable pub by_bytes : List ℕ → List ℕ → Comes
-by_bytes [] [] = Same
-by_bytes [] (b ∷ t) = Before
-by_bytes (a ∷ s) [] = After
-by_bytes (a ∷ s) (b ∷ t) = or_else (by_number a b) (by_bytes s t)
+abbrev pub by_bytes : List ℕ → List ℕ → Ordering
+by_bytes a b = slice_cmp nat_cmp a b

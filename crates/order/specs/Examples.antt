@@ -1,5 +1,7 @@
 -- Borders of small sheets in the order of a SUP file, computed: document 02, T-01. Assumes nothing.
-use Rattle.std.specs.Prelude.{ℕ, ◌/◌, ◌≡◌, refl, List, [], ◌∷◌, ◌++◌, map, ℤ, pos, negsuc}
+use Rattle.std.specs.Prelude.{ℕ, ◌/◌, ◌≡◌, refl, List, [], ◌∷◌, ◌++◌, map, ℤ, pos, negsuc, Option, Some, None}
+use Rattle.std.specs.declared.cmp.Ordering.{Ordering}
+use Rattle.std.specs.declared.cmp.Ordering.TheVariants.{Less, Equal, Greater}
 use Prim.Native.String.{String}
 use Rattle.laws.specs.Text.{text}
 use Rattle.heading.specs.declared.Header.{Header}
@@ -12,41 +14,35 @@ use Rattle.row.specs.Examples.{computed as computed_sought}
 use Rattle.border.specs.Examples.{computed as computed_border}
 use Rattle.area.specs.Examples.{computed as computed_areas}
 use Rattle.area.specs.Questions.{net_area_of}
-use Rattle.order.specs.declared.Comes.{Comes}
-use Rattle.order.specs.declared.Comes.TheVariants.{Before, Same, After}
-use Rattle.order.specs.declared.Since.{Since}
-use Rattle.order.specs.declared.Since.TheVariants.{First, Past}
-use Rattle.order.specs.declared.LongCode.{LongCode}
-use Rattle.order.specs.declared.LongCode.TheVariants.{Nowhere, Row}
-use Rattle.order.specs.Compare.{by_number, by_whole, by_bytes}
+use Rattle.order.specs.Compare.{by_whole, by_bytes}
 use Rattle.order.specs.Sorting.{insert, sort_into, filter}
 use Rattle.order.specs.SupBorders.{is_in_sup, sup_borders_from, sup_borders, is_long, first_long_from, first_long}
 use Rattle.order.specs.SupOrder.{net_left, by_code_and_net, comes_at, goes_before, sup_in_order}
 use Rattle.order.specs.Windows.{is_past, window_of}
 
 -- the definitions opened, so that they compute
-unfoldable pub computed : Header → ℕ → Tables → Since → List Stand × List Stand × LongCode
-unfolding sup_in_order window_of is_past filter sort_into insert goes_before comes_at by_code_and_net by_bytes by_number by_whole net_left net_area_of sup_borders_from is_in_sup first_long_from is_long computed_border computed_areas computed_sought
+unfoldable pub computed : Header → ℕ → Tables → Option Stand → List Stand × List Stand × Option ℕ
+unfolding sup_in_order window_of is_past filter sort_into insert goes_before comes_at by_code_and_net net_left net_area_of sup_borders_from is_in_sup first_long_from is_long computed_border computed_areas computed_sought
 computed h count t since = (sup_in_order h count t, window_of h count t since, first_long h count t)
 
 -- ---- codes and areas
 
-codes : String → String → Comes
+codes : String → String → Ordering
 unfolding computed
 codes a b = by_bytes (text a) (text b)
 
 -- a beginning before its continuation, the first bytes that differ decide, digits before capitals before small letters
-by_bytes_lem : (codes "12" "12A" ≡ Before) × (codes "12A" "12" ≡ After) × (codes "9" "10" ≡ After) × (codes "Z" "a" ≡ Before) × (codes "7" "7" ≡ Same)
+by_bytes_lem : (codes "12" "12A" ≡ Less) × (codes "12A" "12" ≡ Greater) × (codes "9" "10" ≡ Greater) × (codes "Z" "a" ≡ Less) × (codes "7" "7" ≡ Equal)
 unfolding codes
 by_bytes_lem = (refl, refl, refl, refl, refl)
 
 -- unsigned, though a listed code has no byte past 126
-unsigned : by_bytes (255 ∷ []) (text "7") ≡ After
+unsigned : by_bytes (255 ∷ []) (text "7") ≡ Greater
 unfolding computed
 unsigned = refl
 
 -- areas below 0 rise too
-by-area : (by_whole (negsuc 5) (negsuc 4) ≡ Before) × (by_whole (negsuc 0) (pos 0) ≡ Before) × (by_whole (pos 8) (pos 7) ≡ After) × (by_whole (negsuc 5) (negsuc 5) ≡ Same)
+by-area : (by_whole (negsuc 5) (negsuc 4) ≡ Less) × (by_whole (negsuc 0) (pos 0) ≡ Less) × (by_whole (pos 8) (pos 7) ≡ Greater) × (by_whole (negsuc 5) (negsuc 5) ≡ Equal)
 unfolding computed
 by-area = (refl, refl, refl, refl)
 
@@ -84,8 +80,8 @@ unfolding computed
 in_order = refl
 
 -- a window past row 3, and one from the first on
-past_row : (rows_of (window_of (header 1) 9 sheet (Past (record { row = 45; letters = 7; islands = 0; points = 20 }))) ≡ 7 ∷ 1 ∷ 8 ∷ 0 ∷ 6 ∷ [])
-    × (rows_of (window_of (header 1) 9 sheet First) ≡ 5 ∷ 3 ∷ 7 ∷ 1 ∷ 8 ∷ 0 ∷ 6 ∷ [])
+past_row : (rows_of (window_of (header 1) 9 sheet (Some (record { row = 45; letters = 7; islands = 0; points = 20 }))) ≡ 7 ∷ 1 ∷ 8 ∷ 0 ∷ 6 ∷ [])
+    × (rows_of (window_of (header 1) 9 sheet None) ≡ 5 ∷ 3 ∷ 7 ∷ 1 ∷ 8 ∷ 0 ∷ 6 ∷ [])
 unfolding computed
 past_row = (refl, refl)
 
@@ -118,6 +114,6 @@ long-codes =
     (text "12345678901212345678901+123456789011234567890121234567890123") [] (square 1 ++ square 1 ++ square 1 ++ square 1)
 
 -- 12 letters are one too many; the first such row alone counts, and a union sheet has none
-too_long : (first_long (header 1) 5 long-codes ≡ Row 3) × (first_long (header 1) 3 long-codes ≡ Nowhere) × (first_long (header 3) 5 long-codes ≡ Nowhere)
+too_long : (first_long (header 1) 5 long-codes ≡ Some 3) × (first_long (header 1) 3 long-codes ≡ None) × (first_long (header 3) 5 long-codes ≡ None)
 unfolding computed
 too_long = (refl, refl, refl)

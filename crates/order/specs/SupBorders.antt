@@ -1,6 +1,6 @@
 -- The borders that a SUP file lists, in row order, and the first whose code is too long: document 02, T-01. Assumes nothing: these are definitions.
 -- A border is where its row stands; what it is stands at the front of what is left of the tables there.
-use Rattle.std.specs.Prelude.{ℕ, zero, suc, ◌+◌, List, [], ◌∷◌, Bool, false, cond, not, ◌&&◌, eqb, ltb, length}
+use Rattle.std.specs.Prelude.{ℕ, zero, suc, ◌+◌, List, [], ◌∷◌, Bool, false, cond, not, ◌&&◌, eqb, ltb, length, Option, Some, None}
 use Rattle.heading.specs.declared.Header.{Header}
 use Rattle.sheet.specs.Tables.{Tables}
 use Rattle.made.specs.Made.{letters_of}
@@ -10,8 +10,6 @@ use Rattle.classes.specs.declared.Class.{Class}
 use Rattle.classes.specs.declared.Class.TheVariants.{Confine, Other, Road, Water, Building, Parcel}
 use Rattle.border.specs.declared.Border.{Border}
 use Rattle.border.specs.Borders.{is_border, border_of}
-use Rattle.order.specs.declared.LongCode.{LongCode}
-use Rattle.order.specs.declared.LongCode.TheVariants.{Nowhere, Row}
 
 -- ---- which borders
 
@@ -52,9 +50,9 @@ unfoldable pub is_long : Header → Tables → Bool
 is_long h t = is_in_sup h t && ltb code_most (length (letters_of t))
 
 -- of n rows, the first of which is row k and stands at d
-unfoldable pub first_long_from : Header → Tables → ℕ → ℕ → Stand → LongCode
-first_long_from h t zero k d = Nowhere
-first_long_from h t (suc n) k d = cond (is_long h (left_at t d)) (Row k) (first_long_from h t n (k + 1) (stand_after t.rows d))
+unfoldable pub first_long_from : Header → Tables → ℕ → ℕ → Stand → Option ℕ
+first_long_from h t zero k d = None
+first_long_from h t (suc n) k d = cond (is_long h (left_at t d)) (Some k) (first_long_from h t n (k + 1) (stand_after t.rows d))
 
-abbrev pub first_long : Header → ℕ → Tables → LongCode
+abbrev pub first_long : Header → ℕ → Tables → Option ℕ
 first_long h count t = first_long_from h t count 0 first_stand

@@ -1,123 +1,55 @@
 // Which of two rows comes first: by letters, then by net, then by row.
 ghost use Rattle.std.specs.Prelude.{◌≡◌};
-ghost use Rattle.made.specs.Made.{tables_of};
-ghost use Rattle.order.specs.Compare.{is_after, by_number, by_whole, by_bytes};
+ghost use Rattle.made.specs.Made.{tables};
+ghost use Rattle.order.specs.Compare.{is_after, by_bytes};
 ghost use Rattle.order.specs.SupOrder.{comes_at, goes_before};
 ghost use Rattle.order.specs.Windows.{is_past};
 
-use crate::{Comes, Since, letters_at, net_at};
+use crate::{letters_at, net_at};
+use made::Lent;
 use row::Stand;
-
-fn compare_numbers(a: usize, b: usize) -> Comes
-    ensures { result ≡ by_number a b }
-{
-    if a < b {
-        return Comes::Before;
-    }
-    if b < a {
-        return Comes::After;
-    }
-    Comes::Same
-}
-
-fn compare_wholes(a: i64, b: i64) -> Comes
-    ensures { result ≡ by_whole a b }
-{
-    if a < b {
-        return Comes::Before;
-    }
-    if b < a {
-        return Comes::After;
-    }
-    Comes::Same
-}
+use std::cmp::Ordering;
 
 // By unsigned bytes, a beginning before its continuation.
-pub fn compare_bytes(a: &[u8], b: &[u8]) -> Comes
+pub fn compare_bytes(a: &[u8], b: &[u8]) -> Ordering
     ensures { result ≡ by_bytes a.now b.now }
 {
-    let mut i = 0;
-    while i < a.len() {
-        if b.len() <= i {
-            return Comes::After;
-        }
-        if a[i] < b[i] {
-            return Comes::Before;
-        }
-        if b[i] < a[i] {
-            return Comes::After;
-        }
-        i += 1;
-    }
-    if i < b.len() {
-        return Comes::Before;
-    }
-    Comes::Same
+    a.cmp(b)
 }
 
 pub(crate) fn is_later(a: &[u8], b: &[u8]) -> bool
     ensures { result ≡ is_after (by_bytes a.now b.now) }
 {
-    match compare_bytes(a, b) {
-        Comes::Before => false,
-        Comes::Same => false,
-        Comes::After => true,
-    }
+    compare_bytes(a, b).is_gt()
 }
 
-fn compare_at(
-    rows: &[i64],
-    letters: &[u8],
-    islands: &[u16],
-    points: &[i64],
-    a: Stand,
-    b: Stand,
-) -> Comes
-    ensures { result ≡ comes_at (tables_of rows.now letters.now islands.now points.now) a b }
+// The nets cost most, and are asked for only where the letters are equal.
+#[tactic(auto, unfolding(crate::specs::SupOrder::comes_at, crate::specs::SupOrder::by_code_and_net))]
+fn compare_at(lent: &Lent<'_>, a: Stand, b: Stand) -> Ordering
+    ensures { result ≡ comes_at (tables lent.now) a b }
 {
-    match compare_bytes(letters_at(rows, letters, a), letters_at(rows, letters, b)) {
-        Comes::Before => Comes::Before,
-        Comes::After => Comes::After,
-        Comes::Same => match compare_wholes(
-            net_at(rows, islands, points, a),
-            net_at(rows, islands, points, b),
-        ) {
-            Comes::Before => Comes::Before,
-            Comes::After => Comes::After,
-            Comes::Same => compare_numbers(a.row, b.row),
-        },
+    let mine = letters_at(lent.rows, lent.letters, a);
+    match compare_bytes(mine, letters_at(lent.rows, lent.letters, b)) {
+        Ordering::Equal => net_at(lent, a)
+            .cmp(&net_at(lent, b))
+            .then(a.row.cmp(&b.row)),
+        other => other,
     }
 }
 
-pub fn is_before(
-    rows: &[i64],
-    letters: &[u8],
-    islands: &[u16],
-    points: &[i64],
-    a: Stand,
-    b: Stand,
-) -> bool
-    ensures { result ≡ goes_before (tables_of rows.now letters.now islands.now points.now) a b }
+#[tactic(auto, unfolding(crate::specs::SupOrder::goes_before))]
+pub fn is_before(lent: &Lent<'_>, a: Stand, b: Stand) -> bool
+    ensures { result ≡ goes_before (tables lent.now) a b }
 {
-    match compare_at(rows, letters, islands, points, a, b) {
-        Comes::Before => true,
-        Comes::Same => false,
-        Comes::After => false,
-    }
+    compare_at(lent, a, b).is_lt()
 }
 
-pub fn is_past(
-    rows: &[i64],
-    letters: &[u8],
-    islands: &[u16],
-    points: &[i64],
-    since: Since,
-    d: Stand,
-) -> bool
-    ensures { result ≡ is_past (tables_of rows.now letters.now islands.now points.now) since d }
+#[tactic(auto, unfolding(crate::specs::Windows::is_past))]
+pub fn is_past(lent: &Lent<'_>, since: Option<Stand>, d: Stand) -> bool
+    ensures { result ≡ is_past (tables lent.now) since d }
 {
     match since {
-        Since::First => true,
-        Since::Past(e) => is_before(rows, letters, islands, points, e, d),
+        None => true,
+        Some(e) => is_before(lent, e, d),
     }
 }

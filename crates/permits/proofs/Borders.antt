@@ -3,19 +3,19 @@ use Prim.Native.Nat.{ℕ}
 use mathlib.Core.Path.{◌≡◌, refl, ◌∙◌, ap}
 use mathlib.Core.Bool.{true, false}
 use lib.IntN.{pos, negsuc}
+use Rattle.std.specs.Prelude.{Result, Ok, Err}
 use contract.Lifetimes.{Lfts}
 use borrow.Fn.World.{ArgsD, ResD}
 use denote.Triple.Clauses.{AtExit}
 use Rattle.heading.specs.declared.Header.{Header}
 use Rattle.heading.specs.Heading.{no_header}
 use Rattle.sheet.specs.Tables.{Tables}
-use Rattle.made.specs.declared.Verdict.TheVariants.{BadHeader, Faulty}
+use Rattle.made.specs.declared.Flaw.TheVariants.{BadHeader, Faulty}
+use Rattle.row.specs.declared.Unfound.{Unfound}
+use Rattle.row.specs.declared.Unfound.TheVariants.{Missing, Refused}
 use Rattle.classes.specs.declared.Class.TheVariants.{Parcel}
 use Rattle.border.specs.declared.Border.{Border}
-use Rattle.border.specs.declared.BorderAnswer.{BorderAnswer}
-use Rattle.border.specs.declared.BorderAnswer.TheVariants as Found
-use Rattle.border.specs.declared.TextAnswer.{TextAnswer}
-use Rattle.border.specs.declared.TextAnswer.TheVariants as Said
+use Rattle.border.specs.declared.Text.{Text}
 use Rattle.border.specs.BorderAt.{border_at}
 use Rattle.border.specs.TextAt.{text_at}
 use Rattle.border.specs.Examples.{computed}
@@ -31,7 +31,7 @@ use Rattle.cabi.specs.contracts.cxf_border_at as cxf-border-at
 use Rattle.cabi.proofs.cxf_border_at.Reads as cxf-border-reads
 use Rattle.cabi.specs.contracts.cxf_text_at as cxf-text-at
 use Rattle.cabi.proofs.cxf_text_at.Reads as cxf-text-reads
-use Rattle.permits.proofs.SmallSheets.{Tabled, header, no_kind, long_name, in-C, no-kind-in-C, long-name-in-C, small, faulty, eleven}
+use Rattle.permits.proofs.SmallSheets.{Handed, Tabled, header, no_kind, long_name, in-C, no-kind-in-C, long-name-in-C, small, faulty, eleven}
 
 -- ---- border_at
 
@@ -39,7 +39,7 @@ use Rattle.permits.proofs.SmallSheets.{Tabled, header, no_kind, long_name, in-C,
 abbrev parcel_row : Border
 parcel_row = record { class = Parcel; size = pos 18; angle = pos 90; x = pos 1; y = pos 2; x2 = pos 3; y2 = negsuc 3; letters = 1; islands = 1; vertices = 9 }
 
-parcel-is : border_at header 4 small 1 ≡ Found.Is parcel_row
+parcel-is : border_at header 4 small 1 ≡ Ok parcel_row
 unfolding computed
 parcel-is = refl
 
@@ -47,56 +47,56 @@ parcel-is = refl
 abbrev eleven_row : Border
 eleven_row = record { class = Parcel; size = pos 18; angle = pos 0; x = pos 7; y = pos 8; x2 = pos 9; y2 = pos 10; letters = 11; islands = 0; vertices = 5 }
 
-eleven-is : border_at header 1 eleven 0 ≡ Found.Is eleven_row
+eleven-is : border_at header 1 eleven 0 ≡ Ok eleven_row
 unfolding computed
 eleven-is = refl
 
-text-is-none : border_at header 4 small 0 ≡ Found.Missing
+text-is-none : border_at header 4 small 0 ≡ Err Missing
 unfolding computed
 text-is-none = refl
 
-border-past : border_at header 4 small 4 ≡ Found.Missing
+border-past : border_at header 4 small 4 ≡ Err Missing
 unfolding computed
 border-past = refl
 
 -- 6, then 15, then 19
-border-headed : border_at no_kind 4 faulty 4 ≡ Found.Refused BadHeader
+border-headed : border_at no_kind 4 faulty 4 ≡ Err (Refused BadHeader)
 unfolding computed
 border-headed = refl
 
-border-made : border_at header 4 faulty 4 ≡ Found.Refused (Faulty 3)
+border-made : border_at header 4 faulty 4 ≡ Err (Refused (Faulty 3))
 unfolding computed
 border-made = refl
 
-module _ (κs : Lfts 4) (a : ArgsD border-at.signature κs) (r : ResD border-at.signature κs) (e : AtExit border-at.ended κs) where
-  abbrev pub OnlyBorder : Header → ℕ → Tables → ℕ → BorderAnswer → Type 0
-  OnlyBorder h count t row x = a.0 ≡ h → Tabled count t a.1 → a.1.1.1.1.1.1.0 ≡ row → border-reads.Learnt κs a r e → r ≡ x
+module _ (κs : Lfts 2) (a : ArgsD border-at.signature κs) (r : ResD border-at.signature κs) (e : AtExit border-at.ended κs) where
+  abbrev pub OnlyBorder : Header → ℕ → Tables → ℕ → Result Border Unfound → Type 0
+  OnlyBorder h count t row x = Handed h count t a.0.now → a.1.0 ≡ row → border-reads.Learnt κs a r e → r ≡ x
 
-  only-border : {h : Header} {count : ℕ} {t : Tables} {row : ℕ} {x : BorderAnswer} → border_at h count t row ≡ x → OnlyBorder h count t row x
-  only-border q h d k post = post ∙ rw (h, d.count-is, d.rows_are, d.letters-are, d.islands-are, d.points-are, k) q
+  only-border : {h : Header} {count : ℕ} {t : Tables} {row : ℕ} {x : Result Border Unfound} → border_at h count t row ≡ x → OnlyBorder h count t row x
+  only-border q d k post = post ∙ rw (d.header-is, d.count-is, d.tables-are, k) q
 
-  pub border-answers : OnlyBorder header 4 small 1 (Found.Is parcel_row)
+  pub border-answers : OnlyBorder header 4 small 1 (Ok parcel_row)
   border-answers = only-border parcel-is
 
-  pub border-eleven : OnlyBorder header 1 eleven 0 (Found.Is eleven_row)
+  pub border-eleven : OnlyBorder header 1 eleven 0 (Ok eleven_row)
   border-eleven = only-border eleven-is
 
-  pub border-no-border : OnlyBorder header 4 small 0 Found.Missing
+  pub border-no-border : OnlyBorder header 4 small 0 (Err Missing)
   border-no-border = only-border text-is-none
 
-  pub border-past-the-last : OnlyBorder header 4 small 4 Found.Missing
+  pub border-past-the-last : OnlyBorder header 4 small 4 (Err Missing)
   border-past-the-last = only-border border-past
 
-  pub border-bad-header : OnlyBorder no_kind 4 faulty 4 (Found.Refused BadHeader)
+  pub border-bad-header : OnlyBorder no_kind 4 faulty 4 (Err (Refused BadHeader))
   border-bad-header = only-border border-headed
 
-  pub border-faulty-row : OnlyBorder header 4 faulty 4 (Found.Refused (Faulty 3))
+  pub border-faulty-row : OnlyBorder header 4 faulty 4 (Err (Refused (Faulty 3)))
   border-faulty-row = only-border border-made
 
 -- ---- cxf_border_at
 
 -- a name of 12 bytes is no header
-border-unnamed : border_at no_header 4 small 1 ≡ Found.Refused BadHeader
+border-unnamed : border_at no_header 4 small 1 ≡ Err (Refused BadHeader)
 unfolding computed
 border-unnamed = refl
 
@@ -104,7 +104,7 @@ module _ (κs : Lfts 5) (a : ArgsD cxf-border-at.signature κs) (r : ResD cxf-bo
   abbrev pub OnlyCxfBorder : Header → ℕ → Tables → ℕ → CxfBorder → Type 0
   OnlyCxfBorder h count t row x = a.0 ≡ h.kind → a.1.0.now ≡ h.name → a.1.1.0 ≡ h.scale → Tabled count t a.1.1.1 → a.1.1.1.1.1.1.1.1.0 ≡ row → cxf-border-reads.Learnt κs a r e → r ≡ x
 
-  only-cxf-border : {h h' : Header} {count : ℕ} {t : Tables} {row : ℕ} {x : BorderAnswer} → header_of h.kind h.name h.scale ≡ h' → border_at h' count t row ≡ x → OnlyCxfBorder h count t row (border_told x)
+  only-cxf-border : {h h' : Header} {count : ℕ} {t : Tables} {row : ℕ} {x : Result Border Unfound} → header_of h.kind h.name h.scale ≡ h' → border_at h' count t row ≡ x → OnlyCxfBorder h count t row (border_told x)
   only-cxf-border p q kind name scale d k post = post ∙ rw (kind, name, scale, d.count-is, d.rows_are, d.letters-are, d.islands-are, d.points-are, k, p) (ap border_told q)
 
   pub cxf-border-answers : OnlyCxfBorder header 4 small 1 (record { number = 0; row = 0; class = 6; size = pos 18; angle = pos 90; x = pos 1; y = pos 2; x2 = pos 3; y2 = negsuc 3; letters = 1; islands = 1; vertices = 9 })
@@ -131,53 +131,53 @@ module _ (κs : Lfts 5) (a : ArgsD cxf-border-at.signature κs) (r : ResD cxf-bo
 -- ---- text_at
 
 -- row 0 has size 0, row 2 brackets and the angle 0, each with its own letters; a border of size 0 is neither
-centroid-is : text_at header 4 small 0 ≡ Said.Is (record { surface = false; centroid = true })
+centroid-is : text_at header 4 small 0 ≡ Ok (record { surface = false; centroid = true })
 unfolding computed
 centroid-is = refl
 
-surface-is : text_at header 4 small 2 ≡ Said.Is (record { surface = true; centroid = false })
+surface-is : text_at header 4 small 2 ≡ Ok (record { surface = true; centroid = false })
 unfolding computed
 surface-is = refl
 
-neither-is : text_at header 4 small 3 ≡ Said.Is (record { surface = false; centroid = false })
+neither-is : text_at header 4 small 3 ≡ Ok (record { surface = false; centroid = false })
 unfolding computed
 neither-is = refl
 
-text-past : text_at header 4 small 4 ≡ Said.Missing
+text-past : text_at header 4 small 4 ≡ Err Missing
 unfolding computed
 text-past = refl
 
-text-headed : text_at no_kind 4 faulty 4 ≡ Said.Refused BadHeader
+text-headed : text_at no_kind 4 faulty 4 ≡ Err (Refused BadHeader)
 unfolding computed
 text-headed = refl
 
-text-made : text_at header 4 faulty 4 ≡ Said.Refused (Faulty 3)
+text-made : text_at header 4 faulty 4 ≡ Err (Refused (Faulty 3))
 unfolding computed
 text-made = refl
 
-module _ (κs : Lfts 4) (a : ArgsD text_contract.signature κs) (r : ResD text_contract.signature κs) (e : AtExit text_contract.ended κs) where
-  abbrev pub OnlyText : Header → ℕ → Tables → ℕ → TextAnswer → Type 0
-  OnlyText h count t row x = a.0 ≡ h → Tabled count t a.1 → a.1.1.1.1.1.1.0 ≡ row → text-reads.Learnt κs a r e → r ≡ x
+module _ (κs : Lfts 2) (a : ArgsD text_contract.signature κs) (r : ResD text_contract.signature κs) (e : AtExit text_contract.ended κs) where
+  abbrev pub OnlyText : Header → ℕ → Tables → ℕ → Result Text Unfound → Type 0
+  OnlyText h count t row x = Handed h count t a.0.now → a.1.0 ≡ row → text-reads.Learnt κs a r e → r ≡ x
 
-  only-text : {h : Header} {count : ℕ} {t : Tables} {row : ℕ} {x : TextAnswer} → text_at h count t row ≡ x → OnlyText h count t row x
-  only-text q h d k post = post ∙ rw (h, d.count-is, d.rows_are, d.letters-are, d.islands-are, d.points-are, k) q
+  only-text : {h : Header} {count : ℕ} {t : Tables} {row : ℕ} {x : Result Text Unfound} → text_at h count t row ≡ x → OnlyText h count t row x
+  only-text q d k post = post ∙ rw (d.header-is, d.count-is, d.tables-are, k) q
 
-  pub text-centroid : OnlyText header 4 small 0 (Said.Is (record { surface = false; centroid = true }))
+  pub text-centroid : OnlyText header 4 small 0 (Ok (record { surface = false; centroid = true }))
   text-centroid = only-text centroid-is
 
-  pub text-surface : OnlyText header 4 small 2 (Said.Is (record { surface = true; centroid = false }))
+  pub text-surface : OnlyText header 4 small 2 (Ok (record { surface = true; centroid = false }))
   text-surface = only-text surface-is
 
-  pub text-neither : OnlyText header 4 small 3 (Said.Is (record { surface = false; centroid = false }))
+  pub text-neither : OnlyText header 4 small 3 (Ok (record { surface = false; centroid = false }))
   text-neither = only-text neither-is
 
-  pub text-past-the-last : OnlyText header 4 small 4 Said.Missing
+  pub text-past-the-last : OnlyText header 4 small 4 (Err Missing)
   text-past-the-last = only-text text-past
 
-  pub text-bad-header : OnlyText no_kind 4 faulty 4 (Said.Refused BadHeader)
+  pub text-bad-header : OnlyText no_kind 4 faulty 4 (Err (Refused BadHeader))
   text-bad-header = only-text text-headed
 
-  pub text-faulty-row : OnlyText header 4 faulty 4 (Said.Refused (Faulty 3))
+  pub text-faulty-row : OnlyText header 4 faulty 4 (Err (Refused (Faulty 3)))
   text-faulty-row = only-text text-made
 
 -- ---- cxf_text_at
@@ -186,7 +186,7 @@ module _ (κs : Lfts 5) (a : ArgsD cxf-text-at.signature κs) (r : ResD cxf-text
   abbrev pub OnlyCxfText : Header → ℕ → Tables → ℕ → CxfText → Type 0
   OnlyCxfText h count t row x = a.0 ≡ h.kind → a.1.0.now ≡ h.name → a.1.1.0 ≡ h.scale → Tabled count t a.1.1.1 → a.1.1.1.1.1.1.1.1.0 ≡ row → cxf-text-reads.Learnt κs a r e → r ≡ x
 
-  only-cxf-text : {h h' : Header} {count : ℕ} {t : Tables} {row : ℕ} {x : TextAnswer} → header_of h.kind h.name h.scale ≡ h' → text_at h' count t row ≡ x → OnlyCxfText h count t row (text_told x)
+  only-cxf-text : {h h' : Header} {count : ℕ} {t : Tables} {row : ℕ} {x : Result Text Unfound} → header_of h.kind h.name h.scale ≡ h' → text_at h' count t row ≡ x → OnlyCxfText h count t row (text_told x)
   only-cxf-text p q kind name scale d k post = post ∙ rw (kind, name, scale, d.count-is, d.rows_are, d.letters-are, d.islands-are, d.points-are, k, p) (ap text_told q)
 
   pub cxf-text-centroid : OnlyCxfText header 4 small 0 (record { number = 0; row = 0; surface = 0; centroid = 1 })

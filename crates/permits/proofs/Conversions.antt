@@ -7,7 +7,7 @@ use contract.Lifetimes.{Lfts}
 use borrow.Fn.World.{ArgsD, ResD}
 use denote.Triple.Clauses.{AtExit}
 use Rattle.laws.specs.Text.{text}
-use Rattle.listing.specs.declared.Listed.TheVariants.{Wrote, NoRoom}
+use Rattle.std.specs.Prelude.{Ok, Err}
 use Rattle.listing.specs.Listed.{listed_of}
 use Rattle.conversion.specs.Conversion.{conversion_of}
 use Rattle.conversion.specs.Examples.{computed}
@@ -40,15 +40,15 @@ its-refusal : conversion_of strange ≡ refusal
 unfolding computed
 its-refusal = refl
 
-spare : listed_of clean 100 ≡ Wrote 96
+spare : listed_of clean 100 ≡ Ok 96
 unfolding listed_of
 spare = refl
 
-short : listed_of clean 95 ≡ NoRoom 96
+short : listed_of clean 95 ≡ Err (record { 0 = 96 })
 unfolding listed_of
 short = refl
 
-refused-spare : listed_of refusal 18 ≡ Wrote 17
+refused-spare : listed_of refusal 18 ≡ Ok 17
 unfolding listed_of
 refused-spare = refl
 
@@ -63,20 +63,20 @@ module _ (κs : Lfts 2) (a : ArgsD convert-text.signature κs) (r : ResD convert
   left = e.1.0.now
 
   module _ (s : a.0.now ≡ noted) where
-    pub convert-answers : length lent ≡ 100 → r ≡ Wrote 96
+    pub convert-answers : length lent ≡ 100 → r ≡ Ok 96
     convert-answers room = post.0 ∙ rw (s, its-clean-file, room) spare
 
     pub convert-stores : length lent ≡ 100 → left ≡ clean ++ drop 96 lent
     convert-stores room = post.1 ∙ rw (convert-answers room, s, its-clean-file) refl
 
-    pub convert-needs : length lent ≡ 95 → r ≡ NoRoom 96
+    pub convert-needs : length lent ≡ 95 → r ≡ Err (record { 0 = 96 })
     convert-needs room = post.0 ∙ rw (s, its-clean-file, room) short
 
     pub convert-untouched : length lent ≡ 95 → left ≡ lent
     convert-untouched room = post.1 ∙ rw (convert-needs room) refl
 
   module _ (s : a.0.now ≡ strange) (room : length lent ≡ 18) where
-    pub convert-refused : r ≡ Wrote 17
+    pub convert-refused : r ≡ Ok 17
     convert-refused = post.0 ∙ rw (s, its-refusal, room) refused-spare
 
     pub convert-refused-stores : left ≡ refusal ++ drop 17 lent

@@ -13,12 +13,13 @@ use contract.Monad.{Fun, fact, fact_mono}
 use denote.Triple.Entry.{Args, Res}
 use borrow.Fn.World.{ArgsD, ResD}
 use denote.Triple.Clauses.{AtExit}
-use Rattle.record.specs.Refusals.{cut}
 use Rattle.record.specs.declared.Mode.{Mode}
 use Rattle.record.specs.declared.Mode.TheVariants.{Loose, Exact}
 use Rattle.record.specs.declared.Found.{Found}
-use Rattle.record.specs.declared.Found.TheVariants.{Record, Refused}
-use Rattle.record.specs.Record.{record_at}
+use Rattle.std.specs.Prelude.{Result, Err}
+use Rattle.record.specs.declared.refusal.Refusal.{Refusal}
+use Rattle.record.specs.declared.refusal.Refusal.TheVariants.{Cut}
+use Rattle.record.specs.Record.{found, record_at}
 use Rattle.cursor.specs.declared.Cursor.{Cursor}
 use Rattle.cursor.specs.Cursor.{place_after, handed, nth_from, nth_record}
 use Rattle.cursor.specs.contracts.new as new
@@ -32,11 +33,11 @@ use Rattle.permits.proofs.Records.{two, unended, second, third, eof-not-due}
 
 -- ---- the answers, computed
 
-of_two : nth_record two Exact 1 false ≡ Record 7 5 14
+of_two : nth_record two Exact 1 false ≡ found 7 5 14
 unfolding computed nth_from two
 of_two = refl
 
-past_two : nth_record two Exact 2 false ≡ Refused cut
+past_two : nth_record two Exact 2 false ≡ Err Cut
 unfolding computed nth_from two
 past_two = refl
 
@@ -44,35 +45,35 @@ past_two = refl
 
 module _ (κs : Lfts 1) (a : ArgsD next-at.signature κs) (r : ResD next-at.signature κs) (e : AtExit next-at.ended κs) (post : next-at-reads.Learnt κs a r e) where
   -- on these bytes, asked so, this answer and this place alone are permitted
-  abbrev pub Only : List ℕ → ℕ → Mode → Bool → Found → ℕ → Type 0
+  abbrev pub Only : List ℕ → ℕ → Mode → Bool → Result Found Refusal → ℕ → Type 0
   Only s at mode due x place = a.0.now ≡ s → a.1.0 ≡ at → a.1.1.0 ≡ mode → a.1.1.1.0 ≡ due → r ≡ record { found = x; at = place }
 
-  only : {s : List ℕ} {at : ℕ} {mode : Mode} {due : Bool} {x : Found} → record_at s at mode due ≡ x → Only s at mode due x (place_after x at)
+  only : {s : List ℕ} {at : ℕ} {mode : Mode} {due : Bool} {x : Result Found Refusal} → record_at s at mode due ≡ x → Only s at mode due x (place_after x at)
   only q s at mode due = post ∙ rw (s, at, mode, due, q) refl
 
-  pub next-at-answers : Only two 7 Exact false (Record 7 5 14) 14
+  pub next-at-answers : Only two 7 Exact false (found 7 5 14) 14
   next-at-answers = only second
 
   -- a refusal does not move the place
-  pub next-at-unmoved : Only two 14 Exact false (Refused cut) 14
+  pub next-at-unmoved : Only two 14 Exact false (Err Cut) 14
   next-at-unmoved = only third
 
-  pub next-at-eof-unmoved : Only unended 2 Loose false (Refused cut) 2
+  pub next-at-eof-unmoved : Only unended 2 Loose false (Err Cut) 2
   next-at-eof-unmoved = only eof-not-due
 
 -- ---- `nth`
 
 module _ (κs : Lfts 1) (a : ArgsD nth.signature κs) (r : ResD nth.signature κs) (e : AtExit nth.ended κs) (post : nth-reads.Learnt κs a r e) where
-  abbrev pub NthOnly : List ℕ → Mode → ℕ → Bool → Found → Type 0
+  abbrev pub NthOnly : List ℕ → Mode → ℕ → Bool → Result Found Refusal → Type 0
   NthOnly s mode n due x = a.0.now ≡ s → a.1.0 ≡ mode → a.1.1.0 ≡ n → a.1.1.1.0 ≡ due → r ≡ x
 
-  nth-only : {s : List ℕ} {mode : Mode} {n : ℕ} {due : Bool} {x : Found} → nth_record s mode n due ≡ x → NthOnly s mode n due x
+  nth-only : {s : List ℕ} {mode : Mode} {n : ℕ} {due : Bool} {x : Result Found Refusal} → nth_record s mode n due ≡ x → NthOnly s mode n due x
   nth-only q s mode n due = post ∙ rw (s, mode, n, due) q
 
-  pub nth-answers : NthOnly two Exact 1 false (Record 7 5 14)
+  pub nth-answers : NthOnly two Exact 1 false (found 7 5 14)
   nth-answers = nth-only of_two
 
-  pub nth-past-the-last : NthOnly two Exact 2 false (Refused cut)
+  pub nth-past-the-last : NthOnly two Exact 2 false (Err Cut)
   nth-past-the-last = nth-only past_two
 
 -- ---- `new` and `next`, which are proved by hand: what their `ensures` says, as the clause stands in the contract
@@ -96,13 +97,13 @@ module _ {M : Type 1} {𝓤 : Ura M} (𝓛 : Logic 𝓤) (mem : Memory → SProp
 
     -- the record at the place, and the cursor past it; its file and mode stay
     pub next-answers : lent.src.now ≡ two → lent.at ≡ 7 → lent.mode ≡ Exact → a.1.0 ≡ false
-        → Says ((r ≡ Record 7 5 14) × (left ≡ record { src = lent.src; at = 14; mode = lent.mode }))
+        → Says ((r ≡ found 7 5 14) × (left ≡ record { src = lent.src; at = 14; mode = lent.mode }))
     next-answers s at m due =
-        let q : handed lent a.1.0 ≡ Record 7 5 14 = rw (s, at, m, due) second in
+        let q : handed lent a.1.0 ≡ found 7 5 14 = rw (s, at, m, due) second in
         fact_mono 𝓤 _ _ (λ p. (p.0 ∙ q, p.1 ∙ rw q refl))
 
     -- a refusal does not move it
-    pub next-unmoved : lent.src.now ≡ two → lent.at ≡ 14 → lent.mode ≡ Exact → a.1.0 ≡ false → Says ((r ≡ Refused cut) × (left ≡ lent))
+    pub next-unmoved : lent.src.now ≡ two → lent.at ≡ 14 → lent.mode ≡ Exact → a.1.0 ≡ false → Says ((r ≡ Err Cut) × (left ≡ lent))
     next-unmoved s at m due =
-        let q : handed lent a.1.0 ≡ Refused cut = rw (s, at, m, due) third in
+        let q : handed lent a.1.0 ≡ Err Cut = rw (s, at, m, due) third in
         fact_mono 𝓤 _ _ (λ p. (p.0 ∙ q, p.1 ∙ rw q refl))

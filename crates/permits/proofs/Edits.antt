@@ -4,6 +4,7 @@ use mathlib.Core.Path.{◌≡◌, refl, ◌∙◌, ap}
 use mathlib.Core.List.{List, [], ◌∷◌, ◌++◌}
 use lib.ListN.{take, drop}
 use lib.IntN.{ℤ, pos, negsuc}
+use Rattle.std.specs.Prelude.{Result, Ok, Err}
 use contract.Lifetimes.{Lfts}
 use borrow.Fn.World.{ArgsD, ResD}
 use denote.Triple.Clauses.{AtExit}
@@ -11,11 +12,11 @@ use Rattle.laws.specs.Text.{text}
 use Rattle.heading.specs.declared.Header.{Header}
 use Rattle.heading.specs.Heading.{no_header}
 use Rattle.sheet.specs.Tables.{Tables, empty}
-use Rattle.made.specs.declared.Verdict.TheVariants.{BadHeader, Faulty}
+use Rattle.made.specs.declared.Flaw.TheVariants.{BadHeader, Faulty}
 use Rattle.made.specs.Made.{tables_of}
 use Rattle.made.specs.Examples.{placed}
-use Rattle.edit.specs.declared.Edited.{Edited}
-use Rattle.edit.specs.declared.Edited.TheVariants.{Done, Missing, MovedOff, Refused}
+use Rattle.edit.specs.declared.Unedited.{Unedited}
+use Rattle.edit.specs.declared.Unedited.TheVariants.{Missing, MovedOff, Refused}
 use Rattle.edit.specs.Answers.{tables_at}
 use Rattle.edit.specs.Removals.{removed_tables, remove_of}
 use Rattle.edit.specs.RemoveExamples.{computed as computed_removal}
@@ -38,7 +39,7 @@ use Rattle.permits.proofs.Readings.{four}
 -- ---- a row taken out, computed
 
 -- what is answered, and what the tables hold at exit
-abbrev removal : Header → ℕ → Tables → ℕ → Edited × Tables
+abbrev removal : Header → ℕ → Tables → ℕ → Result ℕ Unedited × Tables
 removal h count t k = (remove_of h count t k, tables_at (remove_of h count t k) (removed_tables count k t) t)
 
 -- the parcel of four rows: the text and the building close up, their starts less a letter, an island count and nine points; then the freed tails as they were
@@ -47,7 +48,7 @@ no_parcel =
     tables_of (take 15 small.rows ++ (placed 2 0 0 (drop 30 small.rows) ++ (placed 5 0 0 (drop 45 small.rows) ++ drop 45 small.rows))) (text "S7(7)8++") (4 ∷ [])
     (drop 18 small.points ++ drop 10 small.points)
 
-parcel-out : removal header 4 small 1 ≡ (Done 3, no_parcel)
+parcel-out : removal header 4 small 1 ≡ (Ok 3, no_parcel)
 unfolding computed_removal
 parcel-out = refl
 
@@ -55,7 +56,7 @@ parcel-out = refl
 abbrev pub no_parcel_of_three : Tables
 no_parcel_of_three = tables_of (take 15 small.rows ++ (placed 2 0 0 (drop 30 small.rows) ++ drop 30 small.rows)) (text "S7(7))8+") (4 ∷ []) small.points
 
-parcel-of-three-out : removal header 3 small 1 ≡ (Done 2, no_parcel_of_three)
+parcel-of-three-out : removal header 3 small 1 ≡ (Ok 2, no_parcel_of_three)
 unfolding computed_removal
 parcel-of-three-out = refl
 
@@ -64,41 +65,41 @@ abbrev pub no_text : Tables
 no_text =
     tables_of (placed 0 0 0 (drop 15 small.rows) ++ (placed 1 1 9 (drop 30 small.rows) ++ (placed 4 1 9 (drop 45 small.rows) ++ drop 45 small.rows))) (text "9(7)8+8+") (4 ∷ []) small.points
 
-text_out : removal header 4 small 0 ≡ (Done 3, no_text)
+text_out : removal header 4 small 0 ≡ (Ok 3, no_text)
 unfolding computed_removal
 text_out = refl
 
 -- the last row, and the only one: all that they held is freed
-last_out : removal header 4 small 3 ≡ (Done 3, small)
+last_out : removal header 4 small 3 ≡ (Ok 3, small)
 unfolding computed_removal
 last_out = refl
 
-only_out : removal header 1 small 0 ≡ (Done 0, small)
+only_out : removal header 1 small 0 ≡ (Ok 0, small)
 unfolding computed_removal
 only_out = refl
 
 -- 6, then 15, then 19
-headed : removal no_kind 4 faulty 4 ≡ (Refused BadHeader, faulty)
+headed : removal no_kind 4 faulty 4 ≡ (Err (Refused BadHeader), faulty)
 unfolding computed_removal
 headed = refl
 
-unnamed : removal no_header 4 small 1 ≡ (Refused BadHeader, small)
+unnamed : removal no_header 4 small 1 ≡ (Err (Refused BadHeader), small)
 unfolding computed_removal
 unnamed = refl
 
-made : removal header 4 faulty 4 ≡ (Refused (Faulty 3), faulty)
+made : removal header 4 faulty 4 ≡ (Err (Refused (Faulty 3)), faulty)
 unfolding computed_removal
 made = refl
 
-misplaced : removal header 4 false_start 0 ≡ (Refused (Faulty 3), false_start)
+misplaced : removal header 4 false_start 0 ≡ (Err (Refused (Faulty 3)), false_start)
 unfolding computed_removal
 misplaced = refl
 
-past-rows : removal header 4 small 4 ≡ (Missing, small)
+past-rows : removal header 4 small 4 ≡ (Err Missing, small)
 unfolding computed_removal
 past-rows = refl
 
-no_rows : removal header 0 small 0 ≡ (Missing, small)
+no_rows : removal header 0 small 0 ≡ (Err Missing, small)
 unfolding computed_removal
 no_rows = refl
 
@@ -109,48 +110,48 @@ module _ (κs : Lfts 4) (a : ArgsD remove-row.signature κs) (r : ResD remove-ro
   abbrev pub remove_left : Tables
   remove_left = tables_of e.1.1.0.now e.1.1.1.0.now e.1.1.1.1.0.now e.1.1.1.1.1.0.now
 
-  abbrev pub Removes : Header → ℕ → Tables → ℕ → Edited × Tables → Type 0
+  abbrev pub Removes : Header → ℕ → Tables → ℕ → Result ℕ Unedited × Tables → Type 0
   Removes h count t k x = a.0 ≡ h → Lent count t a.1.0 a.1.1.0.now a.1.1.1.0.now a.1.1.1.1.0.now a.1.1.1.1.1.0.now → a.1.1.1.1.1.1.0 ≡ k → remove-reads.Learnt κs a r e → (r ≡ x.0) × (remove_left ≡ x.1)
 
-  removes : {h : Header} {count : ℕ} {t : Tables} {k : ℕ} {x : Edited × Tables} → removal h count t k ≡ x → Removes h count t k x
+  removes : {h : Header} {count : ℕ} {t : Tables} {k : ℕ} {x : Result ℕ Unedited × Tables} → removal h count t k ≡ x → Removes h count t k x
   removes {h} {count} {t} {k} q p d n post =
       let y : r ≡ remove_of h count t k = post.0 ∙ rw (p, d.count-is, d.rows_are, d.letters-are, d.islands-are, d.points-are, n) refl in (
-        y ∙ ap (λ (z : Edited × Tables). z.0) q,
+        y ∙ ap (λ (z : Result ℕ Unedited × Tables). z.0) q,
         four (post.1.0 ∙ rw (y, d.count-is, d.rows_are, d.letters-are, d.islands-are, d.points-are, n) refl) (post.1.1.0 ∙ rw (y, d.count-is, d.rows_are, d.letters-are, d.islands-are, d.points-are, n) refl)
             (post.1.1.1.0 ∙ rw (y, d.count-is, d.rows_are, d.letters-are, d.islands-are, d.points-are, n) refl) (post.1.1.1.1 ∙ rw (y, d.count-is, d.rows_are, d.letters-are, d.islands-are, d.points-are, n) refl)
-            ∙ ap (λ (z : Edited × Tables). z.1) q,
+            ∙ ap (λ (z : Result ℕ Unedited × Tables). z.1) q,
       )
 
-  pub remove-parcel : Removes header 4 small 1 (Done 3, no_parcel)
+  pub remove-parcel : Removes header 4 small 1 (Ok 3, no_parcel)
   remove-parcel = removes parcel-out
 
   -- shuts out a removal that touches what stands behind the used part
-  pub remove-of-three : Removes header 3 small 1 (Done 2, no_parcel_of_three)
+  pub remove-of-three : Removes header 3 small 1 (Ok 2, no_parcel_of_three)
   remove-of-three = removes parcel-of-three-out
 
-  pub remove_first : Removes header 4 small 0 (Done 3, no_text)
+  pub remove_first : Removes header 4 small 0 (Ok 3, no_text)
   remove_first = removes text_out
 
   -- shuts out a removal that clears the freed tail
-  pub remove-last : Removes header 4 small 3 (Done 3, small)
+  pub remove-last : Removes header 4 small 3 (Ok 3, small)
   remove-last = removes last_out
 
-  pub remove-only : Removes header 1 small 0 (Done 0, small)
+  pub remove-only : Removes header 1 small 0 (Ok 0, small)
   remove-only = removes only_out
 
-  pub remove-bad-header : Removes no_kind 4 faulty 4 (Refused BadHeader, faulty)
+  pub remove-bad-header : Removes no_kind 4 faulty 4 (Err (Refused BadHeader), faulty)
   remove-bad-header = removes headed
 
-  pub remove-faulty-row : Removes header 4 faulty 4 (Refused (Faulty 3), faulty)
+  pub remove-faulty-row : Removes header 4 faulty 4 (Err (Refused (Faulty 3)), faulty)
   remove-faulty-row = removes made
 
-  pub remove-false-start : Removes header 4 false_start 0 (Refused (Faulty 3), false_start)
+  pub remove-false-start : Removes header 4 false_start 0 (Err (Refused (Faulty 3)), false_start)
   remove-false-start = removes misplaced
 
-  pub remove-no-row : Removes header 4 small 4 (Missing, small)
+  pub remove-no-row : Removes header 4 small 4 (Err Missing, small)
   remove-no-row = removes past-rows
 
-  pub remove-of-none : Removes header 0 small 0 (Missing, small)
+  pub remove-of-none : Removes header 0 small 0 (Err Missing, small)
   remove-of-none = removes no_rows
 
 -- ---- `cxf_remove`
@@ -164,15 +165,15 @@ module _ (κs : Lfts 5) (a : ArgsD cxf-remove.signature κs) (r : ResD cxf-remov
       a.0 ≡ h.kind → a.1.0.now ≡ h.name → a.1.1.0 ≡ h.scale → Lent count t a.1.1.1.0 a.1.1.1.1.0.now a.1.1.1.1.1.0.now a.1.1.1.1.1.1.0.now a.1.1.1.1.1.1.1.0.now → a.1.1.1.1.1.1.1.1.0 ≡ k → cxf-remove-reads.Learnt κs a r e
       → (r ≡ x.0) × (cxf_remove_left ≡ x.1)
 
-  cxf-removes : {h h' : Header} {count : ℕ} {t : Tables} {k : ℕ} {x : Edited × Tables} → header_of h.kind h.name h.scale ≡ h' → removal h' count t k ≡ x
+  cxf-removes : {h h' : Header} {count : ℕ} {t : Tables} {k : ℕ} {x : Result ℕ Unedited × Tables} → header_of h.kind h.name h.scale ≡ h' → removal h' count t k ≡ x
       → CxfRemoves h count t k (edit_told x.0, x.1)
   cxf-removes p q kind name scale d n post = (
-    post.0 ∙ rw (kind, name, scale, d.count-is, d.rows_are, d.letters-are, d.islands-are, d.points-are, n, p) (ap (λ (z : Edited × Tables). edit_told z.0) q),
+    post.0 ∙ rw (kind, name, scale, d.count-is, d.rows_are, d.letters-are, d.islands-are, d.points-are, n, p) (ap (λ (z : Result ℕ Unedited × Tables). edit_told z.0) q),
     four (post.1.0 ∙ rw (kind, name, scale, d.count-is, d.rows_are, d.letters-are, d.islands-are, d.points-are, n, p) refl)
         (post.1.1.0 ∙ rw (kind, name, scale, d.count-is, d.rows_are, d.letters-are, d.islands-are, d.points-are, n, p) refl)
         (post.1.1.1.0 ∙ rw (kind, name, scale, d.count-is, d.rows_are, d.letters-are, d.islands-are, d.points-are, n, p) refl)
         (post.1.1.1.1 ∙ rw (kind, name, scale, d.count-is, d.rows_are, d.letters-are, d.islands-are, d.points-are, n, p) refl)
-        ∙ ap (λ (z : Edited × Tables). z.1) q,
+        ∙ ap (λ (z : Result ℕ Unedited × Tables). z.1) q,
   )
 
   pub cxf-remove-parcel : CxfRemoves header 4 small 1 (edit_laid 0 0 3, no_parcel)
@@ -199,7 +200,7 @@ module _ (κs : Lfts 5) (a : ArgsD cxf-remove.signature κs) (r : ResD cxf-remov
 
 -- ---- a sheet that is moved, computed: a text, and a line from (z, 0) to (9, 0), in tables that hold more
 
-abbrev move : Header → ℕ → Tables → ℤ → ℤ → Edited × Tables
+abbrev move : Header → ℕ → Tables → ℤ → ℤ → Result ℕ Unedited × Tables
 move h count t dx dy = (move_of h count t dx dy, tables_at (move_of h count t dx dy) (moved_tables dx dy count t) t)
 
 abbrev pub text_and_line : ℤ → ℤ → List ℤ → Tables
@@ -207,55 +208,55 @@ text_and_line x y points =
     tables_of (row 2 (pos 18) (pos 4) x y (pos 0) (pos 0) 1 0 0 0 0 0 ++ row 5 (pos 0) (pos 0) (pos 0) (pos 0) (pos 0) (pos 0) 0 0 2 1 0 0 ++ pos 77 ∷ []) (text "7?") (4 ∷ []) points
 
 -- both rows, and what stands behind their points stays
-both-moved : move header 2 (sheet_of (pos 3000) (negsuc 4) (pos 0)) (pos 1000) (negsuc 1) ≡ (Done 2, text_and_line (pos 4000) (negsuc 6) (pos 1000 ∷ negsuc 1 ∷ pos 1009 ∷ negsuc 1 ∷ pos 5 ∷ []))
+both-moved : move header 2 (sheet_of (pos 3000) (negsuc 4) (pos 0)) (pos 1000) (negsuc 1) ≡ (Ok 2, text_and_line (pos 4000) (negsuc 6) (pos 1000 ∷ negsuc 1 ∷ pos 1009 ∷ negsuc 1 ∷ pos 5 ∷ []))
 unfolding computed_move
 both-moved = refl
 
 -- a vertex that just stays, and one that just leaves; the same of a position
-vertex-stays : move header 2 (sheet_of (pos 0) (pos 0) (pos 0)) (pos 99999999990) (pos 0) ≡ (Done 2, text_and_line (pos 99999999990) (pos 0) (pos 99999999990 ∷ pos 0 ∷ pos 99999999999 ∷ pos 0 ∷ pos 5 ∷ []))
+vertex-stays : move header 2 (sheet_of (pos 0) (pos 0) (pos 0)) (pos 99999999990) (pos 0) ≡ (Ok 2, text_and_line (pos 99999999990) (pos 0) (pos 99999999990 ∷ pos 0 ∷ pos 99999999999 ∷ pos 0 ∷ pos 5 ∷ []))
 unfolding computed_move
 vertex-stays = refl
 
-vertex-leaves : move header 2 (sheet_of (pos 0) (pos 0) (pos 0)) (pos 99999999991) (pos 0) ≡ (MovedOff, sheet_of (pos 0) (pos 0) (pos 0))
+vertex-leaves : move header 2 (sheet_of (pos 0) (pos 0) (pos 0)) (pos 99999999991) (pos 0) ≡ (Err MovedOff, sheet_of (pos 0) (pos 0) (pos 0))
 unfolding computed_move
 vertex-leaves = refl
 
-position-stays : move header 1 (sheet_of (pos 0) (pos 0) (pos 0)) (pos 0) (negsuc 9999999998) ≡ (Done 1, text_and_line (pos 0) (negsuc 9999999998) (pos 0 ∷ pos 0 ∷ pos 9 ∷ pos 0 ∷ pos 5 ∷ []))
+position-stays : move header 1 (sheet_of (pos 0) (pos 0) (pos 0)) (pos 0) (negsuc 9999999998) ≡ (Ok 1, text_and_line (pos 0) (negsuc 9999999998) (pos 0 ∷ pos 0 ∷ pos 9 ∷ pos 0 ∷ pos 5 ∷ []))
 unfolding computed_move
 position-stays = refl
 
-position-leaves : move header 1 (sheet_of (pos 0) (pos 0) (pos 0)) (pos 0) (negsuc 9999999999) ≡ (MovedOff, sheet_of (pos 0) (pos 0) (pos 0))
+position-leaves : move header 1 (sheet_of (pos 0) (pos 0) (pos 0)) (pos 0) (negsuc 9999999999) ≡ (Err MovedOff, sheet_of (pos 0) (pos 0) (pos 0))
 unfolding computed_move
 position-leaves = refl
 
 -- from one end of the real range to the other; one millimetre more is too far, also for a sheet of no rows
 whole-range : move header 1 (sheet_of (negsuc 9999999998) (pos 99999999999) (pos 0)) (pos 109999999998) (negsuc 109999999997)
-    ≡ (Done 1, text_and_line (pos 99999999999) (negsuc 9999999998) (pos 0 ∷ pos 0 ∷ pos 9 ∷ pos 0 ∷ pos 5 ∷ []))
+    ≡ (Ok 1, text_and_line (pos 99999999999) (negsuc 9999999998) (pos 0 ∷ pos 0 ∷ pos 9 ∷ pos 0 ∷ pos 5 ∷ []))
 unfolding computed_move
 whole-range = refl
 
-none-moved : move header 0 empty (pos 109999999998) (negsuc 109999999997) ≡ (Done 0, empty)
+none-moved : move header 0 empty (pos 109999999998) (negsuc 109999999997) ≡ (Ok 0, empty)
 unfolding computed_move
 none-moved = refl
 
-none-too-far : move header 0 empty (pos 109999999999) (pos 0) ≡ (MovedOff, empty)
+none-too-far : move header 0 empty (pos 109999999999) (pos 0) ≡ (Err MovedOff, empty)
 unfolding computed_move
 none-too-far = refl
 
-none-too-far-down : move header 0 empty (pos 0) (negsuc 109999999998) ≡ (MovedOff, empty)
+none-too-far-down : move header 0 empty (pos 0) (negsuc 109999999998) ≡ (Err MovedOff, empty)
 unfolding computed_move
 none-too-far-down = refl
 
 -- 6, then 15, then 24
-move-headed : move no_kind 3 (sheet_of (pos 0) (pos 0) (pos 0)) (pos 109999999999) (pos 0) ≡ (Refused BadHeader, sheet_of (pos 0) (pos 0) (pos 0))
+move-headed : move no_kind 3 (sheet_of (pos 0) (pos 0) (pos 0)) (pos 109999999999) (pos 0) ≡ (Err (Refused BadHeader), sheet_of (pos 0) (pos 0) (pos 0))
 unfolding computed_move
 move-headed = refl
 
-move-unnamed : move no_header 2 (sheet_of (pos 0) (pos 0) (pos 0)) (pos 1) (pos 0) ≡ (Refused BadHeader, sheet_of (pos 0) (pos 0) (pos 0))
+move-unnamed : move no_header 2 (sheet_of (pos 0) (pos 0) (pos 0)) (pos 1) (pos 0) ≡ (Err (Refused BadHeader), sheet_of (pos 0) (pos 0) (pos 0))
 unfolding computed_move
 move-unnamed = refl
 
-move-made : move header 3 (sheet_of (pos 0) (pos 0) (pos 0)) (pos 109999999999) (pos 0) ≡ (Refused (Faulty 2), sheet_of (pos 0) (pos 0) (pos 0))
+move-made : move header 3 (sheet_of (pos 0) (pos 0) (pos 0)) (pos 109999999999) (pos 0) ≡ (Err (Refused (Faulty 2)), sheet_of (pos 0) (pos 0) (pos 0))
 unfolding computed_move
 move-made = refl
 
@@ -263,52 +264,52 @@ move-made = refl
 
 module _ (κs : Lfts 4) (a : ArgsD move-sheet.signature κs) (r : ResD move-sheet.signature κs) (e : AtExit move-sheet.ended κs) where
   -- of the tables at exit, those that may be altered
-  abbrev pub Moves : Header → ℕ → Tables → ℤ → ℤ → Edited × Tables → Type 0
+  abbrev pub Moves : Header → ℕ → Tables → ℤ → ℤ → Result ℕ Unedited × Tables → Type 0
   Moves h count t dx dy x =
       a.0 ≡ h → Lent count t a.1.0 a.1.1.0.now a.1.1.1.0.now a.1.1.1.1.0.now a.1.1.1.1.1.0.now → a.1.1.1.1.1.1.0 ≡ dx → a.1.1.1.1.1.1.1.0 ≡ dy → move-reads.Learnt κs a r e
       → (r ≡ x.0) × (e.1.1.0.now ≡ x.1.rows) × (e.1.1.1.1.1.0.now ≡ x.1.points)
 
-  moves : {h : Header} {count : ℕ} {t : Tables} {dx dy : ℤ} {x : Edited × Tables} → move h count t dx dy ≡ x → Moves h count t dx dy x
+  moves : {h : Header} {count : ℕ} {t : Tables} {dx dy : ℤ} {x : Result ℕ Unedited × Tables} → move h count t dx dy ≡ x → Moves h count t dx dy x
   moves {h} {count} {t} {dx} {dy} q p d u v post =
       let y : r ≡ move_of h count t dx dy = post.0 ∙ rw (p, d.count-is, d.rows_are, d.letters-are, d.islands-are, d.points-are, u, v) refl in (
-        y ∙ ap (λ (z : Edited × Tables). z.0) q,
-        post.1.0 ∙ rw (y, d.count-is, d.rows_are, d.letters-are, d.islands-are, d.points-are, u, v) (ap (λ (z : Edited × Tables). z.1.rows) q),
-        post.1.1 ∙ rw (y, d.count-is, d.rows_are, d.letters-are, d.islands-are, d.points-are, u, v) (ap (λ (z : Edited × Tables). z.1.points) q),
+        y ∙ ap (λ (z : Result ℕ Unedited × Tables). z.0) q,
+        post.1.0 ∙ rw (y, d.count-is, d.rows_are, d.letters-are, d.islands-are, d.points-are, u, v) (ap (λ (z : Result ℕ Unedited × Tables). z.1.rows) q),
+        post.1.1 ∙ rw (y, d.count-is, d.rows_are, d.letters-are, d.islands-are, d.points-are, u, v) (ap (λ (z : Result ℕ Unedited × Tables). z.1.points) q),
       )
 
-  pub move-both : Moves header 2 (sheet_of (pos 3000) (negsuc 4) (pos 0)) (pos 1000) (negsuc 1) (Done 2, text_and_line (pos 4000) (negsuc 6) (pos 1000 ∷ negsuc 1 ∷ pos 1009 ∷ negsuc 1 ∷ pos 5 ∷ []))
+  pub move-both : Moves header 2 (sheet_of (pos 3000) (negsuc 4) (pos 0)) (pos 1000) (negsuc 1) (Ok 2, text_and_line (pos 4000) (negsuc 6) (pos 1000 ∷ negsuc 1 ∷ pos 1009 ∷ negsuc 1 ∷ pos 5 ∷ []))
   move-both = moves both-moved
 
-  pub move-vertex-stays : Moves header 2 (sheet_of (pos 0) (pos 0) (pos 0)) (pos 99999999990) (pos 0) (Done 2, text_and_line (pos 99999999990) (pos 0) (pos 99999999990 ∷ pos 0 ∷ pos 99999999999 ∷ pos 0 ∷ pos 5 ∷ []))
+  pub move-vertex-stays : Moves header 2 (sheet_of (pos 0) (pos 0) (pos 0)) (pos 99999999990) (pos 0) (Ok 2, text_and_line (pos 99999999990) (pos 0) (pos 99999999990 ∷ pos 0 ∷ pos 99999999999 ∷ pos 0 ∷ pos 5 ∷ []))
   move-vertex-stays = moves vertex-stays
 
-  pub move-vertex-leaves : Moves header 2 (sheet_of (pos 0) (pos 0) (pos 0)) (pos 99999999991) (pos 0) (MovedOff, sheet_of (pos 0) (pos 0) (pos 0))
+  pub move-vertex-leaves : Moves header 2 (sheet_of (pos 0) (pos 0) (pos 0)) (pos 99999999991) (pos 0) (Err MovedOff, sheet_of (pos 0) (pos 0) (pos 0))
   move-vertex-leaves = moves vertex-leaves
 
-  pub move-position-stays : Moves header 1 (sheet_of (pos 0) (pos 0) (pos 0)) (pos 0) (negsuc 9999999998) (Done 1, text_and_line (pos 0) (negsuc 9999999998) (pos 0 ∷ pos 0 ∷ pos 9 ∷ pos 0 ∷ pos 5 ∷ []))
+  pub move-position-stays : Moves header 1 (sheet_of (pos 0) (pos 0) (pos 0)) (pos 0) (negsuc 9999999998) (Ok 1, text_and_line (pos 0) (negsuc 9999999998) (pos 0 ∷ pos 0 ∷ pos 9 ∷ pos 0 ∷ pos 5 ∷ []))
   move-position-stays = moves position-stays
 
-  pub move-position-leaves : Moves header 1 (sheet_of (pos 0) (pos 0) (pos 0)) (pos 0) (negsuc 9999999999) (MovedOff, sheet_of (pos 0) (pos 0) (pos 0))
+  pub move-position-leaves : Moves header 1 (sheet_of (pos 0) (pos 0) (pos 0)) (pos 0) (negsuc 9999999999) (Err MovedOff, sheet_of (pos 0) (pos 0) (pos 0))
   move-position-leaves = moves position-leaves
 
   -- shuts out a limit on the pair that is less than the width of the real range
   pub move-whole-range : Moves header 1 (sheet_of (negsuc 9999999998) (pos 99999999999) (pos 0)) (pos 109999999998) (negsuc 109999999997)
-      (Done 1, text_and_line (pos 99999999999) (negsuc 9999999998) (pos 0 ∷ pos 0 ∷ pos 9 ∷ pos 0 ∷ pos 5 ∷ []))
+      (Ok 1, text_and_line (pos 99999999999) (negsuc 9999999998) (pos 0 ∷ pos 0 ∷ pos 9 ∷ pos 0 ∷ pos 5 ∷ []))
   move-whole-range = moves whole-range
 
-  pub move-none : Moves header 0 empty (pos 109999999998) (negsuc 109999999997) (Done 0, empty)
+  pub move-none : Moves header 0 empty (pos 109999999998) (negsuc 109999999997) (Ok 0, empty)
   move-none = moves none-moved
 
-  pub move-none-too-far : Moves header 0 empty (pos 109999999999) (pos 0) (MovedOff, empty)
+  pub move-none-too-far : Moves header 0 empty (pos 109999999999) (pos 0) (Err MovedOff, empty)
   move-none-too-far = moves none-too-far
 
-  pub move-none-too-far-down : Moves header 0 empty (pos 0) (negsuc 109999999998) (MovedOff, empty)
+  pub move-none-too-far-down : Moves header 0 empty (pos 0) (negsuc 109999999998) (Err MovedOff, empty)
   move-none-too-far-down = moves none-too-far-down
 
-  pub move-bad-header : Moves no_kind 3 (sheet_of (pos 0) (pos 0) (pos 0)) (pos 109999999999) (pos 0) (Refused BadHeader, sheet_of (pos 0) (pos 0) (pos 0))
+  pub move-bad-header : Moves no_kind 3 (sheet_of (pos 0) (pos 0) (pos 0)) (pos 109999999999) (pos 0) (Err (Refused BadHeader), sheet_of (pos 0) (pos 0) (pos 0))
   move-bad-header = moves move-headed
 
-  pub move-faulty-row : Moves header 3 (sheet_of (pos 0) (pos 0) (pos 0)) (pos 109999999999) (pos 0) (Refused (Faulty 2), sheet_of (pos 0) (pos 0) (pos 0))
+  pub move-faulty-row : Moves header 3 (sheet_of (pos 0) (pos 0) (pos 0)) (pos 109999999999) (pos 0) (Err (Refused (Faulty 2)), sheet_of (pos 0) (pos 0) (pos 0))
   move-faulty-row = moves move-made
 
 -- ---- `cxf_move`
@@ -323,13 +324,13 @@ module _ (κs : Lfts 5) (a : ArgsD cxf-move.signature κs) (r : ResD cxf-move.si
       → cxf-move-reads.Learnt κs a r e → (r ≡ x.0) × (cxf_move_left ≡ x.1)
 
   -- letters and island counts are those of the sheet
-  cxf-moves : {h h' : Header} {count : ℕ} {t u : Tables} {dx dy : ℤ} {x : Edited} → header_of h.kind h.name h.scale ≡ h' → move h' count t dx dy ≡ (x, u) → t.letters ≡ u.letters
+  cxf-moves : {h h' : Header} {count : ℕ} {t u : Tables} {dx dy : ℤ} {x : Result ℕ Unedited} → header_of h.kind h.name h.scale ≡ h' → move h' count t dx dy ≡ (x, u) → t.letters ≡ u.letters
       → t.islands ≡ u.islands → CxfMoves h count t dx dy (edit_told x, u)
   cxf-moves p q l i kind name scale d v w post = (
-    post.0 ∙ rw (kind, name, scale, d.count-is, d.rows_are, d.letters-are, d.islands-are, d.points-are, v, w, p) (ap (λ (z : Edited × Tables). edit_told z.0) q),
-    four (post.1.0 ∙ rw (kind, name, scale, d.count-is, d.rows_are, d.letters-are, d.islands-are, d.points-are, v, w, p) (ap (λ (z : Edited × Tables). z.1.rows) q))
+    post.0 ∙ rw (kind, name, scale, d.count-is, d.rows_are, d.letters-are, d.islands-are, d.points-are, v, w, p) (ap (λ (z : Result ℕ Unedited × Tables). edit_told z.0) q),
+    four (post.1.0 ∙ rw (kind, name, scale, d.count-is, d.rows_are, d.letters-are, d.islands-are, d.points-are, v, w, p) (ap (λ (z : Result ℕ Unedited × Tables). z.1.rows) q))
         (post.1.1.0 ∙ d.letters-are ∙ l) (post.1.1.1.0 ∙ d.islands-are ∙ i)
-        (post.1.1.1.1 ∙ rw (kind, name, scale, d.count-is, d.rows_are, d.letters-are, d.islands-are, d.points-are, v, w, p) (ap (λ (z : Edited × Tables). z.1.points) q)),
+        (post.1.1.1.1 ∙ rw (kind, name, scale, d.count-is, d.rows_are, d.letters-are, d.islands-are, d.points-are, v, w, p) (ap (λ (z : Result ℕ Unedited × Tables). z.1.points) q)),
   )
 
   pub cxf-move-both : CxfMoves header 2 (sheet_of (pos 3000) (negsuc 4) (pos 0)) (pos 1000) (negsuc 1) (edit_laid 0 0 2, text_and_line (pos 4000) (negsuc 6) (pos 1000 ∷ negsuc 1 ∷ pos 1009 ∷ negsuc 1 ∷ pos 5 ∷ []))

@@ -10,12 +10,11 @@ use denote.Triple.Clauses.{AtExit}
 use Rattle.laws.specs.Text.{text}
 use Rattle.tally.specs.Examples.{computed}
 use Rattle.sheet.specs.Examples.{listed}
-use Rattle.tally.specs.declared.Refusal.TheVariants.{None}
 use Rattle.tally.specs.Take.{tally_of}
 use Rattle.reader.specs.ExitExamples.{computed_column}
 use Rattle.listing.specs.Listing.{tallied_text, sheet_listing, listing_of}
 use Rattle.listing.specs.Examples.{computed_lines}
-use Rattle.listing.specs.declared.Listed.TheVariants.{Wrote, NoRoom}
+use Rattle.std.specs.Prelude.{Ok, Err}
 use Rattle.listing.specs.Listed.{listed_of}
 use Rattle.listing.specs.contracts.list_text as list-text
 use Rattle.listing.proofs.list_text.Reads as list-text-reads
@@ -29,7 +28,7 @@ use Rattle.permits.proofs.Readings.{header, tables, rows_held, points_held, is, 
 abbrev pub listing : List ℕ
 listing = text "MAP 1 Z999_000100 1000000\nCONFINE 0 0 0 0\nOTHER 0 0 0 0\nROAD 0 0 0 0\nWATER 0 0 0 0\nBUILDING 0 0 0 0\nPARCEL 1 400000000 0 0\nROWS 2\n"
 
-one-parcel : tally_of header 2 tables ≡ record { tally = record { figures = replicate 20 (pos 0) ++ pos 1 ∷ pos 400000000 ∷ pos 0 ∷ pos 0 ∷ [] }; refusal = None }
+one-parcel : tally_of header 2 tables ≡ record { tally = record { figures = replicate 20 (pos 0) ++ pos 1 ∷ pos 400000000 ∷ pos 0 ∷ pos 0 ∷ [] }; outcome = Ok tt }
 unfolding computed rows_held points_held
 one-parcel = refl
 
@@ -45,15 +44,15 @@ its-refusal : listing_of raster ≡ refusal
 unfolding listing_of computed_lines computed_column
 its-refusal = refl
 
-spare : listed_of listing 132 ≡ Wrote 130
+spare : listed_of listing 132 ≡ Ok 130
 unfolding listed_of
 spare = refl
 
-short : listed_of listing 129 ≡ NoRoom 130
+short : listed_of listing 129 ≡ Err (record { 0 = 130 })
 unfolding listed_of
 short = refl
 
-refused-spare : listed_of refusal 18 ≡ Wrote 17
+refused-spare : listed_of refusal 18 ≡ Ok 17
 unfolding listed_of
 refused-spare = refl
 
@@ -68,20 +67,20 @@ module _ (κs : Lfts 2) (a : ArgsD list-text.signature κs) (r : ResD list-text.
   left = e.1.0.now
 
   module _ (s : a.0.now ≡ listed) where
-    pub list-answers : length lent ≡ 132 → r ≡ Wrote 130
+    pub list-answers : length lent ≡ 132 → r ≡ Ok 130
     list-answers room = post.0 ∙ rw (s, its-listing, room) spare
 
     pub list-stores : length lent ≡ 132 → left ≡ listing ++ drop 130 lent
     list-stores room = post.1 ∙ rw (list-answers room, s, its-listing) refl
 
-    pub list-needs : length lent ≡ 129 → r ≡ NoRoom 130
+    pub list-needs : length lent ≡ 129 → r ≡ Err (record { 0 = 130 })
     list-needs room = post.0 ∙ rw (s, its-listing, room) short
 
     pub list-untouched : length lent ≡ 129 → left ≡ lent
     list-untouched room = post.1 ∙ rw (list-needs room) refl
 
   module _ (s : a.0.now ≡ raster) (room : length lent ≡ 18) where
-    pub list-refused : r ≡ Wrote 17
+    pub list-refused : r ≡ Ok 17
     list-refused = post.0 ∙ rw (s, its-refusal, room) refused-spare
 
     pub list-refused-stores : left ≡ refusal ++ drop 17 lent

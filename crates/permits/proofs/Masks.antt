@@ -1,17 +1,18 @@
 -- What the contracts of `mask_of` and `cxf_mask_of` permit (document 02, T-03): on each sheet and grid one answer. Assumes nothing.
 use Prim.Native.Nat.{ℕ}
 use mathlib.Core.Path.{◌≡◌, refl, ◌∙◌, ap}
-use mathlib.Core.List.{List, [], ◌∷◌, ◌++◌}
+use mathlib.Core.List.{List, ◌∷◌}
 use lib.ListN.{replicate}
 use lib.IntN.{ℤ, pos, negsuc}
+use Rattle.std.specs.Prelude.{Ok}
 use contract.Lifetimes.{Lfts}
 use borrow.Fn.World.{ArgsD, ResD}
 use denote.Triple.Clauses.{AtExit}
 use Rattle.heading.specs.declared.Header.{Header}
 use Rattle.sheet.specs.Tables.{Tables}
-use Rattle.made.specs.declared.Verdict.TheVariants as Verdict
+use Rattle.made.specs.declared.Flaw.TheVariants.{BadHeader, Faulty}
 use Rattle.mask.specs.declared.Mask.{Mask}
-use Rattle.mask.specs.declared.MaskAnswer.TheVariants.{Drawn, BadSide, Wide, OffGrid, Missing, Refused}
+use Rattle.mask.specs.declared.Unmasked.TheVariants.{BadSide, Wide, OffGrid, Missing, Refused}
 use Rattle.mask.specs.Masks.{undrawn, mask_at}
 use Rattle.mask.specs.Examples.{computed}
 use Rattle.mask.specs.contracts.mask_of as mask-of
@@ -21,7 +22,7 @@ use Rattle.told.specs.Asked.{header_of}
 use Rattle.told.specs.Masks.{mask_told}
 use Rattle.cabi.specs.contracts.cxf_mask_of as cxf-mask-of
 use Rattle.cabi.proofs.cxf_mask_of.Reads as cxf-mask-reads
-use Rattle.permits.proofs.SmallSheets.{Tabled, header, no_kind, in-C, no-kind-in-C, small, wide, faulty, false_start}
+use Rattle.permits.proofs.SmallSheets.{Handed, Tabled, header, no_kind, in-C, no-kind-in-C, small, wide, faulty, false_start}
 
 -- the parcel from (10, 20) to (20, 30) on cells of side 5, the corner at (0, 30): the third and fourth cell of the first two rows. Its island, from (0, 0) to (2, 2), has
 -- no centre of the grid
@@ -30,20 +31,20 @@ parcel_rows = 3458764513820540928 ∷ 3458764513820540928 ∷ replicate 62 0
 
 -- ---- mask_of
 
-parcel-drawn : mask_at header 4 small 1 (pos 0) (pos 30) (pos 5) ≡ record { answer = Drawn 4; rows = parcel_rows }
+parcel-drawn : mask_at header 4 small 1 (pos 0) (pos 30) (pos 5) ≡ record { answer = Ok 4; rows = parcel_rows }
 unfolding computed
 parcel-drawn = refl
 
 -- 6, then 15, then 19, then 26, then 17, then 20
-headed : mask_at no_kind 4 faulty 4 (pos 0) (pos 30) (pos 0) ≡ undrawn (Refused Verdict.BadHeader)
+headed : mask_at no_kind 4 faulty 4 (pos 0) (pos 30) (pos 0) ≡ undrawn (Refused BadHeader)
 unfolding computed
 headed = refl
 
-made : mask_at header 4 faulty 4 (pos 0) (pos 30) (pos 0) ≡ undrawn (Refused (Verdict.Faulty 3))
+made : mask_at header 4 faulty 4 (pos 0) (pos 30) (pos 0) ≡ undrawn (Refused (Faulty 3))
 unfolding computed
 made = refl
 
-placed : mask_at header 4 false_start 1 (pos 0) (pos 30) (pos 5) ≡ undrawn (Refused (Verdict.Faulty 3))
+placed : mask_at header 4 false_start 1 (pos 0) (pos 30) (pos 5) ≡ undrawn (Refused (Faulty 3))
 unfolding computed
 placed = refl
 
@@ -67,26 +68,26 @@ far-corner : mask_at header 4 small 1 (pos 0) (pos 40000001) (pos 5) ≡ undrawn
 unfolding computed
 far-corner = refl
 
-module _ (κs : Lfts 4) (a : ArgsD mask-of.signature κs) (r : ResD mask-of.signature κs) (e : AtExit mask-of.ended κs) where
+module _ (κs : Lfts 2) (a : ArgsD mask-of.signature κs) (r : ResD mask-of.signature κs) (e : AtExit mask-of.ended κs) where
   abbrev pub Only : Header → ℕ → Tables → ℕ → ℤ → ℤ → ℤ → Mask → Type 0
   Only h count t row cx cy side x =
-      a.0 ≡ h → Tabled count t a.1 → a.1.1.1.1.1.1.0 ≡ row → a.1.1.1.1.1.1.1.0 ≡ cx → a.1.1.1.1.1.1.1.1.0 ≡ cy → a.1.1.1.1.1.1.1.1.1.0 ≡ side
+      Handed h count t a.0.now → a.1.0 ≡ row → a.1.1.0 ≡ cx → a.1.1.1.0 ≡ cy → a.1.1.1.1.0 ≡ side
       → mask-reads.Learnt κs a r e → r ≡ x
 
   only : {h : Header} {count : ℕ} {t : Tables} {row : ℕ} {cx cy side : ℤ} {x : Mask} → mask_at h count t row cx cy side ≡ x → Only h count t row cx cy side x
-  only q h d k u v s post = post ∙ rw (h, d.count-is, d.rows_are, d.letters-are, d.islands-are, d.points-are, k, u, v, s) q
+  only q d k u v s post = post ∙ rw (d.header-is, d.count-is, d.tables-are, k, u, v, s) q
 
-  pub mask-of-parcel : Only header 4 small 1 (pos 0) (pos 30) (pos 5) (record { answer = Drawn 4; rows = parcel_rows })
+  pub mask-of-parcel : Only header 4 small 1 (pos 0) (pos 30) (pos 5) (record { answer = Ok 4; rows = parcel_rows })
   mask-of-parcel = only parcel-drawn
 
-  pub mask-bad-header : Only no_kind 4 faulty 4 (pos 0) (pos 30) (pos 0) (undrawn (Refused Verdict.BadHeader))
+  pub mask-bad-header : Only no_kind 4 faulty 4 (pos 0) (pos 30) (pos 0) (undrawn (Refused BadHeader))
   mask-bad-header = only headed
 
-  pub mask-faulty-row : Only header 4 faulty 4 (pos 0) (pos 30) (pos 0) (undrawn (Refused (Verdict.Faulty 3)))
+  pub mask-faulty-row : Only header 4 faulty 4 (pos 0) (pos 30) (pos 0) (undrawn (Refused (Faulty 3)))
   mask-faulty-row = only made
 
   -- T-07: a row with a false start is not well made, also where another row is asked about
-  pub mask-false-start : Only header 4 false_start 1 (pos 0) (pos 30) (pos 5) (undrawn (Refused (Verdict.Faulty 3)))
+  pub mask-false-start : Only header 4 false_start 1 (pos 0) (pos 30) (pos 5) (undrawn (Refused (Faulty 3)))
   mask-false-start = only placed
 
   pub mask-no-border : Only header 4 wide 0 (pos 0) (pos 30) (pos 0) (undrawn Missing)

@@ -9,15 +9,15 @@ use borrow.Fn.World.{ArgsD, ResD}
 use denote.Triple.Clauses.{AtExit}
 use Rattle.laws.specs.Text.{text}
 use Rattle.record.specs.declared.Mode.TheVariants.{Loose, Exact, Former}
+use Rattle.record.specs.declared.refusal.Refusal.{Refusal}
 use Rattle.heading.specs.declared.Header.{Header}
 use Rattle.sheet.specs.Tables.{Tables}
 use Rattle.sheet.specs.Reading.{sheet, reading}
 use Rattle.sheet.specs.Examples.{listed, listed-is, scanned, scanned_header, scanned_tables, scanned-exact}
 use Rattle.made.specs.Made.{tables_of}
 use Rattle.reader.specs.declared.Needs.{Needs}
-use Rattle.reader.specs.declared.Answer.TheVariants.{NoRoom, Refused}
-use Rattle.reader.specs.declared.Outcome.{Outcome}
-use Rattle.reader.specs.Read.{Rooms, rooms_of, holds_all, read_with, refused_in, refused_with, read_of}
+use Rattle.reader.specs.declared.Unread.TheVariants.{NoRoom}
+use Rattle.reader.specs.Read.{Answer, Rooms, stopped_at, rooms_of, holds_all, read_with, refused_in, refused_with, read_of}
 use Rattle.reader.specs.ExitExamples.{computed_column}
 use Rattle.reader.specs.contracts.read_as as read_as
 use Rattle.reader.proofs.read_as.Reads as read-as-reads
@@ -72,7 +72,7 @@ bad_scale = text "MAPPA\nZ999_000100\n1000.0000\n"
 abbrev pub noted : List ℕ
 noted = text "MAPPA\nZ999_000100\n1000.000 x\nEOF"
 
-abbrev pub its_sheet : Outcome
+abbrev pub its_sheet : Answer
 its_sheet = read_with needs header
 
 -- tables with room to spare, tables that are just long enough, and a row table one number short
@@ -92,7 +92,7 @@ short = rw is refl
 abbrev pub scanned_needs : Needs
 scanned_needs = record { rows = 2; letters = 22; islands = 0; points = 6 }
 
-abbrev pub its_scan : Outcome
+abbrev pub its_scan : Answer
 its_scan = read_with scanned_needs scanned_header
 
 scanned-read : read_of Exact scanned (rooms_of 30 22 0 12) ≡ its_scan
@@ -104,27 +104,27 @@ unfolding read_of holds_all scanned_tables
 scanned-short = rw scanned-exact refl
 
 -- a refused file, whatever the tables
-refused-raster : (x : Rooms) → read_of Loose raster x ≡ refused_with (Refused 7 4 27)
+refused-raster : (x : Rooms) → read_of Loose raster x ≡ refused_in 0 (stopped_at Refusal.Keyword 4 27)
 unfolding read_of computed_column
 refused-raster x = refl
 
-refused-tailed : (x : Rooms) → read_of Exact tailed x ≡ refused_with (Refused 13 5 39)
+refused-tailed : (x : Rooms) → read_of Exact tailed x ≡ refused_in 0 (stopped_at Refusal.AfterEof 5 39)
 unfolding read_of computed_column
 refused-tailed x = refl
 
-refused-listed : (x : Rooms) → read_of Exact listed x ≡ refused_with (Refused 3 1 0)
+refused-listed : (x : Rooms) → read_of Exact listed x ≡ refused_in 0 (stopped_at Refusal.LineEnd 1 0)
 unfolding read_of listed computed_column
 refused-listed x = refl
 
-refused-scale : (x : Rooms) → read_of Loose bad_scale x ≡ refused_in 9 (Refused 8 3 18)
+refused-scale : (x : Rooms) → read_of Loose bad_scale x ≡ refused_in 9 (stopped_at Refusal.Number 3 18)
 unfolding read_of computed_column
 refused-scale x = refl
 
-refused-noted : (x : Rooms) → read_of Loose noted x ≡ refused_in 10 (Refused 8 3 18)
+refused-noted : (x : Rooms) → read_of Loose noted x ≡ refused_in 10 (stopped_at Refusal.Number 3 18)
 unfolding read_of computed_column
 refused-noted x = refl
 
-abbrev pub no_elements : Outcome
+abbrev pub no_elements : Answer
 no_elements = read_with (record { rows = 0; letters = 0; islands = 0; points = 0 }) header
 
 noted-former : read_of Former noted (rooms_of 0 0 0 0) ≡ no_elements
@@ -164,7 +164,7 @@ module _ (κs : Lfts 5) (a : ArgsD read_as.signature κs) (r : ResD read_as.sign
   abbrev pub Lengths : ℕ → ℕ → ℕ → ℕ → Type 0
   Lengths n l i p = (length lent.rows ≡ n) × (length lent.letters ≡ l) × (length lent.islands ≡ i) × (length lent.points ≡ p)
 
-  untouched : {number nth offset column : ℕ} → r ≡ refused_in column (Refused number nth offset) → left ≡ lent
+  untouched : {refusal : Refusal} {nth offset column : ℕ} → r ≡ refused_in column (stopped_at refusal nth offset) → left ≡ lent
   untouched q = four (post.1.0 ∙ rw q refl) (post.1.1.0 ∙ rw q refl) (post.1.1.1.0 ∙ rw q refl) (post.1.1.1.1 ∙ rw q refl)
 
   module _ (m : a.0 ≡ Loose) (s : a.1.0.now ≡ listed) where
@@ -205,20 +205,20 @@ module _ (κs : Lfts 5) (a : ArgsD read_as.signature κs) (r : ResD read_as.sign
         four (post.1.0 ∙ rw (q, m, s, scanned-exact) refl) (post.1.1.0 ∙ rw (q, m, s, scanned-exact) refl) (post.1.1.1.0 ∙ rw (q, m, s, scanned-exact) refl) (post.1.1.1.1 ∙ rw (q, m, s, scanned-exact) refl)
 
   -- number, record and offset
-  pub read-as-refuses : a.0 ≡ Loose → a.1.0.now ≡ raster → r ≡ refused_with (Refused 7 4 27)
+  pub read-as-refuses : a.0 ≡ Loose → a.1.0.now ≡ raster → r ≡ refused_in 0 (stopped_at Refusal.Keyword 4 27)
   read-as-refuses m s = post.0 ∙ rw (m, s) (refused-raster _)
 
   pub read-as-untouched : a.0 ≡ Loose → a.1.0.now ≡ raster → left ≡ lent
   read-as-untouched m s = untouched (read-as-refuses m s)
 
-  pub read-as-after-eof : a.0 ≡ Exact → a.1.0.now ≡ tailed → r ≡ refused_with (Refused 13 5 39)
+  pub read-as-after-eof : a.0 ≡ Exact → a.1.0.now ≡ tailed → r ≡ refused_in 0 (stopped_at Refusal.AfterEof 5 39)
   read-as-after-eof m s = post.0 ∙ rw (m, s) (refused-tailed _)
 
   pub read-as-after-eof-untouched : a.0 ≡ Exact → a.1.0.now ≡ tailed → left ≡ lent
   read-as-after-eof-untouched m s = untouched (read-as-after-eof m s)
 
   -- 8 says the column
-  pub read-as-column : a.0 ≡ Loose → a.1.0.now ≡ bad_scale → r ≡ refused_in 9 (Refused 8 3 18)
+  pub read-as-column : a.0 ≡ Loose → a.1.0.now ≡ bad_scale → r ≡ refused_in 9 (stopped_at Refusal.Number 3 18)
   read-as-column m s = post.0 ∙ rw (m, s) (refused-scale _)
 
   pub read-as-column-untouched : a.0 ≡ Loose → a.1.0.now ≡ bad_scale → left ≡ lent
@@ -254,12 +254,12 @@ module _ (κs : Lfts 5) (a : ArgsD read.signature κs) (r : ResD read.signature 
       four (post.1.0 ∙ rw q refl) (post.1.1.0 ∙ rw q refl) (post.1.1.1.0 ∙ rw q refl) (post.1.1.1.1 ∙ rw q refl)
 
   -- shuts out a reading that is loose
-  pub read-refuses : a.0.now ≡ listed → r ≡ refused_with (Refused 3 1 0)
+  pub read-refuses : a.0.now ≡ listed → r ≡ refused_in 0 (stopped_at Refusal.LineEnd 1 0)
   read-refuses s = post.0 ∙ rw s (refused-listed _)
 
   pub read-untouched : a.0.now ≡ listed → read_left ≡ read_lent
   read-untouched s =
-      let q : r ≡ refused_with (Refused 3 1 0) = read-refuses s in
+      let q : r ≡ refused_in 0 (stopped_at Refusal.LineEnd 1 0) = read-refuses s in
       four (post.1.0 ∙ rw q refl) (post.1.1.0 ∙ rw q refl) (post.1.1.1.0 ∙ rw q refl) (post.1.1.1.1 ∙ rw q refl)
 
 -- ---- `cxf_read_default`: the same from C
@@ -309,14 +309,14 @@ module _ (κs : Lfts 5) (a : ArgsD cxf-read.signature κs) (r : ResD cxf-read.si
   CxfLengths n l i p = (length cxf_lent.rows ≡ n) × (length cxf_lent.letters ≡ l) × (length cxf_lent.islands ≡ i) × (length cxf_lent.points ≡ p)
 
   -- what the library answers
-  abbrev within : Outcome
+  abbrev within : Answer
   within = read_of (mode_of a.1.0) a.0.now (rooms_of (length cxf_lent.rows) (length cxf_lent.letters) (length cxf_lent.islands) (length cxf_lent.points))
 
-  cxf-told : (x : Outcome) → within ≡ x → r ≡ read_told x
+  cxf-told : (x : Answer) → within ≡ x → r ≡ read_told x
   cxf-told x q = post.0 ∙ ap read_told q
 
-  cxf-untouched : (number nth offset column : ℕ) → within ≡ refused_in column (Refused number nth offset) → cxf_left ≡ cxf_lent
-  cxf-untouched number nth offset column q = four (post.1.0 ∙ rw q refl) (post.1.1.0 ∙ rw q refl) (post.1.1.1.0 ∙ rw q refl) (post.1.1.1.1 ∙ rw q refl)
+  cxf-untouched : (refusal : Refusal) (nth offset column : ℕ) → within ≡ refused_in column (stopped_at refusal nth offset) → cxf_left ≡ cxf_lent
+  cxf-untouched refusal nth offset column q = four (post.1.0 ∙ rw q refl) (post.1.1.0 ∙ rw q refl) (post.1.1.1.0 ∙ rw q refl) (post.1.1.1.1 ∙ rw q refl)
 
   module _ (m : a.1.0 ≡ 0) (s : a.0.now ≡ listed) where
     cxf-within : {n l i p : ℕ} → CxfLengths n l i p → within ≡ read_of Loose listed (rooms_of n l i p)
@@ -361,25 +361,25 @@ module _ (κs : Lfts 5) (a : ArgsD cxf-read.signature κs) (r : ResD cxf-read.si
 
   pub cxf-read-refuses : a.1.0 ≡ 0 → a.0.now ≡ raster
       → r ≡ record { number = 7; nth = 4; offset = 27; column = 0; rows = 0; letters = 0; islands = 0; points = 0; kind = 0; scale = pos 0; name = replicate 11 0 }
-  cxf-read-refuses m s = cxf-told (refused_with (Refused 7 4 27)) (rw (m, s) (refused-raster _))
+  cxf-read-refuses m s = cxf-told (refused_in 0 (stopped_at Refusal.Keyword 4 27)) (rw (m, s) (refused-raster _))
 
   pub cxf-read-untouched : a.1.0 ≡ 0 → a.0.now ≡ raster → cxf_left ≡ cxf_lent
-  cxf-read-untouched m s = cxf-untouched 7 4 27 0 (rw (m, s) (refused-raster _))
+  cxf-read-untouched m s = cxf-untouched Refusal.Keyword 4 27 0 (rw (m, s) (refused-raster _))
 
   pub cxf-read-after-eof : a.1.0 ≡ 3 → a.0.now ≡ tailed
       → r ≡ record { number = 13; nth = 5; offset = 39; column = 0; rows = 0; letters = 0; islands = 0; points = 0; kind = 0; scale = pos 0; name = replicate 11 0 }
-  cxf-read-after-eof m s = cxf-told (refused_with (Refused 13 5 39)) (rw (m, s) (refused-tailed _))
+  cxf-read-after-eof m s = cxf-told (refused_in 0 (stopped_at Refusal.AfterEof 5 39)) (rw (m, s) (refused-tailed _))
 
   pub cxf-read-after-eof-untouched : a.1.0 ≡ 3 → a.0.now ≡ tailed → cxf_left ≡ cxf_lent
-  cxf-read-after-eof-untouched m s = cxf-untouched 13 5 39 0 (rw (m, s) (refused-tailed _))
+  cxf-read-after-eof-untouched m s = cxf-untouched Refusal.AfterEof 5 39 0 (rw (m, s) (refused-tailed _))
 
   -- a note behind a number: refused 8 in loose mode, at its first byte that is no blank; taken in the former reading
   pub cxf-read-noted : a.1.0 ≡ 0 → a.0.now ≡ noted
       → r ≡ record { number = 8; nth = 3; offset = 18; column = 10; rows = 0; letters = 0; islands = 0; points = 0; kind = 0; scale = pos 0; name = replicate 11 0 }
-  cxf-read-noted m s = cxf-told (refused_in 10 (Refused 8 3 18)) (rw (m, s) (refused-noted _))
+  cxf-read-noted m s = cxf-told (refused_in 10 (stopped_at Refusal.Number 3 18)) (rw (m, s) (refused-noted _))
 
   pub cxf-read-noted-untouched : a.1.0 ≡ 0 → a.0.now ≡ noted → cxf_left ≡ cxf_lent
-  cxf-read-noted-untouched m s = cxf-untouched 8 3 18 10 (rw (m, s) (refused-noted _))
+  cxf-read-noted-untouched m s = cxf-untouched Refusal.Number 3 18 10 (rw (m, s) (refused-noted _))
 
   pub cxf-read-noted-former : a.1.0 ≡ 2 → a.0.now ≡ noted → CxfLengths 0 0 0 0
       → r ≡ record { number = 0; nth = 0; offset = 0; column = 0; rows = 0; letters = 0; islands = 0; points = 0; kind = 1; scale = pos 1000000; name = text "Z999_000100" }
@@ -388,7 +388,7 @@ module _ (κs : Lfts 5) (a : ArgsD cxf-read.signature κs) (r : ResD cxf-read.si
   -- 8 says the column
   pub cxf-read-column : a.1.0 ≡ 0 → a.0.now ≡ bad_scale
       → r ≡ record { number = 8; nth = 3; offset = 18; column = 9; rows = 0; letters = 0; islands = 0; points = 0; kind = 0; scale = pos 0; name = replicate 11 0 }
-  cxf-read-column m s = cxf-told (refused_in 9 (Refused 8 3 18)) (rw (m, s) (refused-scale _))
+  cxf-read-column m s = cxf-told (refused_in 9 (stopped_at Refusal.Number 3 18)) (rw (m, s) (refused-scale _))
 
   pub cxf-read-column-untouched : a.1.0 ≡ 0 → a.0.now ≡ bad_scale → cxf_left ≡ cxf_lent
-  cxf-read-column-untouched m s = cxf-untouched 8 3 18 9 (rw (m, s) (refused-scale _))
+  cxf-read-column-untouched m s = cxf-untouched Refusal.Number 3 18 9 (rw (m, s) (refused-scale _))

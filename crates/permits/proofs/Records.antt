@@ -8,12 +8,13 @@ use borrow.Fn.World.{ArgsD, ResD}
 use denote.Triple.Clauses.{AtExit}
 use Rattle.laws.specs.Text.{text}
 use Rattle.record.proofs.RecordExamples.{computed}
-use Rattle.record.specs.Refusals.{cut, line_end}
 use Rattle.record.specs.declared.Mode.{Mode}
 use Rattle.record.specs.declared.Mode.TheVariants.{Loose, Exact}
 use Rattle.record.specs.declared.Found.{Found}
-use Rattle.record.specs.declared.Found.TheVariants.{Record, Refused}
-use Rattle.record.specs.Record.{record_at}
+use Rattle.std.specs.Prelude.{Result, Err}
+use Rattle.record.specs.declared.refusal.Refusal.{Refusal}
+use Rattle.record.specs.declared.refusal.Refusal.TheVariants.{Cut, LineEnd}
+use Rattle.record.specs.Record.{found, record_at}
 use Rattle.record.specs.contracts.record_at as record-at
 use Rattle.record.proofs.record_at.Reads as record-at-reads
 use Rattle.told.specs.declared.CxfRecord.{CxfRecord}
@@ -28,11 +29,11 @@ use Rattle.cabi.proofs.cxf_record_at.Reads as cxf-record-at-reads
 unfoldable pub two : List ℕ
 two = text "MAPPA\r\n a b \r\nX"
 
-pub second : record_at two 7 Exact false ≡ Record 7 5 14
+pub second : record_at two 7 Exact false ≡ found 7 5 14
 unfolding computed two
 second = refl
 
-pub third : record_at two 14 Exact false ≡ Refused cut
+pub third : record_at two 14 Exact false ≡ Err Cut
 unfolding computed two
 third = refl
 
@@ -40,15 +41,15 @@ third = refl
 unfoldable pub unended : List ℕ
 unended = text "A\nEOF"
 
-eof-due : record_at unended 2 Loose true ≡ Record 2 3 5
+eof-due : record_at unended 2 Loose true ≡ found 2 3 5
 unfolding computed unended
 eof-due = refl
 
-pub eof-not-due : record_at unended 2 Loose false ≡ Refused cut
+pub eof-not-due : record_at unended 2 Loose false ≡ Err Cut
 unfolding computed unended
 eof-not-due = refl
 
-bare : record_at unended 0 Exact false ≡ Refused line_end
+bare : record_at unended 0 Exact false ≡ Err LineEnd
 unfolding computed unended
 bare = refl
 
@@ -56,26 +57,26 @@ bare = refl
 
 module _ (κs : Lfts 1) (a : ArgsD record-at.signature κs) (r : ResD record-at.signature κs) (e : AtExit record-at.ended κs) (post : record-at-reads.Learnt κs a r e) where
   -- on these bytes, asked so, this answer alone is permitted
-  abbrev pub Only : List ℕ → ℕ → Mode → Bool → Found → Type 0
+  abbrev pub Only : List ℕ → ℕ → Mode → Bool → Result Found Refusal → Type 0
   Only s at mode due x = a.0.now ≡ s → a.1.0 ≡ at → a.1.1.0 ≡ mode → a.1.1.1.0 ≡ due → r ≡ x
 
-  only : {s : List ℕ} {at : ℕ} {mode : Mode} {due : Bool} {x : Found} → record_at s at mode due ≡ x → Only s at mode due x
+  only : {s : List ℕ} {at : ℕ} {mode : Mode} {due : Bool} {x : Result Found Refusal} → record_at s at mode due ≡ x → Only s at mode due x
   only q s at mode due = post ∙ rw (s, at, mode, due) q
 
   -- the next place is past the line end, and no blank is dropped
-  pub record-answers : Only two 7 Exact false (Record 7 5 14)
+  pub record-answers : Only two 7 Exact false (found 7 5 14)
   record-answers = only second
 
-  pub record-cut : Only two 14 Exact false (Refused cut)
+  pub record-cut : Only two 14 Exact false (Err Cut)
   record-cut = only third
 
-  pub record-eof-due : Only unended 2 Loose true (Record 2 3 5)
+  pub record-eof-due : Only unended 2 Loose true (found 2 3 5)
   record-eof-due = only eof-due
 
-  pub record-eof-not-due : Only unended 2 Loose false (Refused cut)
+  pub record-eof-not-due : Only unended 2 Loose false (Err Cut)
   record-eof-not-due = only eof-not-due
 
-  pub record-bare-line-feed : Only unended 0 Exact false (Refused line_end)
+  pub record-bare-line-feed : Only unended 0 Exact false (Err LineEnd)
   record-bare-line-feed = only bare
 
 -- ---- `cxf_record_at`: mode 3 is exact, and a keyword is due where `due` is not 0
@@ -84,7 +85,7 @@ module _ (κs : Lfts 1) (a : ArgsD cxf-record-at.signature κs) (r : ResD cxf-re
   abbrev pub CxfOnly : List ℕ → ℕ → ℕ → ℕ → CxfRecord → Type 0
   CxfOnly s at mode due x = a.0.now ≡ s → a.1.0 ≡ at → a.1.1.0 ≡ mode → a.1.1.1.0 ≡ due → r ≡ x
 
-  cxf-only : {s : List ℕ} {at mode due : ℕ} {x : Found} → record_at s at (mode_of mode) (is_keyword_due due) ≡ x → CxfOnly s at mode due (record_told x)
+  cxf-only : {s : List ℕ} {at mode due : ℕ} {x : Result Found Refusal} → record_at s at (mode_of mode) (is_keyword_due due) ≡ x → CxfOnly s at mode due (record_told x)
   cxf-only q s at mode due = post ∙ rw (s, at, mode, due, q) refl
 
   pub cxf-record-answers : CxfOnly two 7 3 0 (record { number = 0; start = 7; length = 5; next = 14 })

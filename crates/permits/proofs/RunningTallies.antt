@@ -9,6 +9,7 @@ use base.Logic.{SProp, ent}
 use prog.Memory.{Memory}
 use prog.Routine.{Routine}
 use types.Logic.{Logic}
+use Rattle.std.specs.Prelude.{Ok, Err}
 use contract.Lifetimes.{Lfts}
 use contract.Monad.{Fun, fact, fact_mono}
 use borrow.Fn.World.{ArgsD, ResD}
@@ -16,10 +17,10 @@ use denote.Triple.Clauses.{AtExit}
 use denote.Triple.Entry.{Args, Res}
 use Rattle.heading.specs.declared.Header.{Header}
 use Rattle.sheet.specs.Tables.{Tables}
-use Rattle.made.specs.declared.Verdict.TheVariants.{BadHeader, Faulty}
+use Rattle.made.specs.declared.Flaw.TheVariants.{BadHeader, Faulty}
 use Rattle.tally.specs.declared.Tally.{Tally}
 use Rattle.tally.specs.declared.Taken.{Taken}
-use Rattle.tally.specs.declared.Refusal.TheVariants.{None, Sheet, Missing, Full, Wide}
+use Rattle.tally.specs.declared.Untallied.TheVariants.{Sheet, Missing, Full, Wide}
 use Rattle.tally.specs.Tally.{no_figures, tally_on}
 use Rattle.tally.specs.Take.{taken_with, taken_of}
 use Rattle.tally.specs.Examples.{computed}
@@ -31,7 +32,7 @@ use Rattle.told.specs.Asked.{header_of}
 use Rattle.told.specs.Tallies.{no_tally, tally_in, take_told}
 use Rattle.cabi.specs.contracts.cxf_tally_take as cxf-tally-take
 use Rattle.cabi.proofs.cxf_tally_take.Reads as cxf-take-reads
-use Rattle.permits.proofs.SmallSheets.{Tabled, header, no_kind, in-C, no-kind-in-C, small, wide, faulty}
+use Rattle.permits.proofs.SmallSheets.{Handed, Tabled, header, no_kind, in-C, no-kind-in-C, small, wide, faulty}
 
 -- ---- tallies that are handed in
 
@@ -60,103 +61,103 @@ over = 8999999999999999801
 
 -- ---- take
 
-taken : taken_of (tally_on (counts 22)) header 4 small 1 ≡ taken_with (tally_on (grown 222)) None
+taken : taken_of (tally_on (counts 22)) header 4 small 1 ≡ taken_with (tally_on (grown 222)) (Ok tt)
 unfolding computed
 taken = refl
 
-taken-to-limit : taken_of (tally_on (counts last)) header 4 small 1 ≡ taken_with (tally_on (grown 9000000000000000000)) None
+taken-to-limit : taken_of (tally_on (counts last)) header 4 small 1 ≡ taken_with (tally_on (grown 9000000000000000000)) (Ok tt)
 unfolding computed
 taken-to-limit = refl
 
-full : taken_of (tally_on (counts over)) header 4 small 1 ≡ taken_with (tally_on (counts over)) (Full 1)
+full : taken_of (tally_on (counts over)) header 4 small 1 ≡ taken_with (tally_on (counts over)) (Err (Full 1))
 unfolding computed
 full = refl
 
-no-tally : taken_of (tally_on negative) header 4 wide 1 ≡ taken_with (tally_on negative) (Full 1)
+no-tally : taken_of (tally_on negative) header 4 wide 1 ≡ taken_with (tally_on negative) (Err (Full 1))
 unfolding computed
 no-tally = refl
 
 -- 17 comes before 18 by the border
-too_wide : taken_of (tally_on (counts over)) header 4 wide 1 ≡ taken_with (tally_on (counts over)) (Wide 1)
+too_wide : taken_of (tally_on (counts over)) header 4 wide 1 ≡ taken_with (tally_on (counts over)) (Err (Wide 1))
 unfolding computed
 too_wide = refl
 
-no-border : taken_of (tally_on (counts 22)) header 4 small 0 ≡ taken_with (tally_on (counts 22)) Missing
+no-border : taken_of (tally_on (counts 22)) header 4 small 0 ≡ taken_with (tally_on (counts 22)) (Err Missing)
 unfolding computed
 no-border = refl
 
-past : taken_of (tally_on (counts 22)) header 4 small 4 ≡ taken_with (tally_on (counts 22)) Missing
+past : taken_of (tally_on (counts 22)) header 4 small 4 ≡ taken_with (tally_on (counts 22)) (Err Missing)
 unfolding computed
 past = refl
 
-headed : taken_of (tally_on (counts 22)) no_kind 4 faulty 4 ≡ taken_with (tally_on (counts 22)) (Sheet BadHeader)
+headed : taken_of (tally_on (counts 22)) no_kind 4 faulty 4 ≡ taken_with (tally_on (counts 22)) (Err (Sheet BadHeader))
 unfolding computed
 headed = refl
 
-made : taken_of (tally_on (counts 22)) header 4 faulty 4 ≡ taken_with (tally_on (counts 22)) (Sheet (Faulty 3))
+made : taken_of (tally_on (counts 22)) header 4 faulty 4 ≡ taken_with (tally_on (counts 22)) (Err (Sheet (Faulty 3)))
 unfolding computed
 made = refl
 
-module _ (κs : Lfts 4) (a : ArgsD take.signature κs) (r : ResD take.signature κs) (e : AtExit take.ended κs) where
+module _ (κs : Lfts 2) (a : ArgsD take.signature κs) (r : ResD take.signature κs) (e : AtExit take.ended κs) where
   abbrev pub Only : List ℤ → Header → ℕ → Tables → ℕ → Taken → Type 0
-  Only s h count t row x = a.0 ≡ tally_on s → a.1.0 ≡ h → Tabled count t a.1.1 → a.1.1.1.1.1.1.1.0 ≡ row → take-reads.Learnt κs a r e → r ≡ x
+  Only s h count t row x = a.0 ≡ tally_on s → Handed h count t a.1.0.now → a.1.1.0 ≡ row → take-reads.Learnt κs a r e → r ≡ x
 
   only : {s : List ℤ} {h : Header} {count : ℕ} {t : Tables} {row : ℕ} {x : Taken} → taken_of (tally_on s) h count t row ≡ x → Only s h count t row x
-  only q s h d k post = post ∙ rw (s, h, d.count-is, d.rows_are, d.letters-are, d.islands-are, d.points-are, k) q
+  only q s d k post = post ∙ rw (s, d.header-is, d.count-is, d.tables-are, k) q
 
   -- shuts out a tally with made-up counts
-  pub take-answers : Only (counts 22) header 4 small 1 (taken_with (tally_on (grown 222)) None)
+  pub take-answers : Only (counts 22) header 4 small 1 (taken_with (tally_on (grown 222)) (Ok tt))
   take-answers = only taken
 
-  pub take-to-the-limit : Only (counts last) header 4 small 1 (taken_with (tally_on (grown 9000000000000000000)) None)
+  pub take-to-the-limit : Only (counts last) header 4 small 1 (taken_with (tally_on (grown 9000000000000000000)) (Ok tt))
   take-to-the-limit = only taken-to-limit
 
-  pub take-past-the-limit : Only (counts over) header 4 small 1 (taken_with (tally_on (counts over)) (Full 1))
+  pub take-past-the-limit : Only (counts over) header 4 small 1 (taken_with (tally_on (counts over)) (Err (Full 1)))
   take-past-the-limit = only full
 
-  pub take-negative-figure : Only negative header 4 wide 1 (taken_with (tally_on negative) (Full 1))
+  pub take-negative-figure : Only negative header 4 wide 1 (taken_with (tally_on negative) (Err (Full 1)))
   take-negative-figure = only no-tally
 
-  pub take-too-wide : Only (counts over) header 4 wide 1 (taken_with (tally_on (counts over)) (Wide 1))
+  pub take-too-wide : Only (counts over) header 4 wide 1 (taken_with (tally_on (counts over)) (Err (Wide 1)))
   take-too-wide = only too_wide
 
-  pub take-no-border : Only (counts 22) header 4 small 0 (taken_with (tally_on (counts 22)) Missing)
+  pub take-no-border : Only (counts 22) header 4 small 0 (taken_with (tally_on (counts 22)) (Err Missing))
   take-no-border = only no-border
 
-  pub take-past-the-last : Only (counts 22) header 4 small 4 (taken_with (tally_on (counts 22)) Missing)
+  pub take-past-the-last : Only (counts 22) header 4 small 4 (taken_with (tally_on (counts 22)) (Err Missing))
   take-past-the-last = only past
 
-  pub take-bad-header : Only (counts 22) no_kind 4 faulty 4 (taken_with (tally_on (counts 22)) (Sheet BadHeader))
+  pub take-bad-header : Only (counts 22) no_kind 4 faulty 4 (taken_with (tally_on (counts 22)) (Err (Sheet BadHeader)))
   take-bad-header = only headed
 
-  pub take-faulty-row : Only (counts 22) header 4 faulty 4 (taken_with (tally_on (counts 22)) (Sheet (Faulty 3)))
+  pub take-faulty-row : Only (counts 22) header 4 faulty 4 (taken_with (tally_on (counts 22)) (Err (Sheet (Faulty 3))))
   take-faulty-row = only made
 
 -- ---- take_in: its contract has no plain reading, so the facts are of its clause itself, at every model; the lent tally at exit
 
-module _ {M : Type 1} {𝓤 : Ura M} (𝓛 : Logic 𝓤) (at_mem : Memory → SProp 𝓤) (run : Routine → Fun 𝓤) (κs : Lfts 5) (a : Args take_in.signature κs) (r : Res take_in.signature κs) (e : AtExit take_in.ended κs) where
+module _ {M : Type 1} {𝓤 : Ura M} (𝓛 : Logic 𝓤) (at_mem : Memory → SProp 𝓤) (run : Routine → Fun 𝓤) (κs : Lfts 3) (a : Args take_in.signature κs) (r : Res take_in.signature κs) (e : AtExit take_in.ended κs) where
   abbrev pub OnlyLent : List ℤ → Header → ℕ → Tables → ℕ → Taken → Type 1
-  OnlyLent s h count t row x = a.0.now ≡ tally_on s → a.1.0 ≡ h → Tabled count t a.1.1 → a.1.1.1.1.1.1.1.0 ≡ row
-      → ent 𝓤 ((take_in.clauses 𝓛 at_mem run κs a).ensures tt r e) (fact 𝓤 ((r ≡ x.refusal) × (e.0.now ≡ x.tally)))
+  OnlyLent s h count t row x = a.0.now ≡ tally_on s → Handed h count t a.1.0.now → a.1.1.0 ≡ row
+      → ent 𝓤 ((take_in.clauses 𝓛 at_mem run κs a).ensures tt r e) (fact 𝓤 ((r ≡ x.outcome) × (e.0.now ≡ x.tally)))
 
   only-lent : {s : List ℤ} {h : Header} {count : ℕ} {t : Tables} {row : ℕ} {x : Taken} → taken_of (tally_on s) h count t row ≡ x → OnlyLent s h count t row x
-  only-lent q s h d k =
+  only-lent q s d k =
       fact_mono 𝓤 _ _ (λ p. (
-        p.0 ∙ rw (s, h, d.count-is, d.rows_are, d.letters-are, d.islands-are, d.points-are, k) (ap (λ (y : Taken). y.refusal) q),
-        p.1 ∙ rw (s, h, d.count-is, d.rows_are, d.letters-are, d.islands-are, d.points-are, k) (ap (λ (y : Taken). y.tally) q),
+        p.0 ∙ rw (s, d.header-is, d.count-is, d.tables-are, k) (ap (λ (y : Taken). y.outcome) q),
+        p.1 ∙ rw (s, d.header-is, d.count-is, d.tables-are, k) (ap (λ (y : Taken). y.tally) q),
       ))
 
-  pub lent-answers : OnlyLent (counts 22) header 4 small 1 (taken_with (tally_on (grown 222)) None)
+  pub lent-answers : OnlyLent (counts 22) header 4 small 1 (taken_with (tally_on (grown 222)) (Ok tt))
   lent-answers = only-lent taken
 
   -- refused, it is untouched
-  pub lent-past-the-limit : OnlyLent (counts over) header 4 small 1 (taken_with (tally_on (counts over)) (Full 1))
+  pub lent-past-the-limit : OnlyLent (counts over) header 4 small 1 (taken_with (tally_on (counts over)) (Err (Full 1)))
   lent-past-the-limit = only-lent full
 
-  pub lent-negative-figure : OnlyLent negative header 4 wide 1 (taken_with (tally_on negative) (Full 1))
+  pub lent-negative-figure : OnlyLent negative header 4 wide 1 (taken_with (tally_on negative) (Err (Full 1)))
   lent-negative-figure = only-lent no-tally
 
-  pub lent-past-the-last : OnlyLent (counts 22) header 4 small 4 (taken_with (tally_on (counts 22)) Missing)
+  pub lent-past-the-last : OnlyLent (counts 22) header 4 small 4 (taken_with (tally_on (counts 22)) (Err Missing))
   lent-past-the-last = only-lent past
 
 -- ---- cxf_tally_take
@@ -178,7 +179,7 @@ few-in : tally_in (replicate 23 (pos 0)) ≡ no_tally
 unfolding tally_in
 few-in = refl
 
-few : taken_of no_tally header 4 small 1 ≡ taken_with no_tally (Full 1)
+few : taken_of no_tally header 4 small 1 ≡ taken_with no_tally (Err (Full 1))
 unfolding computed
 few = refl
 

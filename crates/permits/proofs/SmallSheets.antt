@@ -8,8 +8,15 @@ use Rattle.laws.specs.Text.{text}
 use Rattle.heading.specs.declared.Header.{Header}
 use Rattle.heading.specs.Heading.{no_header}
 use Rattle.sheet.specs.Tables.{Tables}
-use Rattle.made.specs.Made.{tables_of}
+use Rattle.made.specs.declared.Sheet.{Sheet}
+use Rattle.made.specs.Made.{tables, tables_of}
 use Rattle.told.specs.Asked.{header_of}
+
+-- a sheet with this header, count of rows and tables
+pub record Handed (h : Header) (count : ℕ) (t : Tables) (s : Sheet) : Type 0 where
+  pub header-is : s.header ≡ h
+  pub count-is : s.count ≡ count
+  pub tables-are : tables s.lent ≡ t
 
 -- arguments that begin with a count of rows and the four tables have this count and these tables
 pub record Tabled {X : Type 0} (count : ℕ) (t : Tables) (a : ℕ × (Bor (List ℤ) × (Bor (List ℕ) × (Bor (List ℕ) × (Bor (List ℤ) × X))))) : Type 0 where

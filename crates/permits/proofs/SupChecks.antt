@@ -3,26 +3,25 @@ use Prim.Native.Nat.{ℕ, ◌+◌}
 use mathlib.Core.Path.{◌≡◌, refl, ◌∙◌, ap}
 use mathlib.Core.List.{List, [], ◌∷◌, ◌++◌}
 use lib.ListN.{length, take, drop}
+use Rattle.std.specs.Prelude.{Ok, Err}
 use contract.Lifetimes.{Lfts}
 use borrow.Fn.World.{ArgsD, ResD}
 use denote.Triple.Clauses.{AtExit}
 use Rattle.laws.specs.Text.{text}
 use Rattle.heading.specs.declared.Header.{Header}
 use Rattle.sheet.specs.Tables.{Tables}
-use Rattle.made.specs.declared.Verdict.TheVariants.{BadHeader}
-use Rattle.tally.specs.declared.Refusal.TheVariants.{Sheet, Wide}
-use Rattle.supcheck.specs.declared.SupChecked.{SupChecked}
-use Rattle.supcheck.specs.declared.SupChecked.TheVariants.{Accepted, Refused, WrongLine}
-use Rattle.supcheck.specs.Checked.{sup_checked}
+use Rattle.made.specs.declared.Flaw.TheVariants.{BadHeader}
+use Rattle.tally.specs.declared.Untallied.TheVariants.{Sheet, Wide}
+use Rattle.supcheck.specs.declared.Unaccepted.TheVariants.{Refused, WrongLine}
+use Rattle.supcheck.specs.Checked.{SupChecked, sup_checked}
 use Rattle.supcheck.specs.Examples.{computed}
 use Rattle.supcheck.specs.contracts.sup_check as sup-check
 use Rattle.supcheck.proofs.sup_check.Reads as check-reads
-use Rattle.told.specs.declared.sup_checks.CxfSupChecked.{CxfSupChecked}
 use Rattle.told.specs.Asked.{header_of}
 use Rattle.told.specs.SupChecks.{checked_told}
 use Rattle.cabi.specs.contracts.cxf_sup_check as cxf-sup-check
 use Rattle.cabi.proofs.cxf_sup_check.Reads as cxf-check-reads
-use Rattle.permits.proofs.SmallSheets.{Tabled, header, no_kind, in-C, no-kind-in-C}
+use Rattle.permits.proofs.SmallSheets.{Handed, Tabled, header, no_kind, in-C, no-kind-in-C}
 use Rattle.permits.proofs.SupFiles.{two_parcels, long_coded, wide_ringed, file}
 
 -- ---- files, and the answers to them, computed
@@ -32,79 +31,79 @@ abbrev pub altered : ℕ → List ℕ → List ℕ
 altered k s = take k file ++ (s ++ drop (k + length s) file)
 
 -- parcel `10`, of 6 m2, in the eighth line: 5 and 7 are allowed, 8 is not
-accepted : (sup_checked header 3 two_parcels file ≡ Accepted) × (sup_checked header 3 two_parcels (altered 181 (text "5")) ≡ Accepted) × (sup_checked header 3 two_parcels (altered 181 (text "7")) ≡ Accepted)
+accepted : (sup_checked header 3 two_parcels file ≡ Ok tt) × (sup_checked header 3 two_parcels (altered 181 (text "5")) ≡ Ok tt) × (sup_checked header 3 two_parcels (altered 181 (text "7")) ≡ Ok tt)
 unfolding computed
 accepted = (refl, refl, refl)
 
-off : sup_checked header 3 two_parcels (altered 181 (text "8")) ≡ WrongLine 8
+off : sup_checked header 3 two_parcels (altered 181 (text "8")) ≡ Err (WrongLine 8)
 unfolding computed
 off = refl
 
 -- no such date
-undated : sup_checked header 3 two_parcels (altered 17 (text "13")) ≡ WrongLine 1
+undated : sup_checked header 3 two_parcels (altered 17 (text "13")) ≡ Err (WrongLine 1)
 unfolding computed
 undated = refl
 
 -- the last line is missing; a byte follows it
-cut : sup_checked header 3 two_parcels (take 345 file) ≡ WrongLine 16
+cut : sup_checked header 3 two_parcels (take 345 file) ≡ Err (WrongLine 16)
 unfolding computed
 cut = refl
 
-longer : sup_checked header 3 two_parcels (file ++ 10 ∷ []) ≡ WrongLine 17
+longer : sup_checked header 3 two_parcels (file ++ 10 ∷ []) ≡ Err (WrongLine 17)
 unfolding computed
 longer = refl
 
 -- a listed code of 12 letters makes its line wrong
-coded : sup_checked header 3 long_coded file ≡ WrongLine 8
+coded : sup_checked header 3 long_coded file ≡ Err (WrongLine 8)
 unfolding computed
 coded = refl
 
 -- the sheet's own refusals, whatever the file
-headed : (s : List ℕ) → sup_checked no_kind 3 wide_ringed s ≡ Refused (Sheet BadHeader)
+headed : (s : List ℕ) → sup_checked no_kind 3 wide_ringed s ≡ Err (Refused (Sheet BadHeader))
 unfolding computed
 headed s = refl
 
-ringed : (s : List ℕ) → sup_checked header 3 wide_ringed s ≡ Refused (Wide 1)
+ringed : (s : List ℕ) → sup_checked header 3 wide_ringed s ≡ Err (Refused (Wide 1))
 unfolding computed
 ringed s = refl
 
 -- ---- `sup_check`
 
-module _ (κs : Lfts 5) (a : ArgsD sup-check.signature κs) (r : ResD sup-check.signature κs) (e : AtExit sup-check.ended κs) (post : check-reads.Learnt κs a r e) where
+module _ (κs : Lfts 3) (a : ArgsD sup-check.signature κs) (r : ResD sup-check.signature κs) (e : AtExit sup-check.ended κs) (post : check-reads.Learnt κs a r e) where
   abbrev pub given : List ℕ
-  given = a.1.1.1.1.1.1.0.now
+  given = a.1.0.now
 
-  module _ {h : Header} {t : Tables} {s : List ℕ} (p : a.0 ≡ h) (d : Tabled 3 t a.1) (q : given ≡ s) where
+  module _ {h : Header} {t : Tables} {s : List ℕ} (d : Handed h 3 t a.0.now) (q : given ≡ s) where
     answer : {x : SupChecked} → sup_checked h 3 t s ≡ x → r ≡ x
-    answer f = post ∙ rw (p, d.count-is, d.rows_are, d.letters-are, d.islands-are, d.points-are, q) f
+    answer f = post ∙ rw (d.header-is, d.count-is, d.tables-are, q) f
 
-  module _ (p : a.0 ≡ header) (d : Tabled 3 two_parcels a.1) where
-    pub check-accepts : given ≡ file → r ≡ Accepted
-    check-accepts q = answer p d q accepted.0
+  module _ (d : Handed header 3 two_parcels a.0.now) where
+    pub check-accepts : given ≡ file → r ≡ Ok tt
+    check-accepts q = answer d q accepted.0
 
-    pub check-allows : given ≡ altered 181 (text "7") → r ≡ Accepted
-    check-allows q = answer p d q accepted.2
+    pub check-allows : given ≡ altered 181 (text "7") → r ≡ Ok tt
+    check-allows q = answer d q accepted.2
 
-    pub check-wrong-area : given ≡ altered 181 (text "8") → r ≡ WrongLine 8
-    check-wrong-area q = answer p d q off
+    pub check-wrong-area : given ≡ altered 181 (text "8") → r ≡ Err (WrongLine 8)
+    check-wrong-area q = answer d q off
 
-    pub check-wrong-date : given ≡ altered 17 (text "13") → r ≡ WrongLine 1
-    check-wrong-date q = answer p d q undated
+    pub check-wrong-date : given ≡ altered 17 (text "13") → r ≡ Err (WrongLine 1)
+    check-wrong-date q = answer d q undated
 
-    pub check-missing-line : given ≡ take 345 file → r ≡ WrongLine 16
-    check-missing-line q = answer p d q cut
+    pub check-missing-line : given ≡ take 345 file → r ≡ Err (WrongLine 16)
+    check-missing-line q = answer d q cut
 
-    pub check-bytes-behind : given ≡ file ++ 10 ∷ [] → r ≡ WrongLine 17
-    check-bytes-behind q = answer p d q longer
+    pub check-bytes-behind : given ≡ file ++ 10 ∷ [] → r ≡ Err (WrongLine 17)
+    check-bytes-behind q = answer d q longer
 
-  pub check-long-code : a.0 ≡ header → Tabled 3 long_coded a.1 → given ≡ file → r ≡ WrongLine 8
-  check-long-code p d q = answer p d q coded
+  pub check-long-code : Handed header 3 long_coded a.0.now → given ≡ file → r ≡ Err (WrongLine 8)
+  check-long-code d q = answer d q coded
 
-  pub check-bad-header : a.0 ≡ no_kind → Tabled 3 wide_ringed a.1 → r ≡ Refused (Sheet BadHeader)
-  check-bad-header p d = answer p d refl (headed given)
+  pub check-bad-header : Handed no_kind 3 wide_ringed a.0.now → r ≡ Err (Refused (Sheet BadHeader))
+  check-bad-header d = answer d refl (headed given)
 
-  pub check-too-wide : a.0 ≡ header → Tabled 3 wide_ringed a.1 → r ≡ Refused (Wide 1)
-  check-too-wide p d = answer p d refl (ringed given)
+  pub check-too-wide : Handed header 3 wide_ringed a.0.now → r ≡ Err (Refused (Wide 1))
+  check-too-wide d = answer d refl (ringed given)
 
 -- ---- `cxf_sup_check`
 

@@ -4,6 +4,7 @@ use mathlib.Core.Path.{◌≡◌, refl, ◌∙◌, ap}
 use mathlib.Core.List.{List, [], ◌∷◌, ◌++◌}
 use lib.ListN.{length, drop}
 use lib.IntN.{ℤ, pos, negsuc}
+use Rattle.std.specs.Prelude.{Ok, Err}
 use contract.Lifetimes.{Lfts}
 use borrow.Fn.World.{ArgsD, ResD}
 use denote.Triple.Clauses.{AtExit}
@@ -11,12 +12,11 @@ use Rattle.laws.specs.Text.{text}
 use Rattle.heading.specs.declared.Header.{Header}
 use Rattle.heading.specs.Heading.{no_header}
 use Rattle.sheet.specs.Tables.{Tables, Starts, no_starts, start_cells}
-use Rattle.made.specs.declared.Verdict.TheVariants.{BadHeader}
+use Rattle.made.specs.declared.Flaw.TheVariants.{BadHeader}
 use Rattle.made.specs.Made.{tables_of, starts_at}
-use Rattle.tally.specs.declared.Refusal.TheVariants.{Sheet, Wide}
-use Rattle.sup.specs.declared.SupAnswer.{SupAnswer}
-use Rattle.sup.specs.declared.SupAnswer.TheVariants.{Wrote, NoRoom, Refused, BadDate, CodeTooLong, WideFigure}
-use Rattle.sup.specs.Answer.{sheet_sup, sup_of, sup_output}
+use Rattle.tally.specs.declared.Untallied.TheVariants.{Sheet, Wide}
+use Rattle.sup.specs.declared.NoSup.TheVariants.{NoRoom, Refused, BadDate, CodeTooLong, WideFigure}
+use Rattle.sup.specs.Answer.{SupAnswer, sheet_sup, sup_of, sup_output}
 use Rattle.sup.specs.AnswerExamples.{computed}
 use Rattle.sup.specs.contracts.sup_text as sup-text
 use Rattle.sup.proofs.sup_text.Reads as sup-reads
@@ -25,7 +25,7 @@ use Rattle.told.specs.Asked.{header_of}
 use Rattle.told.specs.SupFiles.{sup_told}
 use Rattle.cabi.specs.contracts.cxf_sup_write as cxf-sup-write
 use Rattle.cabi.proofs.cxf_sup_write.Reads as cxf-sup-reads
-use Rattle.permits.proofs.SmallSheets.{Tabled, header, no_kind, long_name, in-C, no-kind-in-C, long-name-in-C}
+use Rattle.permits.proofs.SmallSheets.{Handed, Tabled, header, no_kind, long_name, in-C, no-kind-in-C, long-name-in-C}
 
 -- ---- sheets, and the answers to them, computed
 
@@ -71,102 +71,102 @@ spelt : sheet_sup header 3 two_parcels today ≡ file
 unfolding sheet_sup computed
 spelt = refl
 
-spare : sup_of header 3 two_parcels today 400 ≡ Wrote 368
+spare : sup_of header 3 two_parcels today 400 ≡ Ok 368
 unfolding computed
 spare = refl
 
-enough : sup_of header 3 two_parcels today 368 ≡ Wrote 368
+enough : sup_of header 3 two_parcels today 368 ≡ Ok 368
 unfolding computed
 enough = refl
 
-short : sup_of header 3 two_parcels today 367 ≡ NoRoom 368
+short : sup_of header 3 two_parcels today 367 ≡ Err (NoRoom 368)
 unfolding computed
 short = refl
 
 -- refused, whatever the room: the first in the order of the paper
-headed : (room : ℕ) → sup_of no_kind 3 wide_ringed month13 room ≡ Refused (Sheet BadHeader)
+headed : (room : ℕ) → sup_of no_kind 3 wide_ringed month13 room ≡ Err (Refused (Sheet BadHeader))
 unfolding computed
 headed room = refl
 
-no-header : (count : ℕ) (t : Tables) (date : List ℕ) (room : ℕ) → sup_of no_header count t date room ≡ Refused (Sheet BadHeader)
+no-header : (count : ℕ) (t : Tables) (date : List ℕ) (room : ℕ) → sup_of no_header count t date room ≡ Err (Refused (Sheet BadHeader))
 unfolding computed
 no-header count t date room = refl
 
-ringed : (room : ℕ) → sup_of header 3 wide_ringed month13 room ≡ Refused (Wide 1)
+ringed : (room : ℕ) → sup_of header 3 wide_ringed month13 room ≡ Err (Refused (Wide 1))
 unfolding computed
 ringed room = refl
 
-dated : (room : ℕ) → sup_of header 3 long_coded month13 room ≡ BadDate
+dated : (room : ℕ) → sup_of header 3 long_coded month13 room ≡ Err BadDate
 unfolding computed
 dated room = refl
 
-coded : (room : ℕ) → sup_of header 3 long_coded today room ≡ CodeTooLong 2
+coded : (room : ℕ) → sup_of header 3 long_coded today room ≡ Err (CodeTooLong 2)
 unfolding computed
 coded room = refl
 
 -- the minus counts: -1599999991 has 11 characters, in the ninth line
-figured : (room : ℕ) → sup_of header 3 wide_figured today room ≡ WideFigure 9
+figured : (room : ℕ) → sup_of header 3 wide_figured today room ≡ Err (WideFigure 9)
 unfolding computed
 figured room = refl
 
 -- ---- `sup_text`
 
-module _ (κs : Lfts 6) (a : ArgsD sup-text.signature κs) (r : ResD sup-text.signature κs) (e : AtExit sup-text.ended κs) (post : sup-reads.Learnt κs a r e) where
+module _ (κs : Lfts 4) (a : ArgsD sup-text.signature κs) (r : ResD sup-text.signature κs) (e : AtExit sup-text.ended κs) (post : sup-reads.Learnt κs a r e) where
   abbrev pub date : List ℕ
-  date = a.1.1.1.1.1.1.0.now
+  date = a.1.0.now
 
   -- the output as it is lent and at exit
   abbrev pub lent : List ℕ
-  lent = a.1.1.1.1.1.1.1.0.now
+  lent = a.1.1.0.now
 
   abbrev pub left : List ℕ
-  left = e.1.1.1.1.1.1.1.0.now
+  left = e.1.1.0.now
 
   -- this answer, and the output as it was
   abbrev pub Refuses : SupAnswer → Type 0
   Refuses x = (r ≡ x) × (left ≡ lent)
 
-  module _ {h : Header} {t : Tables} {day : List ℕ} (p : a.0 ≡ h) (d : Tabled 3 t a.1) (q : date ≡ day) where
+  module _ {h : Header} {t : Tables} {day : List ℕ} (d : Handed h 3 t a.0.now) (q : date ≡ day) where
     answer : {x : SupAnswer} (room : ℕ) → length lent ≡ room → sup_of h 3 t day room ≡ x → r ≡ x
-    answer room l f = post.0 ∙ rw (p, d.count-is, d.rows_are, d.letters-are, d.islands-are, d.points-are, q, l) f
+    answer room l f = post.0 ∙ rw (d.header-is, d.count-is, d.tables-are, q, l) f
 
     -- refused whatever the room: an answer that leaves the output as it was
     refused : (x : SupAnswer) → ((s l : List ℕ) → sup_output x s l ≡ l) → ((room : ℕ) → sup_of h 3 t day room ≡ x) → Refuses x
     refused x u f = let y = answer (length lent) refl (f (length lent)) in (y, post.1 ∙ rw y (u _ lent))
 
-  module _ (p : a.0 ≡ header) (d : Tabled 3 two_parcels a.1) (q : date ≡ today) where
-    pub sup-answers : length lent ≡ 400 → r ≡ Wrote 368
-    sup-answers l = answer p d q 400 l spare
+  module _ (d : Handed header 3 two_parcels a.0.now) (q : date ≡ today) where
+    pub sup-answers : length lent ≡ 400 → r ≡ Ok 368
+    sup-answers l = answer d q 400 l spare
 
     -- shuts out a writer that stores nothing, lists by rows, prints gross areas or a plus
     pub sup-stores : length lent ≡ 400 → left ≡ file ++ drop 368 lent
-    sup-stores l = post.1 ∙ rw (sup-answers l, p, d.count-is, d.rows_are, d.letters-are, d.islands-are, d.points-are, q, spelt) refl
+    sup-stores l = post.1 ∙ rw (sup-answers l, d.header-is, d.count-is, d.tables-are, q, spelt) refl
 
     -- shuts out a 14 without need
-    pub sup-no-14-without-need : length lent ≡ 368 → r ≡ Wrote 368
-    sup-no-14-without-need l = answer p d q 368 l enough
+    pub sup-no-14-without-need : length lent ≡ 368 → r ≡ Ok 368
+    sup-no-14-without-need l = answer d q 368 l enough
 
     -- shuts out a made-up needed length
-    pub sup-needs : length lent ≡ 367 → Refuses (NoRoom 368)
-    sup-needs l = let y = answer p d q 367 l short in (y, post.1 ∙ rw y refl)
+    pub sup-needs : length lent ≡ 367 → Refuses (Err (NoRoom 368))
+    sup-needs l = let y = answer d q 367 l short in (y, post.1 ∙ rw y refl)
 
   -- the header comes before the rings and the date
-  pub sup-bad-header : a.0 ≡ no_kind → Tabled 3 wide_ringed a.1 → date ≡ month13 → Refuses (Refused (Sheet BadHeader))
-  sup-bad-header p d q = refused p d q (Refused (Sheet BadHeader)) (λ s l. refl) headed
+  pub sup-bad-header : Handed no_kind 3 wide_ringed a.0.now → date ≡ month13 → Refuses (Err (Refused (Sheet BadHeader)))
+  sup-bad-header d q = refused d q (Err (Refused (Sheet BadHeader))) (λ s l. refl) headed
 
   -- the tally's own refusal comes before the date and the codes
-  pub sup-too-wide : a.0 ≡ header → Tabled 3 wide_ringed a.1 → date ≡ month13 → Refuses (Refused (Wide 1))
-  sup-too-wide p d q = refused p d q (Refused (Wide 1)) (λ s l. refl) ringed
+  pub sup-too-wide : Handed header 3 wide_ringed a.0.now → date ≡ month13 → Refuses (Err (Refused (Wide 1)))
+  sup-too-wide d q = refused d q (Err (Refused (Wide 1))) (λ s l. refl) ringed
 
   -- the date comes before the codes
-  pub sup-bad-date : a.0 ≡ header → Tabled 3 long_coded a.1 → date ≡ month13 → Refuses BadDate
-  sup-bad-date p d q = refused p d q BadDate (λ s l. refl) dated
+  pub sup-bad-date : Handed header 3 long_coded a.0.now → date ≡ month13 → Refuses (Err BadDate)
+  sup-bad-date d q = refused d q (Err BadDate) (λ s l. refl) dated
 
-  pub sup-long-code : a.0 ≡ header → Tabled 3 long_coded a.1 → date ≡ today → Refuses (CodeTooLong 2)
-  sup-long-code p d q = refused p d q (CodeTooLong 2) (λ s l. refl) coded
+  pub sup-long-code : Handed header 3 long_coded a.0.now → date ≡ today → Refuses (Err (CodeTooLong 2))
+  sup-long-code d q = refused d q (Err (CodeTooLong 2)) (λ s l. refl) coded
 
-  pub sup-wide-figure : a.0 ≡ header → Tabled 3 wide_figured a.1 → date ≡ today → Refuses (WideFigure 9)
-  sup-wide-figure p d q = refused p d q (WideFigure 9) (λ s l. refl) figured
+  pub sup-wide-figure : Handed header 3 wide_figured a.0.now → date ≡ today → Refuses (Err (WideFigure 9))
+  sup-wide-figure d q = refused d q (Err (WideFigure 9)) (λ s l. refl) figured
 
 -- ---- `cxf_sup_write`
 
@@ -211,20 +211,20 @@ module _ (κs : Lfts 7) (a : ArgsD cxf-sup-write.signature κs) (r : ResD cxf-su
     cxf-sup-needs l = (cxf-answer in-C p d q 367 l short, cxf-output in-C p d q 367 l short)
 
   pub cxf-sup-bad-header : Headed no_kind → Tabled 3 wide_ringed a.1.1.1 → cxf_date ≡ month13 → RefusesCxf (record { number = 6; row = 0; line = 0; length = 0 })
-  cxf-sup-bad-header p d q = cxf-refused no-kind-in-C p d q (Refused (Sheet BadHeader)) (λ s l. refl) headed
+  cxf-sup-bad-header p d q = cxf-refused no-kind-in-C p d q (Err (Refused (Sheet BadHeader))) (λ s l. refl) headed
 
   -- a name of 12 bytes is no name
   pub cxf-sup-long-name : Headed long_name → Tabled 3 two_parcels a.1.1.1 → cxf_date ≡ today → RefusesCxf (record { number = 6; row = 0; line = 0; length = 0 })
-  cxf-sup-long-name p d q = cxf-refused long-name-in-C p d q (Refused (Sheet BadHeader)) (λ s l. refl) (no-header 3 two_parcels today)
+  cxf-sup-long-name p d q = cxf-refused long-name-in-C p d q (Err (Refused (Sheet BadHeader))) (λ s l. refl) (no-header 3 two_parcels today)
 
   pub cxf-sup-too-wide : Headed header → Tabled 3 wide_ringed a.1.1.1 → cxf_date ≡ month13 → RefusesCxf (record { number = 17; row = 1; line = 0; length = 0 })
-  cxf-sup-too-wide p d q = cxf-refused in-C p d q (Refused (Wide 1)) (λ s l. refl) ringed
+  cxf-sup-too-wide p d q = cxf-refused in-C p d q (Err (Refused (Wide 1))) (λ s l. refl) ringed
 
   pub cxf-sup-bad-date : Headed header → Tabled 3 long_coded a.1.1.1 → cxf_date ≡ month13 → RefusesCxf (record { number = 21; row = 0; line = 0; length = 0 })
-  cxf-sup-bad-date p d q = cxf-refused in-C p d q BadDate (λ s l. refl) dated
+  cxf-sup-bad-date p d q = cxf-refused in-C p d q (Err BadDate) (λ s l. refl) dated
 
   pub cxf-sup-long-code : Headed header → Tabled 3 long_coded a.1.1.1 → cxf_date ≡ today → RefusesCxf (record { number = 22; row = 2; line = 0; length = 0 })
-  cxf-sup-long-code p d q = cxf-refused in-C p d q (CodeTooLong 2) (λ s l. refl) coded
+  cxf-sup-long-code p d q = cxf-refused in-C p d q (Err (CodeTooLong 2)) (λ s l. refl) coded
 
   pub cxf-sup-wide-figure : Headed header → Tabled 3 wide_figured a.1.1.1 → cxf_date ≡ today → RefusesCxf (record { number = 23; row = 0; line = 9; length = 0 })
-  cxf-sup-wide-figure p d q = cxf-refused in-C p d q (WideFigure 9) (λ s l. refl) figured
+  cxf-sup-wide-figure p d q = cxf-refused in-C p d q (Err (WideFigure 9)) (λ s l. refl) figured

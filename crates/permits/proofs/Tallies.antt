@@ -4,14 +4,15 @@ use mathlib.Core.Path.{◌≡◌, refl, ◌∙◌, ap}
 use mathlib.Core.List.{List, [], ◌∷◌, ◌++◌}
 use lib.ListN.{replicate}
 use lib.IntN.{ℤ, pos}
+use Rattle.std.specs.Prelude.{Ok, Err}
 use contract.Lifetimes.{Lfts}
 use borrow.Fn.World.{ArgsD, ResD}
 use denote.Triple.Clauses.{AtExit}
 use Rattle.heading.specs.declared.Header.{Header}
 use Rattle.sheet.specs.Tables.{Tables}
-use Rattle.made.specs.declared.Verdict.TheVariants.{BadHeader, Faulty}
+use Rattle.made.specs.declared.Flaw.TheVariants.{BadHeader, Faulty}
 use Rattle.tally.specs.declared.Taken.{Taken}
-use Rattle.tally.specs.declared.Refusal.TheVariants.{None, Sheet, Wide}
+use Rattle.tally.specs.declared.Untallied.TheVariants.{Sheet, Wide}
 use Rattle.tally.specs.Tally.{no_figures, empty_tally, tally_on}
 use Rattle.tally.specs.Take.{taken_with, tally_of}
 use Rattle.tally.specs.Examples.{computed}
@@ -22,7 +23,7 @@ use Rattle.told.specs.Asked.{header_of}
 use Rattle.told.specs.Tallies.{tally_told}
 use Rattle.cabi.specs.contracts.cxf_tally_sheet as cxf-tally-sheet
 use Rattle.cabi.proofs.cxf_tally_sheet.Reads as cxf-tally-reads
-use Rattle.permits.proofs.SmallSheets.{Tabled, header, no_kind, in-C, no-kind-in-C, small, wide, faulty, false_start}
+use Rattle.permits.proofs.SmallSheets.{Handed, Tabled, header, no_kind, in-C, no-kind-in-C, small, wide, faulty, false_start}
 
 -- ---- tally_sheet
 
@@ -30,56 +31,56 @@ use Rattle.permits.proofs.SmallSheets.{Tabled, header, no_kind, in-C, no-kind-in
 abbrev counted : List ℤ
 counted = replicate 16 (pos 0) ++ pos 1 ∷ pos 600 ∷ pos 0 ∷ pos 0 ∷ pos 1 ∷ pos 200 ∷ pos 1 ∷ pos 4 ∷ []
 
-counted_is : tally_of header 4 small ≡ taken_with (tally_on counted) None
+counted_is : tally_of header 4 small ≡ taken_with (tally_on counted) (Ok tt)
 unfolding computed
 counted_is = refl
 
-none-counted : tally_of header 0 small ≡ taken_with empty_tally None
+none-counted : tally_of header 0 small ≡ taken_with empty_tally (Ok tt)
 unfolding computed
 none-counted = refl
 
 -- refused, the figures are all 0
-too_wide : tally_of header 4 wide ≡ taken_with empty_tally (Wide 1)
+too_wide : tally_of header 4 wide ≡ taken_with empty_tally (Err (Wide 1))
 unfolding computed
 too_wide = refl
 
-headed : tally_of no_kind 4 faulty ≡ taken_with empty_tally (Sheet BadHeader)
+headed : tally_of no_kind 4 faulty ≡ taken_with empty_tally (Err (Sheet BadHeader))
 unfolding computed
 headed = refl
 
-made : tally_of header 4 faulty ≡ taken_with empty_tally (Sheet (Faulty 3))
+made : tally_of header 4 faulty ≡ taken_with empty_tally (Err (Sheet (Faulty 3)))
 unfolding computed
 made = refl
 
-placed : tally_of header 4 false_start ≡ taken_with empty_tally (Sheet (Faulty 3))
+placed : tally_of header 4 false_start ≡ taken_with empty_tally (Err (Sheet (Faulty 3)))
 unfolding computed
 placed = refl
 
-module _ (κs : Lfts 4) (a : ArgsD tally-sheet.signature κs) (r : ResD tally-sheet.signature κs) (e : AtExit tally-sheet.ended κs) where
+module _ (κs : Lfts 2) (a : ArgsD tally-sheet.signature κs) (r : ResD tally-sheet.signature κs) (e : AtExit tally-sheet.ended κs) where
   abbrev pub Only : Header → ℕ → Tables → Taken → Type 0
-  Only h count t x = a.0 ≡ h → Tabled count t a.1 → tally-reads.Learnt κs a r e → r ≡ x
+  Only h count t x = Handed h count t a.0.now → tally-reads.Learnt κs a r e → r ≡ x
 
   only : {h : Header} {count : ℕ} {t : Tables} {x : Taken} → tally_of h count t ≡ x → Only h count t x
-  only q h d post = post ∙ rw (h, d.count-is, d.rows_are, d.letters-are, d.islands-are, d.points-are) q
+  only q d post = post ∙ rw (d.header-is, d.count-is, d.tables-are) q
 
   -- shuts out a tally with made-up counts
-  pub tally-answers : Only header 4 small (taken_with (tally_on counted) None)
+  pub tally-answers : Only header 4 small (taken_with (tally_on counted) (Ok tt))
   tally-answers = only counted_is
 
-  pub tally-of-no-rows : Only header 0 small (taken_with empty_tally None)
+  pub tally-of-no-rows : Only header 0 small (taken_with empty_tally (Ok tt))
   tally-of-no-rows = only none-counted
 
-  pub tally-too-wide : Only header 4 wide (taken_with empty_tally (Wide 1))
+  pub tally-too-wide : Only header 4 wide (taken_with empty_tally (Err (Wide 1)))
   tally-too-wide = only too_wide
 
-  pub tally-bad-header : Only no_kind 4 faulty (taken_with empty_tally (Sheet BadHeader))
+  pub tally-bad-header : Only no_kind 4 faulty (taken_with empty_tally (Err (Sheet BadHeader)))
   tally-bad-header = only headed
 
-  pub tally-faulty-row : Only header 4 faulty (taken_with empty_tally (Sheet (Faulty 3)))
+  pub tally-faulty-row : Only header 4 faulty (taken_with empty_tally (Err (Sheet (Faulty 3))))
   tally-faulty-row = only made
 
   -- T-07: a row with a false start is not well made
-  pub tally-false-start : Only header 4 false_start (taken_with empty_tally (Sheet (Faulty 3)))
+  pub tally-false-start : Only header 4 false_start (taken_with empty_tally (Err (Sheet (Faulty 3))))
   tally-false-start = only placed
 
 -- ---- cxf_tally_sheet

@@ -13,7 +13,8 @@ use borrow.Author.Tests.{leb-true, le-leb}
 use Rattle.laws.specs.Whole.{Within}
 use Rattle.laws.proofs.Choice.{and_left, and_right}
 use Rattle.laws.proofs.Bounds.{within-mul, within-sub, within-add, within-le, within-lit}
-use Rattle.plane.specs.declared.Area.TheVariants.{Doubled, Wide, Missing}
+use Rattle.std.proofs.Common.{Result, Ok, Err}
+use Rattle.plane.specs.declared.NoArea.TheVariants.{Wide, Missing}
 use Rattle.plane.specs.Rings.{most, reach, x-at, y-at, held, near, near_first, all_near, narrow}
 use Rattle.plane.specs.Areas.{edge-limit, sum-limit, east, north, edge-term, signed-sum, area_of}
 use Rattle.plane.proofs.RingLaws.{held-has, near-each, narrow-held, narrow-near}
@@ -44,20 +45,20 @@ module _ (ps : List ℤ) (from : ℕ) where
       within-le (omega arith) (within-add (sum-within n a e (omega arith)) (edge-within e (near-each ps from n a e (omega arith)) (near-each ps from n a (e + 1) (omega arith))))
 
 module _ (ps : List ℤ) (from n : ℕ) where
-  pub area-missing : held (length ps) from n ≡ false → Missing ≡ area_of ps from n
+  pub area-missing : held (length ps) from n ≡ false → Err Missing ≡ area_of ps from n
   unfolding area_of
   area-missing h = simp h
 
-  pub area-wide : held (length ps) from n ≡ true → narrow ps from n ≡ false → Wide ≡ area_of ps from n
+  pub area-wide : held (length ps) from n ≡ true → narrow ps from n ≡ false → Err Wide ≡ area_of ps from n
   unfolding area_of
   area-wide h e = simp (h, e)
 
-  pub area-doubled : {d : ℤ} → held (length ps) from n ≡ true → narrow ps from n ≡ true → d ≡ pos (nat_abs (signed-sum ps from (n - 1))) → Doubled d ≡ area_of ps from n
+  pub area-doubled : {d : ℤ} → held (length ps) from n ≡ true → narrow ps from n ≡ true → d ≡ pos (nat_abs (signed-sum ps from (n - 1))) → Ok d ≡ area_of ps from n
   unfolding area_of
-  area-doubled h e q = simp (h, e) (ap Doubled q)
+  area-doubled h e q = simp (h, e) (ap Ok q)
 
   -- what an answer that is an area says
-  pub area-is : (d : ℤ) → area_of ps from n ≡ Doubled d → (narrow ps from n ≡ true) × (d ≡ pos (nat_abs (signed-sum ps from (n - 1))))
+  pub area-is : (d : ℤ) → area_of ps from n ≡ Ok d → (narrow ps from n ≡ true) × (d ≡ pos (nat_abs (signed-sum ps from (n - 1))))
   area-is d q = go (held (length ps) from n) (narrow ps from n) refl refl
     where
       go : (h t : Bool) → held (length ps) from n ≡ h → narrow ps from n ≡ t → (t ≡ true) × (d ≡ pos (nat_abs (signed-sum ps from (n - 1))))
@@ -66,7 +67,7 @@ module _ (ps : List ℤ) (from n : ℕ) where
       go true true e f = let r = area-doubled {d = pos (nat_abs (signed-sum ps from (n - 1)))} e f refl in (refl, cc)
 
   -- each edge adds at most `edge-limit`, and a ring of n vertices has n - 1; an area is not below 0
-  pub area-size : (d : ℤ) → area_of ps from n ≡ Doubled d → (1 ≤ n) × Within ((n - 1) * edge-limit) d × (le_z (pos 0) d ≡ true)
+  pub area-size : (d : ℤ) → area_of ps from n ≡ Ok d → (1 ≤ n) × Within ((n - 1) * edge-limit) d × (le_z (pos 0) d ≡ true)
   area-size d q =
       let r = area-is d q in
       let h = held-has (length ps) from n (narrow-held ps from n r.0) in
@@ -74,7 +75,7 @@ module _ (ps : List ℤ) (from n : ℕ) where
       (h.0, rw r.1 (record { within = w.within }), rw r.1 (le-leb 0 (nat_abs (signed-sum ps from (n - 1))) (omega arith)))
 
   -- so it is at most 9,998 times 800,000,000,000,000
-  pub area-bound : (d : ℤ) → area_of ps from n ≡ Doubled d → Within sum-limit d × (le_z (pos 0) d ≡ true)
+  pub area-bound : (d : ℤ) → area_of ps from n ≡ Ok d → Within sum-limit d × (le_z (pos 0) d ≡ true)
   area-bound d q =
       let r = area-size d q in
       let h = held-has (length ps) from n (narrow-held ps from n (area-is d q).0) in

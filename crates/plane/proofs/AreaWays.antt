@@ -19,7 +19,8 @@ use Rattle.laws.proofs.Bounds.{within-lit, within-le, within-add, within-fits}
 use Rattle.laws.proofs.Bits.{Holds, holds_as, read-within, back}
 use Rattle.laws.proofs.Chains.{and-off, and-off-second}
 use Rattle.laws.proofs.Choice.{and_both}
-use Rattle.plane.specs.declared.Area.TheVariants.{Doubled, Wide}
+use Rattle.std.proofs.Common.{Result, Ok, Err}
+use Rattle.plane.specs.declared.NoArea.TheVariants.{Wide}
 use Rattle.plane.specs.Rings.{reach, x-at, y-at, held, near, near_first, all_near}
 use Rattle.plane.specs.Areas.{edge-limit, sum-limit, east, north, edge-term, signed-sum, area_of}
 use Rattle.plane.proofs.RingLaws.{held-has, near_none, near-each, near-more, narrow-is, narrow-far}
@@ -81,7 +82,7 @@ module _ (ps : List ℤ) (from n : ℕ) (h : held (length ps) from n ≡ true) w
     pub summed-small : Within sum-limit s
     summed-small = within-le (omega (arith, w.within, held-has (length ps) from n h)) (is-within w.sums)
 
-    pub summed-end : n ≤ k + 1 → {r : ℤ} → mag r < 2 ^ 63 → r ≡ pos (nat_abs s) → Doubled (bits r) ≡ area_of ps from n
+    pub summed-end : n ≤ k + 1 → {r : ℤ} → mag r < 2 ^ 63 → r ≡ pos (nat_abs s) → Ok (bits r) ≡ area_of ps from n
     summed-end l {r} m e =
         let q : k + 1 ≡ n = omega (arith, w.within) in
         let p : k ≡ n - 1 = omega arith in
@@ -93,10 +94,7 @@ module _ (ps : List ℤ) (from n : ℕ) (h : held (length ps) from n ≡ true) w
       in-x : t ≡ near (x-at ps from) (x-at ps (from + (k + 1)))
       in-x = rw (back x fx, back a fa, ex, ea) at p
 
-      pub summed-near-x : not t ≡ false → near (bits x) (bits a) ≡ true
-      summed-near-x e = sym p ∙ not-false t e
-
-      pub summed-far-x : not t ≡ true → Wide ≡ area_of ps from n
+      pub summed-far-x : not t ≡ true → Err Wide ≡ area_of ps from n
       unfolding near_first
       summed-far-x e =
           area-wide ps from n h (sym (narrow-far ps from n (k + 1) l
@@ -107,10 +105,7 @@ module _ (ps : List ℤ) (from n : ℕ) (h : held (length ps) from n ≡ true) w
         in-y : u ≡ near (y-at ps from) (y-at ps (from + (k + 1)))
         in-y = rw (back y fy, back b fb, ey, eb) at q
 
-        pub summed-near-y : not u ≡ false → near (bits y) (bits b) ≡ true
-        summed-near-y e = sym q ∙ not-false u e
-
-        pub summed-far-y : not u ≡ true → Wide ≡ area_of ps from n
+        pub summed-far-y : not u ≡ true → Err Wide ≡ area_of ps from n
         unfolding near_first
         summed-far-y e =
             area-wide ps from n h (sym (narrow-far ps from n (k + 1) l

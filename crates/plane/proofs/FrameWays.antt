@@ -1,7 +1,7 @@
 -- A ring's frame: found vertex by vertex, and near its first vertex exactly where all of them are. Assumes nothing.
 use mathlib.Core.Path.{◌≡◌, refl, sym, ◌∙◌, subst}
 use mathlib.Core.Logic.{⊎_elim}
-use mathlib.Core.Bool.{Bool, true, false, not, cond}
+use mathlib.Core.Bool.{Bool, true, false, cond, ◌&&◌}
 use mathlib.Core.List.{List}
 use Prim.Native.Nat.{ℕ, ◌+◌, ◌^◌, ◌≤◌, ◌<◌}
 use native.Mathlib.Nat.{eq-or-lt_of_le, le_of_suc-le-suc}
@@ -12,7 +12,7 @@ use lib.IntN.{ℤ, nat_abs, ◌-ℤ◌}
 use lib.Signed.{lt_z, le_z, mag}
 use mir.Syntax.{w64}
 use mir.Val.{to_z, of_z}
-use borrow.Author.Tests.{not-true, not-false, leb-true, le-leb}
+use borrow.Author.Tests.{leb-true, le-leb}
 use Rattle.laws.specs.Whole.{low_z, high_z}
 use Rattle.laws.proofs.Choice.{and_both}
 use Rattle.laws.proofs.Chains.{and-off, and-off-second}
@@ -124,33 +124,13 @@ module _ (ps : List ℤ) (from n : ℕ) (w e s t : ℤ) (lx : Least (λ k. x-at 
       sym (narrow-is ps from n h (near-all ps from n (λ k l. and_both (near (x-at ps from) (x-at ps (from + k))) (near (y-at ps from) (y-at ps (from + k)))
       (between-near (x-at ps from) w e (x-at ps (from + k)) a b (lx.below_all k l) (gx.above-all k l)) (between-near (y-at ps from) s t (y-at ps (from + k)) c d (ly.below_all k l) (gy.above-all k l)))))
 
-  -- ---- what the code has in hand
-
-  module _ (x y : ℤ) (ex : x ≡ x-at ps from) (ey : y ≡ y-at ps from) (ox : mag x < 2 ^ 63) (oy : mag y < 2 ^ 63) (ow : mag w < 2 ^ 63) (oe : mag e < 2 ^ 63) (os : mag s < 2 ^ 63) (ot : mag t < 2 ^ 63)
-      (a : Bool) (ea : a ≡ near (bits x) (bits w)) where
-    is-a : a ≡ near (x-at ps from) w
-    is-a = rw (back x ox, ex, back w ow) at ea
-
-    pub frame-west : not a ≡ true → false ≡ narrow ps from n
-    frame-west u = sym (west-far (sym is-a ∙ not-true a u))
-
-    module _ (ua : not a ≡ false) (b : Bool) (eb : b ≡ near (bits x) (bits e)) where
-      is_b : b ≡ near (x-at ps from) e
-      is_b = rw (back x ox, ex, back e oe) at eb
-
-      pub frame-east : not b ≡ true → false ≡ narrow ps from n
-      frame-east u = sym (east-far (sym is_b ∙ not-true b u))
-
-      module _ (ub : not b ≡ false) (c : Bool) (ec : c ≡ near (bits y) (bits s)) where
-        is_c : c ≡ near (y-at ps from) s
-        is_c = rw (back y oy, ey, back s os) at ec
-
-        pub frame-south : not c ≡ true → false ≡ narrow ps from n
-        frame-south u = sym (south-far (sym is_c ∙ not-true c u))
-
-        pub frame-north : not c ≡ false → (d : Bool) → d ≡ near (bits y) (bits t) → d ≡ narrow ps from n
-        frame-north uc d ed = by d (rw (back y oy, ey, back t ot) at ed)
-          where
-            by : (r : Bool) → r ≡ near (y-at ps from) t → r ≡ narrow ps from n
-            by true q = sym (all_in (sym is-a ∙ not-false a ua) (sym is_b ∙ not-false b ub) (sym is_c ∙ not-false c uc) (sym q))
-            by false q = sym (north-far (sym q))
+  -- the frame tells
+  pub frame-narrow : (near (x-at ps from) w && (near (x-at ps from) e && (near (y-at ps from) s && near (y-at ps from) t))) ≡ narrow ps from n
+  frame-narrow = go (near (x-at ps from) w) (near (x-at ps from) e) (near (y-at ps from) s) (near (y-at ps from) t) refl refl refl refl
+    where
+      go : (a b c d : Bool) → near (x-at ps from) w ≡ a → near (x-at ps from) e ≡ b → near (y-at ps from) s ≡ c → near (y-at ps from) t ≡ d → (a && (b && (c && d))) ≡ narrow ps from n
+      go false b c d p q r u = sym (west-far p)
+      go true false c d p q r u = sym (east-far q)
+      go true true false d p q r u = sym (south-far r)
+      go true true true false p q r u = sym (north-far u)
+      go true true true true p q r u = sym (all_in p q r u)

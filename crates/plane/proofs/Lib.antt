@@ -1,5 +1,4 @@
 -- The laws of the definitions of crate `plane`; the functions' proofs stand in folders of their names.
-mod Apart
 pub mod RingLaws
 pub mod AreaLaws
 mod AreaWays

@@ -10,7 +10,7 @@ use native.Mathlib.Omega.{arith}
 use lib.Dec.{leb}
 use lib.ListN.{length}
 use lib.IntN.{ℤ}
-use borrow.Author.Tests.{leb-true, leb-false, le-leb}
+use borrow.Author.Tests.{leb-true, le-leb}
 use Rattle.laws.proofs.Choice.{and_left, and_right, and_both}
 use Rattle.laws.proofs.Chains.{and-on, and-off, and-off-second}
 use Rattle.plane.specs.Rings.{most, held, near_first, all_near, narrow}
@@ -31,20 +31,7 @@ module _ (numbers from n : ℕ) where
         leb-true (2 * (from + n)) numbers (and_right (leb n most) (leb (2 * (from + n)) numbers) r),
       )
 
-  pub held-not : (1 ≤ n → n ≤ most → 2 * (from + n) ≤ numbers → ⊥) → false ≡ held numbers from n
-  held-not f = go (held numbers from n) refl
-    where
-      go : (t : Bool) → held numbers from n ≡ t → false ≡ t
-      go true e = let h = held-has e in absurd (f h.0 h.1 h.2)
-      go false e = refl
-
-  -- the last test decides, where it says that the ring ends in the table
-  pub held-as : (room : ℕ) → 1 ≤ n → n ≤ most → (n ≤ room → 2 * (from + n) ≤ numbers) → (room < n → 2 * (from + n) ≤ numbers → ⊥) → leb n room ≡ held numbers from n
-  held-as room a b f g = go (leb n room) refl
-    where
-      go : (t : Bool) → leb n room ≡ t → t ≡ held numbers from n
-      go true e = sym (held-is a b (f (leb-true n room e)))
-      go false e = held-not (λ x y z. g (leb-false n room e) z)
+  pub ruleset ring_held = (held-has)
 
 -- ---- its vertices are near its first
 

@@ -3,22 +3,21 @@
 // All is proved, and no public function has a `requires`: each answers for any table and any numbers, and nothing wraps.
 #![tactic(auto)]
 
-ghost use Rattle.std.specs.Prelude.{◌≡◌, Bool, true, ℕ, ◌+◌, ◌*◌, ◌-◌, ◌≤◌, ◌<◌, length, ℤ, pos, nat_abs, ◌-ℤ◌, ◌*ℤ◌};
+ghost use Rattle.std.specs.Prelude.{◌≡◌, Bool, true, ◌&&◌, ℕ, ◌+◌, ◌*◌, ◌-◌, ◌≤◌, ◌<◌, length, ℤ, pos, nat_abs, ◌-ℤ◌, ◌*ℤ◌};
 ghost use Rattle.laws.specs.Whole.{Within, low_z, high_z};
 ghost use Rattle.plane.specs.Rings.{reach, x-at, y-at, held, near, narrow};
 ghost use Rattle.plane.specs.Frames.{Least, Greatest};
 ghost use Rattle.plane.specs.Areas.{sum-limit, area_of};
 
 // How far a vertex may lie from its ring's first, in x and in y.
-const REACH: i64 = 20_000_000;
+const REACH: u64 = 20_000_000;
 
 // The most vertices that a sheet gives a ring.
 const MOST: usize = 9999;
 
-#[derive(Clone, Copy)]
-pub enum Area {
-    // The doubled area, in square millimetres.
-    Doubled(i64),
+// Why a ring has no area.
+#[derive(Clone, Copy, Debug, PartialEq, Eq)]
+pub enum NoArea {
     // Refusal 17: a vertex lies too far from the ring's first.
     Wide,
     // The table holds no such ring.
@@ -33,20 +32,12 @@ struct Frame {
     north: i64,
 }
 
-// Whether a and b are at most REACH apart. Their difference is only taken where it fits.
+// Whether a and b are at most REACH apart.
+#[tactic(auto, unfolding(crate::specs::Rings::near))]
 fn within_reach(a: i64, b: i64) -> bool
     ensures { result ≡ near a b }
 {
-    if a < 0 {
-        if a + REACH < b {
-            return false;
-        }
-        return 0 - REACH <= b - a;
-    }
-    if b < a - REACH {
-        return false;
-    }
-    b - a <= REACH
+    b.abs_diff(a) <= REACH
 }
 
 // The coordinates of vertex v of the table.
@@ -68,33 +59,26 @@ fn y_of(points: &[i64], v: usize) -> i64
 pub fn lower(a: i64, b: i64) -> i64
     ensures { result ≡ low_z a b }
 {
-    if a < b { a } else { b }
+    a.min(b)
 }
 
 pub fn higher(a: i64, b: i64) -> i64
     ensures { result ≡ high_z a b }
 {
-    if a < b { b } else { a }
+    a.max(b)
 }
 
 // Whether the table holds a ring of `count` vertices from vertex `from` on: 1 to 9999 of them.
+#[tactic(auto, unfolding(crate::specs::Rings::held))]
 pub fn is_ring(points: &[i64], from: usize, count: usize) -> bool
     ensures { result ≡ held (length points.now) from count }
 {
-    if count < 1 {
-        return false;
-    }
-    if MOST < count {
-        return false;
-    }
     let room = points.len() / 2;
-    if room < from {
-        return false;
-    }
-    count <= room - from
+    (1..=MOST).contains(&count) && from <= room && count <= room - from
 }
 
 // The least and the greatest x and y of a ring that the table holds.
+#[tactic(auto, using(crate::proofs::RingLaws::ring_held))]
 fn frame_of(points: &[i64], from: usize, count: usize) -> Frame
     requires { held (length points.now) from count ≡ true }
     ensures { Least (λ k. x-at points.now (from + k)) count result.west × Greatest (λ k. x-at points.now (from + k)) count result.east × Least (λ k. y-at points.now (from + k)) count result.south × Greatest (λ k. y-at points.now (from + k)) count result.north }
@@ -103,15 +87,13 @@ fn frame_of(points: &[i64], from: usize, count: usize) -> Frame
     let mut east = x_of(points, from);
     let mut south = y_of(points, from);
     let mut north = y_of(points, from);
-    let mut k = 1;
-    while k < count {
+    for k in 1..count {
         let x = x_of(points, from + k);
         let y = y_of(points, from + k);
         west = lower(west, x);
         east = higher(east, x);
         south = lower(south, y);
         north = higher(north, y);
-        k += 1;
     }
     Frame {
         west,
@@ -119,6 +101,16 @@ fn frame_of(points: &[i64], from: usize, count: usize) -> Frame
         south,
         north,
     }
+}
+
+// Whether the four sides of a frame are near a point.
+fn is_near(x: i64, y: i64, frame: Frame) -> bool
+    ensures { result ≡ (near x frame.west && (near x frame.east && (near y frame.south && near y frame.north))) }
+{
+    within_reach(x, frame.west)
+        && within_reach(x, frame.east)
+        && within_reach(y, frame.south)
+        && within_reach(y, frame.north)
 }
 
 // Whether the table holds such a ring, and each vertex of it is near its first: refusal 17 where the second fails. Its frame tells.
@@ -129,18 +121,7 @@ pub fn is_narrow(points: &[i64], from: usize, count: usize) -> bool
         return false;
     }
     let frame = frame_of(points, from, count);
-    let x = x_of(points, from);
-    let y = y_of(points, from);
-    if !within_reach(x, frame.west) {
-        return false;
-    }
-    if !within_reach(x, frame.east) {
-        return false;
-    }
-    if !within_reach(y, frame.south) {
-        return false;
-    }
-    within_reach(y, frame.north)
+    is_near(x_of(points, from), y_of(points, from), frame)
 }
 
 // How far b lies from a that is near it.
@@ -163,14 +144,12 @@ fn absolute(z: i64) -> i64
     requires { Within sum-limit z }
     ensures { result ≡ pos (nat_abs z) }
 {
-    if z < 0 {
-        return 0 - z;
-    }
-    z
+    z.abs()
 }
 
 // The doubled area of a ring that the table holds: each vertex is fetched once, judged, and its edge added. An edge less than vertices.
-fn area_of(points: &[i64], from: usize, count: usize) -> Area
+#[tactic(auto, using(crate::proofs::RingLaws::ring_held))]
+fn area_of(points: &[i64], from: usize, count: usize) -> Result<i64, NoArea>
     requires { held (length points.now) from count ≡ true }
     ensures { result ≡ area_of points.now from count }
 {
@@ -179,32 +158,28 @@ fn area_of(points: &[i64], from: usize, count: usize) -> Area
     let mut x1: i64 = 0;
     let mut y1: i64 = 0;
     let mut s: i64 = 0;
-    let mut k = 0;
-    while k + 1 < count {
+    for k in 0..count - 1 {
         let a = x_of(points, from + (k + 1));
         let b = y_of(points, from + (k + 1));
-        if !within_reach(x, a) {
-            return Area::Wide;
-        }
-        if !within_reach(y, b) {
-            return Area::Wide;
+        if !within_reach(x, a) || !within_reach(y, b) {
+            return Err(NoArea::Wide);
         }
         let x2 = away(x, a);
         let y2 = away(y, b);
         s += edge(x1, y1, x2, y2);
         x1 = x2;
         y1 = y2;
-        k += 1;
     }
-    Area::Doubled(absolute(s))
+    Ok(absolute(s))
 }
 
-// The doubled area of the ring of `count` vertices from vertex `from` on.
-pub fn doubled_area(points: &[i64], from: usize, count: usize) -> Area
+// The doubled area of the ring of `count` vertices from vertex `from` on, in square millimetres.
+#[tactic(auto, unfolding(crate::specs::Areas::area_of))]
+pub fn doubled_area(points: &[i64], from: usize, count: usize) -> Result<i64, NoArea>
     ensures { result ≡ area_of points.now from count }
 {
     if !is_ring(points, from, count) {
-        return Area::Missing;
+        return Err(NoArea::Missing);
     }
     area_of(points, from, count)
 }

@@ -4,11 +4,11 @@ use borrow.Author.Tests.{not-false}
 use Rattle.laws.specs.Lists.{run, all}
 use Rattle.laws.proofs.Choice.{and_left, and_right}
 use Rattle.laws.proofs.ListLaws.{left}
+use Rattle.std.specs.Prelude.{Some}
 use Rattle.record.specs.declared.Mode.{Mode}
 use Rattle.record.specs.declared.Mode.TheVariants.{Exact}
 use Rattle.record.specs.Record.{is_exact, plain}
 use Rattle.record.specs.RecordView.{crlf, lf}
-use Rattle.number.specs.declared.Whole.TheVariants as Whole
 use Rattle.number.specs.Words.{unled}
 use Rattle.number.specs.Number.{digit, value, ended, lean, integer_is, integer_at, integer_of}
 use Rattle.number.proofs.IntegerWays.{digit-from, digit-to}
@@ -88,7 +88,7 @@ four-worth a b c d (one p q r s) = omega (arith, blank-worth a p, digit-worth b 
 four-worth a b c d (two p q r s) = omega (arith, blank-worth a p, blank-worth b q, digit-worth c (omega arith), digit-worth d s)
 four-worth a b c d (three p q r s) = omega (arith, blank-worth a p, blank-worth b q, blank-worth c r, digit-worth d s)
 
-four-integer : (a b c d : ℕ) → Shape a b c d → integer_of Exact (a ∷ b ∷ c ∷ d ∷ []) ≡ Whole.Is (value 0 (a ∷ b ∷ c ∷ d ∷ []))
+four-integer : (a b c d : ℕ) → Shape a b c d → integer_of Exact (a ∷ b ∷ c ∷ d ∷ []) ≡ Some (value 0 (a ∷ b ∷ c ∷ d ∷ []))
 unfolding integer_of integer_at integer_is unled run value ended all lean
 four-integer a b c d (none p q r s) =
     rw (
@@ -182,3 +182,15 @@ module _ (mode : Mode) (s : List ℕ) (at w : ℕ) (f : 0 < w → FourEnds mode 
 
     pub long-is : r ≡ is_long a b c → v ≡ a % 16 * 1000 + b % 16 * 100 + (c % 16 * 10 + d % 16) → 0 < w → IntegerAt mode s at w v
     long-is e k _ = let g = long-shape a b c d last (sym e ∙ t) in rw (k, four-worth a b c d g) (shape_is g)
+
+pub ruleset four_ending_ways = (four-cr, four-lf)
+
+pub ruleset integer_at_ways = (four-in, two_is, long-is)
+
+pub ruleset is_digit_ways = (digit-by)
+
+pub ruleset is_lead_ways = (lead-by)
+
+pub ruleset is_long_ways = (long-by)
+
+pub ruleset is_two_ways = (two-by)

@@ -3,17 +3,16 @@ use Rattle.std.proofs.Common.{◌≡◌, ℕ, zero, suc, ◌+◌, ◌-◌, ◌*�
 use Rattle.laws.specs.Lists.{run, all, tail}
 use Rattle.laws.proofs.Choice.{and_left, and_right}
 use Rattle.laws.proofs.ListLaws.{left, left-none, rest-is, run-stop, run-from, all-run, all-weaken}
+use Rattle.std.specs.Prelude.{Some, Ok}
 use Rattle.record.specs.declared.Mode.TheVariants.{Loose}
 use Rattle.record.specs.Record.{plain}
 use Rattle.record.specs.RecordView.{crlf, lf}
-use Rattle.number.specs.declared.Decimal.TheVariants as Decimal
 use Rattle.number.specs.Words.{blank, unled}
 use Rattle.number.specs.Number.{digit, value, ended, sign_of, signs, signed, thousandths, is_token, real_is, real_at, real_signed, real_of}
 use Rattle.number.proofs.IntegerWays.{eight, digit-is, digit-from}
 use Rattle.number.proofs.NumberLaws.{ended-nothing, real-in}
 use Rattle.spelling.proofs.DigitLaws.{value-last}
 use Rattle.token.specs.Lex.{lift, lex_of}
-use Rattle.token.specs.declared.Token.TheVariants.{Say}
 use Rattle.quick.specs.Brisk.{Leads, Worthy, Briskly, EndsAt}
 use Rattle.quick.specs.Seen.{RealAt}
 use Rattle.quick.proofs.Twelve.{Figure}
@@ -121,7 +120,7 @@ module _ (u : List ℕ) (n m : ℕ) (w : Worthy u n m) where
   cut-shape sg h =
       rw (le-leb 1 n w.least, le-leb n 8 w.most, eq-eqb (get_or (take (n + 4) u) n 0) 46 cut-point, cut-places, w.places, le-leb (signs sg + n + 4) 12 h)
 
-  cut-real : (size sg : ℕ) → signs sg + n + 4 ≤ 12 → real_at Loose size sg (take (n + 4) u) ≡ Decimal.Is (signed sg m)
+  cut-real : (size sg : ℕ) → signs sg + n + 4 ≤ 12 → real_at Loose size sg (take (n + 4) u) ≡ Some (signed sg m)
   unfolding real_at real_is
   cut-real size sg h = rw (cut-run, cut-shape sg h, cut-ended, cut-worth)
 
@@ -169,7 +168,7 @@ module _ (t : List ℕ) (k : ℕ) (q : k ≡ run blank t) where
       first-here : digit (get_or t k 0) ≡ true
       first-here = let z : k + 0 ≡ k = omega arith in rw (get_or-drop k t 0 0, z) at (first-digit (drop k t) n m w)
 
-      plus-real : real_of Loose (take (k + (n + 4)) t) ≡ Decimal.Is (signed 0 m)
+      plus-real : real_of Loose (take (k + (n + 4)) t) ≡ Some (signed 0 m)
       unfolding real_of real_signed unled sign_of signs
       plus-real =
           let d = digit-from (get_or t k 0) first-here in
@@ -187,7 +186,7 @@ module _ (t : List ℕ) (k : ℕ) (q : k ≡ run blank t) where
       minus-cut : drop (k + 1) (take (k + 1 + (n + 4)) t) ≡ take (n + 4) (drop (k + 1) t)
       minus-cut = drop_of_take (k + 1) (n + 4) t h
 
-      minus-real : real_of Loose (take (k + 1 + (n + 4)) t) ≡ Decimal.Is (signed 45 m)
+      minus-real : real_of Loose (take (k + 1 + (n + 4)) t) ≡ Some (signed 45 m)
       unfolding real_of real_signed unled sign_of signs
       minus-real =
           rw (blanks-in (k + 1 + (n + 4)) (omega arith), sign-in (k + 1 + (n + 4)) (omega arith), s, drop-drop 1 k (take (k + 1 + (n + 4)) t), minus-cut)
@@ -224,7 +223,7 @@ module _ (t : List ℕ) (k g len m : ℕ) (q : k ≡ run blank t) (h : k < lengt
     plus-w : Worthy (drop k t) (len - 4) m
     plus-w = rw e at there
 
-    plus-z : real_of Loose (take (k + len) t) ≡ Decimal.Is (signed 0 m)
+    plus-z : real_of Loose (take (k + len) t) ≡ Some (signed 0 m)
     plus-z = rw five (plus-real t k q (len - 4) m (omega arith) plus-w)
 
     pub plus-small : m ≤ 99999999999
@@ -251,7 +250,7 @@ module _ (t : List ℕ) (k g len m : ℕ) (q : k ≡ run blank t) (h : k < lengt
     sign : get_or t k 0 ≡ 45
     sign = s.1 (omega (arith, one))
 
-    minus-z : real_of Loose (take (k + 1 + len) t) ≡ Decimal.Is (signed 45 m)
+    minus-z : real_of Loose (take (k + 1 + len) t) ≡ Some (signed 45 m)
     minus-z = rw five (minus-real t k q (len - 4) m (omega arith) sign minus-w (omega arith))
 
     pub minus-small : m ≤ 9999999999
@@ -292,4 +291,12 @@ module _ (s : List ℕ) (at e v : ℕ) (b : 0 < e → Briskly (tail s at) e v) (
   bare-is w f n _ =
       let here : Briskly (drop at s) e v = rw (rest-is s at) at (b o) in
       let ends : EndsAt (drop at s) e w = rw (rest-is s at) at (f (omega arith)) in
-      record { len = e; line = ends.line l here.bytes; says = rw here.real (ap Say (sym here.lifted)) }
+      record { len = e; line = ends.line l here.bytes; says = rw here.real (ap Ok (sym here.lifted)) }
+
+pub ruleset bare_ways = (bare-in, bare-is)
+
+pub ruleset body_ways = (leads-most, body_is)
+
+pub ruleset brisk_ways = (brisk-inside, plus-small, brisk-plus, minus-small, brisk-minus)
+
+pub ruleset line_end_ways = (end-lf, end-cr)

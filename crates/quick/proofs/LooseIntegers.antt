@@ -4,11 +4,11 @@ use borrow.Author.Tests.{not-false}
 use Rattle.laws.specs.Lists.{run, all, tail}
 use Rattle.laws.proofs.Choice.{and_left}
 use Rattle.laws.proofs.ListLaws.{rest-is, run-from, all-run, all-each, all-weaken}
+use Rattle.std.specs.Prelude.{Some}
 use Rattle.record.specs.declared.Mode.{Mode}
 use Rattle.record.specs.declared.Mode.TheVariants.{Loose, Exact, Former}
 use Rattle.record.specs.Record.{is_exact, is_former, plain}
 use Rattle.record.proofs.RecordLaws.{line-widens, loose-widens}
-use Rattle.number.specs.declared.Whole.TheVariants as Whole
 use Rattle.number.specs.Words.{blank, unled}
 use Rattle.number.specs.Number.{digit, parted, ended, integer_is, integer_at, integer_of}
 use Rattle.number.proofs.IntegerWays.{digit-from}
@@ -51,9 +51,9 @@ module _ (mode : Mode) (u : List ℕ) (n v j : ℕ) (l : Leads u n v) (q : ended
       let h : n ≤ length (take (n + j) u) = simp length-take (omega (arith, l.inside)) in
       run-from digit (take (n + j) u) n h (rw cut-digits l.digits) ∙ rw (cut-behind, ended-run mode (take j (drop n u)) q) (omega arith)
 
-  cut-integer : (size : ℕ) → is_exact mode ≡ false → 1 ≤ n → n ≤ 4 → integer_at mode size (take (n + j) u) ≡ Whole.Is v
+  cut-integer : (size : ℕ) → is_exact mode ≡ false → 1 ≤ n → n ≤ 4 → integer_at mode size (take (n + j) u) ≡ Some v
   unfolding integer_at integer_is
-  cut-integer size x a b = rw (cut-run, le-leb 1 n a, le-leb n 4 b, cut-behind, q, x, cut-digits) (ap Whole.Is (sym l.number))
+  cut-integer size x a b = rw (cut-run, le-leb 1 n a, le-leb n 4 b, cut-behind, q, x, cut-digits) (ap Some (sym l.number))
 
   cut-plain : all plain (take j (drop n u)) ≡ true → all plain (take (n + j) u) ≡ true
   cut-plain p = all_join plain n (take (n + j) u) (rw cut-digits (all-weaken digit plain digit-plain (take n u) l.digits)) (rw cut-behind p)
@@ -69,7 +69,7 @@ module _ (mode : Mode) (t : List ℕ) (e v : ℕ) (y : Loosely mode t e v) where
       (all_join plain y.k (take (y.k + (y.n + y.j)) t) (front-plain t y.k y.blanks (y.k + (y.n + y.j)) (omega arith))
       (rw cut (cut-plain mode (drop y.k t) y.n v y.j y.leads y.behind y.bytes)))
 
-  loosely-whole : is_exact mode ≡ false → integer_of mode (take e t) ≡ Whole.Is v
+  loosely-whole : is_exact mode ≡ false → integer_of mode (take e t) ≡ Some v
   unfolding integer_of unled
   loosely-whole x =
       rw y.size
@@ -185,3 +185,7 @@ module _ (mode : Mode) (s : List ℕ) (at e v : ℕ) (b : 0 < e → Loosely mode
         line = line-widens Loose mode (loose-widens mode x) false (drop at s) e (e + w) line;
         says = rw (loosely-whole mode (drop at s) e v here x);
       }
+
+pub ruleset loose_integer_ways = (loose-in, loose-is)
+
+pub ruleset noted_body_ways = (body-any, body-in, body-noted)

@@ -154,3 +154,7 @@ module _ (c : List ℕ) (size : length c ≡ 12) (p : get_or c 8 0 ≡ 46) (t : 
 
   pub neighbours-sound : Sound c
   neighbours-sound = sound-at (run blank c) refl
+
+pub ruleset are_neighbours_ways = (below-eight)
+
+pub ruleset is_digit_ways = (digit-test)

@@ -5,8 +5,7 @@ use Rattle.laws.specs.Lists.{all}
 use Rattle.laws.proofs.ListLaws.{left}
 use Rattle.record.specs.declared.Mode.{Mode}
 use Rattle.record.specs.declared.Mode.TheVariants.{Loose, Exact}
-use Rattle.record.specs.declared.Line.TheVariants.{Got}
-use Rattle.record.specs.Record.{is_exact, plain, line_of}
+use Rattle.record.specs.Record.{got, is_exact, plain, line_of}
 use Rattle.record.specs.RecordView.{LineEnd, crlf, lf}
 use Rattle.record.proofs.RecordLaws.{line-make, line_view, line-widens, loose-widens}
 use Rattle.number.proofs.NumberLaws.{real-widens}
@@ -19,7 +18,7 @@ use Rattle.quick.specs.Seen.{RealAt, SomeReal, Padded, Ender, cr-lf, lf-alone, E
 
 -- plain bytes and a line end at a place are a record
 pub line_at : (mode : Mode) (s : List ℕ) (at n : ℕ) (e : List ℕ) → at + n ≤ length s → n ≤ 255 → all plain (take n (drop at s)) ≡ true → LineEnd mode e
-    → drop (at + n) s ≡ e ++ drop (at + n + length e) s → line_of mode false (drop at s) ≡ Got n (n + length e)
+    → drop (at + n) s ≡ e ++ drop (at + n + length e) s → line_of mode false (drop at s) ≡ got n (n + length e)
 line_at mode s at n e h k p l q =
     let c : length (take n (drop at s)) ≡ n = length-take-le n (drop at s) (omega (arith, length-drop at s)) in
     let split : drop at s ≡ take n (drop at s) ++ (e ++ drop (at + n + length e) s) =
@@ -121,3 +120,13 @@ module _ (mode : Mode) (s : List ℕ) (at k here x y : ℕ) (v : Vertices mode s
 
     pub vertices-on : Vertices mode s at (k + 1) (here + x + y)
     vertices-on = more v (f (omega arith)).real (g (omega arith)).real
+
+pub ruleset ending_ways = (ends-cr, ends-lf, ender-cr, ender-lf)
+
+pub ruleset padded_ways = (twelve-in, padded-is)
+
+pub ruleset padded_width_ways = (twelve-in, width_is)
+
+pub ruleset real_at_ways = (quick-real, loose-real)
+
+pub ruleset width_at_ways = (loose-width)

@@ -73,3 +73,5 @@ module _ (s : List ℕ) (at width end y : ℕ) (h : at + 14 ≤ length s) (bytes
 
   pub tailed-is : get_or s (at + 12) 0 ≡ end → get_or s (at + (width - 1)) 0 ≡ 10 → leb 48 (get_or s (at + 7) 0) ≡ true → Tailed s at width end
   tailed-is e l f = record { units = leb-true 48 (get_or s (at + 7) 0) f; point = at_places.0; places = three-places; ender = e; last = l }
+
+pub ruleset is_tailed_ways = (tailed-is)

@@ -3,9 +3,9 @@ use Rattle.std.proofs.Common.{◌≡◌, ℕ, zero, suc, ◌+◌, ◌-◌, ◌*�
 use Rattle.laws.specs.Lists.{run, all}
 use Rattle.laws.proofs.Choice.{and_left, and_right}
 use Rattle.laws.proofs.ListLaws.{left, left-none, all-run, all-weaken}
+use Rattle.std.specs.Prelude.{Some}
 use Rattle.record.specs.declared.Mode.TheVariants.{Exact}
 use Rattle.record.specs.Record.{plain}
-use Rattle.number.specs.declared.Decimal.TheVariants as Decimal
 use Rattle.number.specs.Words.{blank, unled}
 use Rattle.number.specs.Number.{digit, value, ended, lean, sign_of, signs, signed, thousandths, is_token, is_neat, real_is, real_at, real_signed, real_of, is_real}
 use Rattle.number.proofs.IntegerWays.{digit-from, digit-to}
@@ -15,7 +15,7 @@ use Rattle.quick.specs.Neat.{Figures, Figured, Neat, Sound}
 
 on-is : (size sg : ℕ) (u : List ℕ) (n : ℕ) → size ≡ 12 → 1 ≤ n → n ≤ 8 → get_or u n 0 ≡ 46 → run digit (drop (n + 1) u) ≡ 3 → ended Exact (drop (n + 4) u) ≡ true
     → signs sg + n + 4 ≤ 12 → length u ≡ n + 4 → eqb sg 43 ≡ false → (eqb sg 45 && eqb (thousandths u n) 0) ≡ false → lean u n ≡ true
-    → real_is Exact size sg u n ≡ Decimal.Is (signed sg (thousandths u n))
+    → real_is Exact size sg u n ≡ Some (signed sg (thousandths u n))
 unfolding real_is is_token is_neat
 on-is size sg u n a b d e f g h i j k l =
     rw (le-leb 1 n b, le-leb n 8 d, eq-eqb (get_or u n 0) 46 e, eq-eqb (run digit (drop (n + 1) u)) 3 f, le-leb (signs sg + n + 4) 12 h, g, eq-eqb size 12 a, eq-eqb (length u) (n + 4) i, j, k, l)
@@ -39,7 +39,7 @@ module _ (c : List ℕ) (size : length c ≡ 12) (p : get_or c 8 0 ≡ 46) where
     worth = sym (t.worth ∙ rw past)
 
     token-on : (sg : ℕ) → signs sg ≤ d → eqb sg 43 ≡ false → (eqb sg 45 && eqb m 0) ≡ false
-        → real_is Exact (length c) sg (drop d c) (8 - d) ≡ Decimal.Is (signed sg m)
+        → real_is Exact (length c) sg (drop d c) (8 - d) ≡ Some (signed sg m)
     token-on sg e f g =
         let k = t.some in
         on-is (length c) sg (drop d c) (8 - d) size (omega arith) (omega arith) point (rw past t.places) its-end (omega arith)
@@ -61,7 +61,7 @@ module _ (c : List ℕ) (size : length c ≡ 12) (p : get_or c 8 0 ≡ 46) where
     sign_at : get_or (drop k c) 0 0 ≡ get_or c k 0
     sign_at = let z : k + 0 ≡ k = omega arith in get_or-drop k c 0 0 ∙ ap (λ (n : ℕ). get_or c n 0) z
 
-    plus-real : (m : ℕ) → Figures c k m → real_of Exact c ≡ Decimal.Is (signed 0 m)
+    plus-real : (m : ℕ) → Figures c k m → real_of Exact c ≡ Some (signed 0 m)
     unfolding real_of real_signed real_at unled sign_of signs
     plus-real m t =
         let f = first k m t in
@@ -72,7 +72,7 @@ module _ (c : List ℕ) (size : length c ≡ 12) (p : get_or c 8 0 ≡ 46) where
     next : drop 1 (drop k c) ≡ drop (k + 1) c
     next = drop-drop 1 k c
 
-    minus-real : (m : ℕ) → get_or c k 0 ≡ 45 → Figures c (k + 1) m → 0 < m → real_of Exact c ≡ Decimal.Is (signed 45 m)
+    minus-real : (m : ℕ) → get_or c k 0 ≡ 45 → Figures c (k + 1) m → 0 < m → real_of Exact c ≡ Some (signed 45 m)
     unfolding real_of real_signed real_at unled sign_of signs
     minus-real m e t h =
         rw (← q, sign_at, e, next, t.whole)
@@ -167,7 +167,7 @@ module _ (c : List ℕ) (d n k : ℕ) (size : length c ≡ 12) (p : get_or c 8 0
     there : Figures c (k + 1) (n - 1)
     there = rw e t
 
-    minus_is : real_of Exact c ≡ Decimal.Is (signed 45 (n - 1))
+    minus_is : real_of Exact c ≡ Some (signed 45 (n - 1))
     minus_is = minus-real c size p k q (n - 1) m there (omega arith)
 
     pub minus-short : n ≤ 10000000001
@@ -211,3 +211,7 @@ module _ (c : List ℕ) (d k : ℕ) (size : length c ≡ 12) (p : get_or c 8 0 �
   pub sound-minus : k + 1 ≡ d → get_or c k 0 ≡ 45 → (get_or c d 0 ≡ 48 → ⊥) → Sound c
   sound-minus e s n =
       record { v = 10000000001 - (f.m + 1); neat = neat-minus c d (f.m + 1) k size p (omega arith) (rw less f.figures) q l e s (omega (arith, worth-some c d f.m size p f.figures n)) }
+
+pub ruleset is_led_ways = (sound-plus, sound-minus)
+
+pub ruleset with_sign_ways = (plus-short, neat-plus, minus-short, neat-minus)

@@ -1,5 +1,5 @@
 -- The ways through the functions that read twelve bytes. Assumes nothing.
-use Rattle.std.proofs.Common.{◌≡◌, ℕ, zero, suc, ◌+◌, ◌-◌, ◌*◌, ◌%◌, ◌^◌, ◌<◌, ◌≤◌, Bool, true, false, not, eqb, List, [], ◌∷◌, length, get_or, take, drop, sym, refl, ap, ◌∙◌, mul-le-mul_right, mul_assoc, mul_comm, add-mul, pow-suc, arith, length-drop, length-take, get_or-drop, drop-drop, eq-eqb, ne_eqb, eqb-true}
+use Rattle.std.proofs.Common.{nat_eq, ◌≡◌, ℕ, suc, ◌+◌, ◌-◌, ◌*◌, ◌^◌, ◌<◌, ◌≤◌, Bool, true, false, not, eqb, List, [], ◌∷◌, length, get_or, take, drop, sym, refl, ap, ◌∙◌, mul-le-mul_right, mul_assoc, mul_comm, add-mul, pow-suc, arith, length-drop, length-take, get_or-drop, drop-drop, eq-eqb, ne_eqb, eqb-true}
 use borrow.Author.Tests.{not-false}
 use Rattle.laws.specs.Lists.{run, all}
 use Rattle.laws.proofs.Choice.{false≢true}
@@ -90,26 +90,21 @@ module _ (c : List ℕ) (i v p : ℕ) (h : 8 ≤ length c) (k : i ≤ 8) (pw : p
     next_power : p * 10 ≡ 10 ^ (8 - (i - 1))
     next_power = let f : 8 - (i - 1) ≡ suc (8 - i) = omega arith in rw (f, pow-suc 10 (8 - i), pw)
 
-    pub front-on : (i - 1 ≤ 8) × (p * 10 ≡ 10 ^ (8 - (i - 1))) × (all digit (to_point c (i - 1)) ≡ true) × (v + w * p ≡ value 0 (to_point c (i - 1)))
-    front-on = (omega arith, next_power, next-all, next-number)
+    pub front-on : (p * 10 ≡ 10 ^ (8 - (i - 1))) × (all digit (to_point c (i - 1)) ≡ true) × (v + w * p ≡ value 0 (to_point c (i - 1)))
+    front-on = (next_power, next-all, next-number)
 
 -- no needless zero
-head-is : (c : List ℕ) (d : ℕ) → get_or (drop d c) 0 0 ≡ get_or c d 0
-head-is c d = let z : d + 0 ≡ d = omega arith in get_or-drop d c 0 0 ∙ ap (λ (n : ℕ). get_or c n 0) z
+pub head_is : (c : List ℕ) (d : ℕ) → get_or (drop d c) 0 0 ≡ get_or c d 0
+head_is c d = let z : d + 0 ≡ d = omega arith in get_or-drop d c 0 0 ∙ ap (λ (n : ℕ). get_or c n 0) z
 
 module _ (c : List ℕ) (d : ℕ) where
   pub lean-last : d ≡ 7 → true ≡ lean (drop d c) (8 - d)
   unfolding lean
   lean-last e = rw (eq-eqb (8 - d) 1 (omega arith))
 
-  module _ (k : d ≤ 7) (e : d ≡ 7 → ⊥) where
-    pub lean-not : get_or c d 0 ≡ 48 → false ≡ lean (drop d c) (8 - d)
-    unfolding lean
-    lean-not f = let o : 8 - d ≡ 1 → ⊥ = λ g. e (omega arith) in rw (ne_eqb (8 - d) 1 o, head-is c d, eq-eqb (get_or c d 0) 48 f)
-
-    pub lean-yes : (get_or c d 0 ≡ 48 → ⊥) → true ≡ lean (drop d c) (8 - d)
-    unfolding lean
-    lean-yes f = let o : 8 - d ≡ 1 → ⊥ = λ g. e (omega arith) in rw (ne_eqb (8 - d) 1 o, head-is c d, ne_eqb (get_or c d 0) 48 f)
+  pub lean-yes : d ≤ 7 → (d ≡ 7 → ⊥) → (get_or c d 0 ≡ 48 → ⊥) → true ≡ lean (drop d c) (8 - d)
+  unfolding lean
+  lean-yes k e f = let o : 8 - d ≡ 1 → ⊥ = λ g. e (omega arith) in rw (ne_eqb (8 - d) 1 o, head_is c d, ne_eqb (get_or c d 0) 48 f)
 
 -- the three places
 pub nine : (c : List ℕ) → length c ≡ 12 → drop 9 c ≡ get_or c 9 0 ∷ get_or c 10 0 ∷ get_or c 11 0 ∷ []
@@ -150,25 +145,17 @@ module _ (c : List ℕ) (d v n : ℕ) (r : Bool) (h : length c ≡ 12) (p : get_
         worth = let y : n - 1 ≡ v * 1000 + value 0 (take 3 (drop 9 c)) = omega (arith, x.1) in y ∙ rw f.number;
       }
 
-pub ruleset blank-ways = (blanks-stop, blanks-step, blanks-short)
+pub ruleset blanks_ways = (blanks-stop, blanks-step, blanks-short)
 
-pub never : {X : Type 0} → 0 < 0 → X
-never h = absurd (omega arith)
-
-pub front-start : (c : List ℕ) → (8 ≤ 8) × (1 ≡ 10 ^ (8 - 8)) × (all digit (take (8 - 8) (drop 8 c)) ≡ true) × (0 ≡ value 0 (take (8 - 8) (drop 8 c)))
-unfolding all value
-front-start c = (omega arith, refl, refl, refl)
+pub unlike : (a b : ℕ) → not (nat_eq a b) ≡ true → a ≡ b → ⊥
+unlike a b h e = false≢true (rw (eq-eqb a b e) at h)
 
 -- ---- without the value
 
 module _ (c : List ℕ) (i : ℕ) (h : 8 ≤ length c) (k : i ≤ 8) (al : all digit (to_point c i) ≡ true) where
-  pub start-on : (w : ℕ) → 0 < i → Figure (get_or c (i - 1) 0) w → w ≤ 9 → (i - 1 ≤ 8) × (all digit (to_point c (i - 1)) ≡ true)
+  pub start-on : (w : ℕ) → 0 < i → Figure (get_or c (i - 1) 0) w → w ≤ 9 → all digit (to_point c (i - 1)) ≡ true
   unfolding all
-  start-on w o f n = (omega arith, rw (span-on c i h o k, digit-is (get_or c (i - 1) 0) (f n).0 (f n).1) al)
-
-pub start-at : (c : List ℕ) → (8 ≤ 8) × (all digit (to_point c 8) ≡ true)
-unfolding all
-start-at c = (omega arith, refl)
+  start-on w o f n = rw (span-on c i h o k, digit-is (get_or c (i - 1) 0) (f n).0 (f n).1) al
 
 pub three-there : (c : List ℕ) (x y z : ℕ) → length c ≡ 12 → Figure (get_or c 9 0) x → x ≤ 9 → Figure (get_or c 10 0) y → y ≤ 9 → Figure (get_or c 11 0) z → z ≤ 9
     → true ≡ true → run digit (drop 9 c) ≡ 3
@@ -188,6 +175,3 @@ figured-is c d a b h p f k l t w u =
         worth = refl;
       };
     }
-
-pub untrue : {X : Type 0} → false ≡ true → X
-untrue e = absurd (false≢true e)

@@ -176,3 +176,7 @@ pub value-is : (s : List ℕ) (at v : ℕ) → Trusted (take (at + 12 - at) (dro
 value-is s at v t =
     let x : Trusted (take 12 (drop at s)) v = rw (add-sub_cancel_left at 12) at t in
     record { lifted = λ mode w u. x.lifted u.z u.real }
+
+pub ruleset usual_value_ways = (value_none, value-short, value-is)
+
+pub ruleset usual_run_ways = (no_run, usual-asks, ender-in, run_is)

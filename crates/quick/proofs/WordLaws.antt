@@ -4,8 +4,8 @@ use lib.Bits.{bit_and, and_mask}
 use Rattle.laws.specs.Lists.{all}
 use Rattle.laws.proofs.Choice.{and_left, and_right, false≢true}
 use Rattle.laws.proofs.ListLaws.{left, all-each, all_append, all_alike, all-weaken}
+use Rattle.std.specs.Prelude.{Some}
 use Rattle.record.specs.declared.Mode.TheVariants.{Exact}
-use Rattle.number.specs.declared.Decimal.TheVariants.{Is}
 use Rattle.number.specs.Number.{digit, value, real_of, is_real}
 use Rattle.number.proofs.NumberLaws.{real-in}
 use Rattle.number.proofs.IntegerWays.{digit-from, digit-to}
@@ -185,7 +185,7 @@ most : (z : ℤ) → is_real z ≡ true → nat_abs z ≤ 99999999999
 most (pos a) h = in-plus a h
 most (negsuc a) h = omega (arith, in-minus a h)
 
-module _ (c : List ℕ) (z : ℤ) (size : length c ≡ 12) (r : real_of Exact c ≡ Is z) where
+module _ (c : List ℕ) (z : ℤ) (size : length c ≡ 12) (r : real_of Exact c ≡ Some z) where
   text : c ≡ led z ++ 46 ∷ places 3 (nat_abs z % 1000)
   text = real-only c z r ∙ led-text z
 
@@ -218,7 +218,7 @@ module _ (word x y z m f n a b d : ℕ) (km : m ≡ marks_of word) (kf : f ≡ f
   abbrev raw : ℕ
   raw = n * 1000 + (a * 100 + b * 10 + d)
 
-  module _ (c : List ℕ) (r : ℤ) (size : length c ≡ 12) (w : word ≡ word_of8 c) (wx : x ≡ get_or c 9 0) (wy : y ≡ get_or c 10 0) (wz : z ≡ get_or c 11 0) (is : real_of Exact c ≡ Is r) where
+  module _ (c : List ℕ) (r : ℤ) (size : length c ≡ 12) (w : word ≡ word_of8 c) (wx : x ≡ get_or c 9 0) (wy : y ≡ get_or c 10 0) (wz : z ≡ get_or c 11 0) (is : real_of Exact c ≡ Some r) where
     slims : all slim (take 8 c) ≡ true
     slims = rw (front-is c r size is) (led-slim r)
 
@@ -257,3 +257,7 @@ module _ (word x y z m f n a b d : ℕ) (km : m ≡ marks_of word) (kf : f ≡ f
 -- the way of `trusted`
 pub trusted-is : (c : List ℕ) (word v : ℕ) → length c ≡ 12 → word ≡ word_of8 c → Valued word (get_or c 9 0) (get_or c 10 0) (get_or c 11 0) v → Trusted c v
 trusted-is c word v size w l = record { lifted = λ z r. l.lifted c z size w refl refl refl r }
+
+pub ruleset trusted_ways = (trusted-is)
+
+pub ruleset word_value_ways = (valued-plus, valued-minus)

@@ -1,12 +1,9 @@
 -- What the quick way has seen of loose mode's form of a real, or of an integer in a mode that is not exact, from the left. Only contracts of private functions speak of it.
 -- Assumes nothing: these are definitions.
-use Rattle.std.specs.Prelude.{◌≡◌, ℕ, ◌+◌, ◌^◌, ◌<◌, ◌≤◌, true, false, List, length, take, drop, ℤ, slice_index_or}
+use Rattle.std.specs.Prelude.{◌≡◌, ℕ, ◌+◌, ◌^◌, ◌<◌, ◌≤◌, true, false, List, length, take, drop, ℤ, slice_index_or, Some}
 use Rattle.laws.specs.Lists.{run, all}
 use Rattle.record.specs.declared.Mode.{Mode}
-use Rattle.record.specs.declared.Mode.TheVariants as Mode
-use Rattle.record.specs.declared.Line.TheVariants.{Got}
-use Rattle.record.specs.Record.{plain, line_of}
-use Rattle.number.specs.declared.Decimal.TheVariants as Decimal
+use Rattle.record.specs.Record.{plain, got, line_of}
 use Rattle.number.specs.Words.{blank}
 use Rattle.number.specs.Number.{digit, value, ended, thousandths, real_of}
 use Rattle.token.specs.Lex.{lift}
@@ -35,7 +32,7 @@ pub record Briskly (t : List ℕ) (e v : ℕ) : Type 0 where
   pub inside : e < length t
   pub bytes : all plain (take e t) ≡ true
   pub z : ℤ
-  pub real : real_of Mode.Loose (take e t) ≡ Decimal.Is z
+  pub real : real_of Mode.Loose (take e t) ≡ Some z
   pub lifted : v ≡ lift z
 
 -- the first e bytes are k blanks, n digits, one to four, and j bytes that the mode lets stand behind a number
@@ -55,4 +52,4 @@ pub record Loosely (mode : Mode) (t : List ℕ) (e v : ℕ) : Type 0 where
 -- w bytes at place e are a line end
 pub record EndsAt (t : List ℕ) (e w : ℕ) : Type 0 where
   pub few : w ≤ 2
-  pub line : e ≤ 255 → all plain (take e t) ≡ true → line_of Mode.Loose false t ≡ Got e (e + w)
+  pub line : e ≤ 255 → all plain (take e t) ≡ true → line_of Mode.Loose false t ≡ got e (e + w)

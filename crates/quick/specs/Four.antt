@@ -3,8 +3,7 @@
 use Rattle.std.specs.Prelude.{◌≡◌, ℕ, ◌+◌, ◌≤◌, Bool, true, false, ◌&&◌, ◌||◌, List, length, take, drop, ◌==◌, nat_le}
 use Rattle.laws.specs.Lists.{all}
 use Rattle.record.specs.declared.Mode.{Mode}
-use Rattle.record.specs.declared.Line.TheVariants.{Got}
-use Rattle.record.specs.Record.{plain, line_of}
+use Rattle.record.specs.Record.{plain, got, line_of}
 use Rattle.number.specs.Number.{digit}
 
 -- a digit that may stand first of several
@@ -21,4 +20,4 @@ is_long a b c = digit c && (a == 32 && lead b || lead a && digit b)
 -- a line end stands behind 4 characters
 pub record FourEnds (mode : Mode) (s : List ℕ) (at width : ℕ) : Type 0 where
   pub inside : at + 6 ≤ length s
-  pub line : all plain (take 4 (drop at s)) ≡ true → line_of mode false (drop at s) ≡ Got 4 width
+  pub line : all plain (take 4 (drop at s)) ≡ true → line_of mode false (drop at s) ≡ got 4 width

@@ -1,10 +1,9 @@
 -- What the quick way has seen of the twelve bytes of a content, exact mode's form of a real. Only contracts of private functions speak of it.
 -- Assumes nothing: these are definitions.
-use Rattle.std.specs.Prelude.{◌≡◌, ℕ, ◌+◌, ◌-◌, ◌*◌, ◌<◌, ◌≤◌, true, List, length, take, drop, ℤ}
+use Rattle.std.specs.Prelude.{◌≡◌, ℕ, ◌+◌, ◌-◌, ◌*◌, ◌<◌, ◌≤◌, true, List, length, take, drop, ℤ, Some}
 use Rattle.laws.specs.Lists.{run, all}
 use Rattle.record.specs.declared.Mode.TheVariants as Mode
 use Rattle.record.specs.Record.{plain}
-use Rattle.number.specs.declared.Decimal.TheVariants as Decimal
 use Rattle.number.specs.Number.{digit, value, lean, real_of}
 use Rattle.token.specs.Lex.{lift}
 
@@ -35,7 +34,7 @@ pub record Figured (c : List ℕ) (d : ℕ) : Type 0 where
 pub record Neat (c : List ℕ) (v : ℕ) : Type 0 where
   pub size : length c ≡ 12
   pub z : ℤ
-  pub real : real_of Mode.Exact c ≡ Decimal.Is z
+  pub real : real_of Mode.Exact c ≡ Some z
   pub lifted : v ≡ lift z
   pub bytes : all plain c ≡ true
 

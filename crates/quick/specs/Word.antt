@@ -1,8 +1,7 @@
 -- Eight bytes as one number, a byte to a lane: what the digits among them are worth. Only contracts of private functions speak of it.
 -- Assumes nothing: these are definitions.
-use Rattle.std.specs.Prelude.{◌≡◌, ℕ, ◌+◌, ◌*◌, ◌/◌, ◌%◌, List, ℤ, bit_and}
+use Rattle.std.specs.Prelude.{◌≡◌, ℕ, ◌+◌, ◌*◌, ◌/◌, ◌%◌, List, ℤ, bit_and, Some}
 use Rattle.record.specs.declared.Mode.TheVariants.{Exact}
-use Rattle.number.specs.declared.Decimal.TheVariants.{Is}
 use Rattle.number.specs.Number.{real_of}
 use Rattle.token.specs.Lex.{lift}
 
@@ -25,4 +24,4 @@ number_of figures =
 
 -- the real, lifted, of a content that is exact mode's
 pub record Trusted (c : List ℕ) (v : ℕ) : Type 0 where
-  pub lifted : (z : ℤ) → real_of Exact c ≡ Is z → v ≡ lift z
+  pub lifted : (z : ℤ) → real_of Exact c ≡ Some z → v ≡ lift z

@@ -7,7 +7,8 @@ ghost use Rattle.quick.specs.Neat.{to_point, Front, Figures, Figured, Neat, Soun
 
 use crate::{Digits, figure};
 
-// The blanks at the front. The point at place 8 ends them, so no test of the place is made.
+// The blanks at the front. The point at place 8 ends them, so no test of the place is made, as an iterator would make one.
+#[tactic(auto, using(crate::proofs::Twelve::blanks_ways))]
 fn blanks(c: &[u8]) -> usize
     requires { (8 < length c.now) × (slice_index c.now 8 ≡ 46) }
     ensures { (result ≡ run blank c.now) × (result ≤ 8) }
@@ -26,20 +27,20 @@ fn front(c: &[u8]) -> Digits
     requires { 8 ≤ length c.now }
     ensures { Front c.now result.start result.value }
 {
-    let mut i = 8;
-    let mut v: usize = 0;
-    let mut p: usize = 1;
-    while i > 0 {
-        let j = i - 1;
-        let b = figure(c[j]);
+    let mut value: usize = 0;
+    let mut power: usize = 1;
+    for i in (0..8).rev() {
+        let b = figure(c[i]);
         if b > 9 {
-            return Digits { start: i, value: v };
+            return Digits {
+                start: i + 1,
+                value,
+            };
         }
-        v = v + b * p;
-        p = p * 10;
-        i = j;
+        value += b * power;
+        power *= 10;
     }
-    Digits { start: i, value: v }
+    Digits { start: 0, value }
 }
 
 // Three digits after the point, joined to the number before it: one more than the thousandths, or 0.
@@ -62,17 +63,16 @@ fn three(c: &[u8], v: usize) -> usize
     v * 1000 + (x * 100 + y * 10 + z) + 1
 }
 
+#[tactic(auto, unfolding(number::specs::Number::lean), using(crate::proofs::Twelve::head_is))]
 fn is_lean(c: &[u8], d: usize) -> bool
     requires { (length c.now ≡ 12) × (d ≤ 7) }
     ensures { result ≡ lean (drop d c.now) (8 - d) }
 {
-    if d == 7 {
-        return true;
-    }
-    if c[d] == 48 { false } else { true }
+    d == 7 || c[d] != 48
 }
 
 // The lifted thousandths, n less one of them, with the blanks and the sign before place d, or 0.
+#[tactic(auto, using(crate::proofs::Tokens::with_sign_ways))]
 fn with_sign(c: &[u8], d: usize, n: usize) -> usize
     requires { (length c.now ≡ 12) × (slice_index c.now 8 ≡ 46) × (0 < n) × Figures c.now d (n - 1) }
     ensures { 0 < result → Neat c.now result }
@@ -103,21 +103,18 @@ pub(crate) fn neat(c: &[u8]) -> usize
     if c[8] != 46 {
         return 0;
     }
-    let f = front(c);
-    let d = f.start;
-    let v = f.value;
+    let Digits { start: d, value } = front(c);
     if d > 7 {
         return 0;
     }
-    if is_lean(c, d) {
-        let n = three(c, v);
-        if n == 0 {
-            return 0;
-        }
-        with_sign(c, d, n)
-    } else {
-        0
+    if !is_lean(c, d) {
+        return 0;
     }
+    let n = three(c, value);
+    if n == 0 {
+        return 0;
+    }
+    with_sign(c, d, n)
 }
 
 // Where the digits that end before place 8 start.
@@ -125,15 +122,12 @@ fn start_of(c: &[u8]) -> usize
     requires { 8 ≤ length c.now }
     ensures { (result ≤ 8) × (all digit (to_point c.now result) ≡ true) }
 {
-    let mut i = 8;
-    while i > 0 {
-        let j = i - 1;
-        if figure(c[j]) > 9 {
-            return i;
+    for i in (0..8).rev() {
+        if figure(c[i]) > 9 {
+            return i + 1;
         }
-        i = j;
     }
-    i
+    0
 }
 
 // Three digits stand after the point.
@@ -147,10 +141,11 @@ fn are_three(c: &[u8]) -> bool
     if figure(c[10]) > 9 {
         return false;
     }
-    if figure(c[11]) > 9 { false } else { true }
+    figure(c[11]) <= 9
 }
 
 // Blanks, and a minus at most, stand before place d, which is no zero where there is one.
+#[tactic(auto, using(crate::proofs::Tokens::is_led_ways, crate::proofs::Twelve::unlike))]
 fn is_led(c: &[u8], d: usize) -> bool
     requires { (length c.now ≡ 12) × (slice_index c.now 8 ≡ 46) × Figured c.now d }
     ensures { result ≡ true → Sound c.now }
@@ -165,7 +160,7 @@ fn is_led(c: &[u8], d: usize) -> bool
     if c[k] != 45 {
         return false;
     }
-    if c[d] == 48 { false } else { true }
+    c[d] != 48
 }
 
 // A content is a real as exact mode has it: as `neat`, without the value.

@@ -3,14 +3,14 @@ ghost use Rattle.std.specs.Prelude.{◌≡◌, ◌+◌, ◌*◌, ◌<◌, ◌≤
 ghost use Rattle.quick.specs.Seen.{word_of8, Valued, ValueAt};
 ghost use Rattle.quick.specs.Word.{marks_of, figures_of, number_of, Trusted};
 
-use crate::wide;
-
+#[tactic(auto, unfolding(crate::specs::Word::marks_of))]
 fn marks(word: usize) -> usize
     ensures { (result ≡ marks_of word) × (result ≤ 72340172838076673) }
 {
     (word / 16) & 0x0101010101010101
 }
 
+#[tactic(auto, unfolding(crate::specs::Word::figures_of))]
 fn figures(word: usize, marks: usize) -> usize
     requires { marks ≤ 72340172838076673 }
     ensures { (result ≡ figures_of word marks) × (result ≤ 15 * marks) }
@@ -19,6 +19,7 @@ fn figures(word: usize, marks: usize) -> usize
 }
 
 // The number that eight figures make, one in a lane.
+#[tactic(auto, unfolding(crate::specs::Word::number_of))]
 fn number_of(figures: usize) -> usize
     requires { figures ≤ 1085102592571150095 }
     ensures { (result ≡ number_of figures) × (result ≤ 257575755) }
@@ -31,12 +32,13 @@ fn number_of(figures: usize) -> usize
 }
 
 // Only a minus is no sum of 32, its mark and its figure. The bytes of the last three digits are 48 too large: 5328 in all.
+#[tactic(auto, using(crate::proofs::WordLaws::word_value_ways))]
 pub fn word_value(word: usize, x: u8, y: u8, z: u8) -> usize
     ensures { Valued word x y z result }
 {
     let m = marks(word);
     let f = figures(word, m);
-    let n = number_of(f) * 1000 + (wide(x) * 100 + wide(y) * 10 + wide(z));
+    let n = number_of(f) * 1000 + (usize::from(x) * 100 + usize::from(y) * 10 + usize::from(z));
     if word == 0x2020202020202020 + 16 * m + f {
         return n + 9_999_994_672;
     }
@@ -46,7 +48,7 @@ pub fn word_value(word: usize, x: u8, y: u8, z: u8) -> usize
 pub(crate) fn four(a: u8, b: u8, c: u8, d: u8) -> usize
     ensures { (result ≡ a + 256 * (b + 256 * (c + 256 * d))) × (result < 4294967296) }
 {
-    wide(a) + 256 * (wide(b) + 256 * (wide(c) + 256 * wide(d)))
+    usize::from(a) + 256 * (usize::from(b) + 256 * (usize::from(c) + 256 * usize::from(d)))
 }
 
 // The first eight bytes as one number: it compiles to one load.
@@ -60,6 +62,7 @@ fn eight(c: &[u8]) -> usize
 }
 
 // The real, lifted, of twelve bytes that were judged before.
+#[tactic(auto, using(crate::proofs::WordLaws::trusted_ways))]
 pub(crate) fn trusted(c: &[u8]) -> usize
     requires { length c.now ≡ 12 }
     ensures { Trusted c.now result }
@@ -68,6 +71,7 @@ pub(crate) fn trusted(c: &[u8]) -> usize
 }
 
 // The real, lifted, that stands at a place in its usual form; 0 where no 12 bytes are there.
+#[tactic(auto, using(crate::proofs::UsualLaws::usual_value_ways))]
 pub fn usual_value(s: &[u8], at: usize) -> usize
     ensures { ValueAt s.now at result }
 {
@@ -78,6 +82,5 @@ pub fn usual_value(s: &[u8], at: usize) -> usize
     if at > n - 12 {
         return 0;
     }
-    let e = at + 12;
-    trusted(&s[at..e])
+    trusted(&s[at..at + 12])
 }

@@ -9,15 +9,17 @@ ghost use Rattle.quick.specs.Seen.{IntegerAt};
 ghost use Rattle.quick.specs.Four.{lead, is_two, is_long, FourEnds};
 
 use crate::unpadded::{all_blanks, lead, line_end};
-use crate::{IntegerTaken, Worth, wide};
+use crate::{Digits, IntegerTaken, Worth};
 use record::{Mode, is_exact, is_former};
 
+#[tactic(auto, using(crate::proofs::Fours::is_digit_ways))]
 fn is_digit(b: u8) -> bool
     ensures { result ≡ digit b }
 {
     (b >= 48) & (b <= 57)
 }
 
+#[tactic(auto, using(crate::proofs::Fours::is_lead_ways))]
 fn is_lead(b: u8) -> bool
     ensures { result ≡ lead b }
 {
@@ -25,6 +27,7 @@ fn is_lead(b: u8) -> bool
 }
 
 // Before the last digit, behind two blanks: what most integers have there.
+#[tactic(auto, using(crate::proofs::Fours::is_two_ways))]
 fn is_two(c: u8) -> bool
     ensures { result ≡ is_two c }
 {
@@ -32,6 +35,7 @@ fn is_two(c: u8) -> bool
 }
 
 // Before the last digit, where three stand or four. `&` and `|` leave one branch of the tests.
+#[tactic(auto, using(crate::proofs::Fours::is_long_ways))]
 fn is_long(a: u8, b: u8, c: u8) -> bool
     ensures { result ≡ is_long a b c }
 {
@@ -42,7 +46,7 @@ fn is_long(a: u8, b: u8, c: u8) -> bool
 fn worth(b: u8) -> usize
     ensures { result ≡ b % 16 }
 {
-    wide(b % 16)
+    usize::from(b % 16)
 }
 
 fn two_value(c: u8, d: u8) -> usize
@@ -58,6 +62,7 @@ fn long_value(a: u8, b: u8, c: u8, d: u8) -> usize
 }
 
 // The bytes of a record whose line end stands behind 4 characters: 6, or 5 where the mode is not exact; or 0.
+#[tactic(auto, using(crate::proofs::Fours::four_ending_ways))]
 fn four_ending(s: &[u8], at: usize, mode: Mode) -> usize
     ensures { 0 < result → FourEnds mode s.now at result }
 {
@@ -85,6 +90,7 @@ fn four_ending(s: &[u8], at: usize, mode: Mode) -> usize
 }
 
 // An integer's record at a place, in its usual form.
+#[tactic(auto, using(crate::proofs::Fours::integer_at_ways))]
 pub fn integer_at(s: &[u8], at: usize, mode: Mode) -> IntegerTaken
     ensures { 0 < result.width → IntegerAt mode s.now at result.width result.value }
 {
@@ -120,6 +126,7 @@ pub fn integer_at(s: &[u8], at: usize, mode: Mode) -> IntegerTaken
 }
 
 // Blanks, one to four digits, blanks and one byte or more after them: the length before that byte and the integer; or length 0.
+#[tactic(auto, using(crate::proofs::LooseIntegers::loosely))]
 fn loose_body(t: &[u8]) -> Worth
     ensures { 0 < result.len → Loosely Loose t.now result.len result.value }
 {
@@ -131,9 +138,7 @@ fn loose_body(t: &[u8]) -> Worth
     if k > m - 8 {
         return Worth { len: 0, value: 0 };
     }
-    let f = lead(&t[k..]);
-    let n = f.start;
-    let v = f.value;
+    let Digits { start: n, value } = lead(&t[k..]);
     if n < 1 {
         return Worth { len: 0, value: 0 };
     }
@@ -145,52 +150,46 @@ fn loose_body(t: &[u8]) -> Worth
     if e >= m {
         return Worth { len: 0, value: 0 };
     }
-    Worth { len: e, value: v }
+    Worth { len: e, value }
 }
 
-// The bytes at the front that a note may hold.
+// The bytes at the front that a note may hold: `plain_run` of `record` again, to be compiled into its callers.
+#[tactic(auto, using(laws::proofs::ListLaws::runs, record::proofs::RecordCases::byte_tests))]
 fn note_run(t: &[u8]) -> usize
     ensures { (result ≡ run plain t.now) × (result ≤ length t.now) }
 {
-    let mut i = 0;
-    while i < t.len() {
-        let b = t[i];
-        if b < 32 {
+    for (i, &b) in t.iter().enumerate() {
+        if b < 32 || b > 126 {
             return i;
         }
-        if b > 126 {
-            return i;
-        }
-        i += 1;
     }
-    i
+    t.len()
 }
 
 // The same with what the mode lets stand behind it: in the former reading, where a blank comes last, a note.
+#[tactic(auto, using(crate::proofs::LooseIntegers::noted_body_ways))]
 fn noted_body(t: &[u8], mode: Mode) -> Worth
     ensures { 0 < result.len → Loosely mode t.now result.len result.value }
 {
-    let b = loose_body(t);
-    let e = b.len;
-    let v = b.value;
+    let Worth { len: e, value } = loose_body(t);
     if !is_former(mode) {
-        return Worth { len: e, value: v };
+        return Worth { len: e, value };
     }
     if e < 1 {
         return Worth { len: 0, value: 0 };
     }
-    let l = e - 1;
-    if t[l] != 32 {
-        return Worth { len: e, value: v };
+    if t[e - 1] != 32 {
+        return Worth { len: e, value };
     }
     let f = e + note_run(&t[e..]);
     if f >= t.len() {
         return Worth { len: 0, value: 0 };
     }
-    Worth { len: f, value: v }
+    Worth { len: f, value }
 }
 
 // An integer's record of a mode that is not exact, 0 bytes near the file's end.
+#[tactic(auto, using(crate::proofs::LooseIntegers::loose_integer_ways))]
 pub fn loose_integer(s: &[u8], at: usize, mode: Mode) -> IntegerTaken
     ensures { 0 < result.width → is_exact mode ≡ false → IntegerAt mode s.now at result.width result.value }
 {
@@ -198,9 +197,7 @@ pub fn loose_integer(s: &[u8], at: usize, mode: Mode) -> IntegerTaken
         return IntegerTaken { value: 0, width: 0 };
     }
     let t = &s[at..];
-    let b = noted_body(t, mode);
-    let e = b.len;
-    let v = b.value;
+    let Worth { len: e, value } = noted_body(t, mode);
     if e < 1 {
         return IntegerTaken { value: 0, width: 0 };
     }
@@ -212,7 +209,7 @@ pub fn loose_integer(s: &[u8], at: usize, mode: Mode) -> IntegerTaken
         return IntegerTaken { value: 0, width: 0 };
     }
     IntegerTaken {
-        value: v,
+        value,
         width: e + w,
     }
 }

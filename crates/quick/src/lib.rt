@@ -1,5 +1,6 @@
 // The quick way for the usual form of a real's record, which is most of a file (document 01, "Records"): it answers for what it has seen, or
-// with 0 bytes for "ask the slow way", and never refuses. All of it is proved, and no public function has a `requires`.
+// with 0 bytes for "ask the slow way", and never refuses. All of it is proved, and no public function has a `requires`. It is the hottest code:
+// 0 stands for none, and not an Option, so that an answer is one number and one test.
 #![tactic(auto)]
 
 mod aligned;
@@ -46,17 +47,11 @@ pub struct IntegerTaken {
     pub width: usize,
 }
 
-fn wide(b: u8) -> usize
-    ensures { result ≡ b }
-{
-    b as usize
-}
-
 // What a byte is as a digit: 9 at most for digits alone.
 fn figure(b: u8) -> usize
     ensures { result ≤ 9 → (48 ≤ b) × (b ≤ 57) × (result ≡ b - 48) }
 {
-    wide(std::num::wrapping_sub_u8(b, 48))
+    usize::from(std::num::wrapping_sub_u8(b, 48))
 }
 
 #[derive(Clone, Copy)]
@@ -66,6 +61,7 @@ struct Digits {
 }
 
 // The bytes of a record whose line end stands behind 12 characters: 14, or 13 where the mode is not exact; or 0.
+#[tactic(auto, using(crate::proofs::Places::ending_ways))]
 fn ending(s: &[u8], at: usize, mode: Mode) -> usize
     ensures ends { 0 < result → Ends mode s.now at result }
     ensures ender { 0 < result → Ender mode result (slice_index s.now (at + 12)) }
@@ -77,11 +73,9 @@ fn ending(s: &[u8], at: usize, mode: Mode) -> usize
     if at > n - 14 {
         return 0;
     }
-    let e = at + 12;
-    let b = s[e];
+    let b = s[at + 12];
     if b == 13 {
-        let lf = at + 13;
-        if s[lf] == 10 {
+        if s[at + 13] == 10 {
             return 14;
         }
         return 0;
@@ -96,6 +90,7 @@ fn ending(s: &[u8], at: usize, mode: Mode) -> usize
 }
 
 // A real's record of 12 characters.
+#[tactic(auto, using(crate::proofs::Places::padded_ways))]
 pub fn padded(s: &[u8], at: usize, mode: Mode) -> RealTaken
     ensures { 0 < result.width → Padded mode s.now at result.width result.value }
 {
@@ -103,15 +98,15 @@ pub fn padded(s: &[u8], at: usize, mode: Mode) -> RealTaken
     if w == 0 {
         return RealTaken { value: 0, width: 0 };
     }
-    let e = at + 12;
-    let v = neat(&s[at..e]);
-    if v == 0 {
+    let value = neat(&s[at..at + 12]);
+    if value == 0 {
         return RealTaken { value: 0, width: 0 };
     }
-    RealTaken { value: v, width: w }
+    RealTaken { value, width: w }
 }
 
 // The record's bytes alone.
+#[tactic(auto, using(crate::proofs::Places::padded_width_ways))]
 fn padded_width(s: &[u8], at: usize, mode: Mode) -> usize
     ensures { 0 < result → SomeReal mode s.now at result }
 {
@@ -119,11 +114,7 @@ fn padded_width(s: &[u8], at: usize, mode: Mode) -> usize
     if w == 0 {
         return 0;
     }
-    let e = at + 12;
-    if is_sound(&s[at..e]) {
-        return w;
-    }
-    0
+    if is_sound(&s[at..at + 12]) { w } else { 0 }
 }
 
 #[derive(Clone, Copy)]
@@ -133,6 +124,7 @@ struct Worth {
 }
 
 // A real's record at a place, in its usual form.
+#[tactic(auto, using(crate::proofs::Places::real_at_ways))]
 pub fn real_at(s: &[u8], at: usize, mode: Mode) -> RealTaken
     ensures { 0 < result.width → RealAt mode s.now at result.width result.value }
 {
@@ -147,6 +139,7 @@ pub fn real_at(s: &[u8], at: usize, mode: Mode) -> RealTaken
 }
 
 // The record's bytes alone.
+#[tactic(auto, using(crate::proofs::Places::width_at_ways))]
 fn width_at(s: &[u8], at: usize, mode: Mode) -> usize
     ensures { 0 < result → SomeReal mode s.now at result }
 {
@@ -157,11 +150,11 @@ fn width_at(s: &[u8], at: usize, mode: Mode) -> usize
     if is_exact(mode) {
         return 0;
     }
-    let b = bare(s, at);
-    b.width
+    bare(s, at).width
 }
 
 // At most so many reals in their usual form from a place on, one behind the other; none where no LF stands before.
+#[tactic(auto, using(crate::proofs::UsualLaws::usual_run_ways))]
 pub fn usual_run(s: &[u8], at: usize, mode: Mode, most: usize) -> UsualRun
     ensures { (result.count ≤ most) × Usual mode s.now at result.width result.count }
 {
@@ -175,12 +168,8 @@ pub fn usual_run(s: &[u8], at: usize, mode: Mode, most: usize) -> UsualRun
     if s[at - 1] != 10 {
         return UsualRun { count: 0, width: 0 };
     }
-    let e = at + 12;
-    let count = usual_records(s, at, width, s[e], most);
-    UsualRun {
-        count: count,
-        width: width,
-    }
+    let count = usual_records(s, at, width, s[at + 12], most);
+    UsualRun { count, width }
 }
 
 // Twice a number, or the number itself where twice it would not fit.
@@ -199,29 +188,19 @@ pub fn vertices(s: &[u8], at: usize, mode: Mode, most: usize) -> Run
     ensures { (result.count ≤ most) × Vertices mode s.now at result.count result.next }
 {
     let begun = usual_run(s, at, mode, doubled(most));
-    let mut k = begun.count / 2;
-    let mut here = at + 2 * k * begun.width;
-    while k < most {
-        let x = width_at(s, here, mode);
+    let pairs = begun.count / 2;
+    let mut next = at + 2 * pairs * begun.width;
+    for count in pairs..most {
+        let x = width_at(s, next, mode);
         if x == 0 {
-            return Run {
-                count: k,
-                next: here,
-            };
+            return Run { count, next };
         }
-        let mid = here + x;
+        let mid = next + x;
         let y = width_at(s, mid, mode);
         if y == 0 {
-            return Run {
-                count: k,
-                next: here,
-            };
+            return Run { count, next };
         }
-        here = mid + y;
-        k += 1;
+        next = mid + y;
     }
-    Run {
-        count: k,
-        next: here,
-    }
+    Run { count: most, next }
 }

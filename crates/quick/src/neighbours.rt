@@ -14,12 +14,14 @@ const POINT_AND_PLACES: usize = 0x3030302E;
 // Added to those, it leaves the first half of a digit alone, and of no other.
 const PAST_NINE: usize = 0x06060600;
 
+#[tactic(auto, using(crate::proofs::NeighbourLaws::is_digit_ways))]
 fn is_digit(b: u8) -> bool
     ensures { result ≡ digit b }
 {
     std::num::wrapping_sub_u8(b, 48) <= 9
 }
 
+#[tactic(auto, using(crate::proofs::NeighbourLaws::follows_is))]
 fn follows(a: u8, b: u8) -> bool
     ensures { result ≡ follows a b }
 {
@@ -27,6 +29,7 @@ fn follows(a: u8, b: u8) -> bool
 }
 
 // An LF and eight bytes of a record stand behind each other as exact mode has them.
+#[tactic(auto, using(crate::proofs::NeighbourLaws::are_neighbours_ways))]
 fn are_neighbours(c: &[u8]) -> bool
     requires { 9 ≤ length c.now }
     ensures { result ≡ true → below 8 (pair_at c.now) ≡ true }
@@ -42,6 +45,7 @@ fn are_neighbours(c: &[u8]) -> bool
 }
 
 // What neighbours do not tell, for a record of so many bytes whose line end begins with `end`.
+#[tactic(auto, using(crate::proofs::TailLaws::is_tailed_ways))]
 fn is_tailed(s: &[u8], at: usize, width: usize, end: u8) -> bool
     requires { (at + 14 ≤ length s.now) × (0 < width) × (width ≤ 14) }
     ensures { result ≡ true → Tailed s.now at width end }
@@ -68,21 +72,18 @@ pub(crate) fn usual_records(s: &[u8], at: usize, width: usize, end: u8, most: us
     requires { (14 ≤ length s.now) × (0 < width) × (width ≤ 14) × (0 < at) × (slice_index s.now (at - 1) ≡ 10) }
     ensures { (result ≤ most) × Judged s.now at width end result }
 {
-    let mut k = 0;
     let mut here = at;
-    while k < most {
+    for k in 0..most {
         if here > s.len() - 14 {
             return k;
         }
-        let e = here + 12;
-        if !are_neighbours(&s[here - 1..e]) {
+        if !are_neighbours(&s[here - 1..here + 12]) {
             return k;
         }
         if !is_tailed(s, here, width, end) {
             return k;
         }
         here += width;
-        k += 1;
     }
-    k
+    most
 }

@@ -14,47 +14,41 @@ pub(crate) fn lead(u: &[u8]) -> Digits
     requires { 8 ≤ length u.now }
     ensures { Leads u.now result.start result.value }
 {
-    let mut i = 0;
-    let mut v: usize = 0;
-    while i < 8 {
+    let mut value: usize = 0;
+    for i in 0..8 {
         let b = figure(u[i]);
         if b > 9 {
-            return Digits { start: i, value: v };
+            return Digits { start: i, value };
         }
-        v = v * 10 + b;
-        i += 1;
+        value = value * 10 + b;
     }
-    Digits { start: i, value: v }
+    Digits { start: 8, value }
 }
 
 // A token without its sign, with one byte or more after it: its length and thousandths, or length 0.
+#[tactic(auto, using(crate::proofs::Leading::body_ways))]
 fn body(u: &[u8]) -> Worth
     ensures { 0 < result.len → Worthy u.now (result.len - 4) result.value }
 {
     if u.len() < 13 {
         return Worth { len: 0, value: 0 };
     }
-    let f = lead(u);
-    let n = f.start;
-    let v = f.value;
+    let Digits { start: n, value: v } = lead(u);
     if n < 1 {
         return Worth { len: 0, value: 0 };
     }
     if u[n] != 46 {
         return Worth { len: 0, value: 0 };
     }
-    let i = n + 1;
-    let x = figure(u[i]);
+    let x = figure(u[n + 1]);
     if x > 9 {
         return Worth { len: 0, value: 0 };
     }
-    let j = n + 2;
-    let y = figure(u[j]);
+    let y = figure(u[n + 2]);
     if y > 9 {
         return Worth { len: 0, value: 0 };
     }
-    let k = n + 3;
-    let z = figure(u[k]);
+    let z = figure(u[n + 3]);
     if z > 9 {
         return Worth { len: 0, value: 0 };
     }
@@ -64,30 +58,28 @@ fn body(u: &[u8]) -> Worth
     }
 }
 
+// The blanks at the front: `blanks` of `number` again, to be compiled into its callers.
+#[tactic(auto, using(laws::proofs::ListLaws::runs, number::proofs::WordWays::blank_tests))]
 pub(crate) fn all_blanks(t: &[u8]) -> usize
     ensures { (result ≡ run blank t.now) × (result ≤ length t.now) }
 {
-    let mut i = 0;
-    while i < t.len() {
-        if t[i] != 32 {
+    for (i, &b) in t.iter().enumerate() {
+        if b != 32 {
             return i;
         }
-        i += 1;
     }
-    i
+    t.len()
 }
 
 // One for a minus, else 0.
 fn minus(b: u8) -> usize
     ensures { (result ≤ 1) × (0 < result → b ≡ 45) }
 {
-    if b == 45 {
-        return 1;
-    }
-    0
+    usize::from(b == 45)
 }
 
 // Blanks, a token and one byte or more after it: the length before that byte and the real, lifted; or length 0.
+#[tactic(auto, using(crate::proofs::Leading::brisk_ways))]
 fn brisk(t: &[u8]) -> Worth
     ensures { 0 < result.len → Briskly t.now result.len result.value }
 {
@@ -96,9 +88,7 @@ fn brisk(t: &[u8]) -> Worth
         return Worth { len: 0, value: 0 };
     }
     let a = k + minus(t[k]);
-    let w = body(&t[a..]);
-    let n = w.len;
-    let m = w.value;
+    let Worth { len: n, value: m } = body(&t[a..]);
     if n < 1 {
         return Worth { len: 0, value: 0 };
     }
@@ -118,6 +108,7 @@ fn brisk(t: &[u8]) -> Worth
 }
 
 // The bytes of the line end at a place, or 0.
+#[tactic(auto, using(crate::proofs::Leading::line_end_ways))]
 pub(crate) fn line_end(t: &[u8], e: usize) -> usize
     requires { e < length t.now }
     ensures { 0 < result → EndsAt t.now e result }
@@ -129,17 +120,17 @@ pub(crate) fn line_end(t: &[u8], e: usize) -> usize
     if x != 13 {
         return 0;
     }
-    let g = e + 1;
-    if g >= t.len() {
+    if e + 1 >= t.len() {
         return 0;
     }
-    if t[g] != 10 {
+    if t[e + 1] != 10 {
         return 0;
     }
     2
 }
 
 // A real's record of loose mode whose content ends with its token.
+#[tactic(auto, using(crate::proofs::Leading::bare_ways))]
 pub(crate) fn bare(s: &[u8], at: usize) -> RealTaken
     ensures { 0 < result.width → RealAt Loose s.now at result.width result.value }
 {
@@ -147,9 +138,7 @@ pub(crate) fn bare(s: &[u8], at: usize) -> RealTaken
         return RealTaken { value: 0, width: 0 };
     }
     let t = &s[at..];
-    let b = brisk(t);
-    let e = b.len;
-    let v = b.value;
+    let Worth { len: e, value } = brisk(t);
     if e < 1 {
         return RealTaken { value: 0, width: 0 };
     }
@@ -161,7 +150,7 @@ pub(crate) fn bare(s: &[u8], at: usize) -> RealTaken
         return RealTaken { value: 0, width: 0 };
     }
     RealTaken {
-        value: v,
+        value,
         width: e + w,
     }
 }

@@ -1,4 +1,9 @@
 -- What is due where the walk stops, beside the walk itself (`Standing`): it is the same at each stand on the way. Assumes nothing.
+use Rattle.std.specs.Prelude.{Option, Some, None, Result, Ok, Err}
+use Rattle.record.specs.declared.refusal.Refusal.{Refusal}
+use Rattle.record.specs.declared.refusal.Refusal.TheVariants as Refusal
+use Rattle.header.specs.declared.Stopped.{Stopped}
+use Rattle.reader.specs.Turn.{onward, halted, finished}
 use mathlib.Core.Path.{◌≡◌, refl, sym, ◌∙◌, subst}
 use mathlib.Core.Bool.{Bool, true, false, cond}
 use mathlib.Core.List.{List}
@@ -9,6 +14,7 @@ use lib.Seq.{drop-drop}
 use lib.Dec.{leb}
 use Rattle.record.specs.declared.Mode.{Mode}
 use Rattle.record.specs.declared.Mode.TheVariants.{Loose, Exact, Former}
+use Rattle.record.specs.Refusals.{number_of}
 use Rattle.column.specs.Columns.{refusal_column}
 use Rattle.column.proofs.PlacedLaws.{other-column}
 use Rattle.machine.specs.Machine.{want_of, one_of}
@@ -43,10 +49,11 @@ due-step (suc f) mode st o bs h =
     rw z
 
 -- a turn keeps the aim; where it refuses, the column is that of what is due at the stand
-abbrev AimOk : Mode → List ℕ → State → Tables → ReadStand → Turn → Type 0
-AimOk mode s aim o d (Turn.On d' t len) = Aimed mode s aim (put d.state t (take len (drop d.at s)) o) d'
-AimOk mode s aim o d (Turn.Refused m k a) = refusal_column mode (want_of d.state) m (drop a s) ≡ refusal_column mode (want_of aim) m (drop a s)
-AimOk mode s aim o d Turn.Done = Unit {0}
+abbrev AimOk : Mode → List ℕ → State → Tables → ReadStand → Result (Option Turn) Stopped → Type 0
+AimOk mode s aim o d (Ok (Some x)) = Aimed mode s aim (put d.state x.token (take x.len (drop d.at s)) o) x.stand
+AimOk mode s aim o d (Ok None) = Unit {0}
+AimOk mode s aim o d (Err x) =
+    refusal_column mode (want_of d.state) (number_of x.refusal) (drop x.offset s) ≡ refusal_column mode (want_of aim) (number_of x.refusal) (drop x.offset s)
 
 module _ (mode : Mode) (s : List ℕ) (target : Sections) (aim : State) (o : Tables) (d : ReadStand) (h : At mode s target o d) (g : Aimed mode s aim o d) where
   abbrev size : Size
@@ -64,7 +71,7 @@ module _ (mode : Mode) (s : List ℕ) (target : Sections) (aim : State) (o : Tab
   closed Former k next = tt
   closed Exact k next = by (leb (length s) next)
     where
-      by : (b : Bool) → AimOk mode s aim o d (cond b Turn.Done (Turn.Refused 13 k next))
+      by : (b : Bool) → AimOk mode s aim o d (cond b finished (halted Refusal.AfterEof k next))
       by true = tt
       by false =
           other-column mode (want_of d.state) 13 (drop next s) (λ e. omega (arith, e))
@@ -74,22 +81,22 @@ module _ (mode : Mode) (s : List ℕ) (target : Sections) (aim : State) (o : Tab
   unfolding turn_of
   aim-ok = by (one_of mode d.state size.n bytes) refl (one-view mode d.state size.n bytes)
     where
-      by : (w : One) → one_of mode d.state size.n bytes ≡ w → OneView mode d.state size.n bytes w → AimOk mode s aim o d (turned mode d (length s) size.width w)
-      by (One.Go st t len w) e v =
+      by : (w : Result One Refusal) → one_of mode d.state size.n bytes ≡ w → OneView mode d.state size.n bytes w → AimOk mode s aim o d (turned mode d (length s) size.width w)
+      by (Ok (One.Go st t len w)) e v =
           record {
             fuel = g.fuel - 1;
             same = aim-is ∙ rw (e, drop-drop w d.at s);
             enough = omega (arith, length-drop (d.at + w) s, length-drop d.at s, g.enough, v.line.some, v.line.within);
           }
-      by (One.No m) e v =
+      by (Err m) e v =
           let z : aim ≡ d.state = aim-is ∙ rw e in
           rw z
-      by (One.End w) e v = closed mode (d.nth + 1) (d.at + w)
+      by (Ok (One.End w)) e v = closed mode (d.nth + 1) (d.at + w)
 
-  pub aim-on : (d' : ReadStand) (t len : ℕ) → turn_of mode s d ≡ Turn.On d' t len → Aimed mode s aim (put d.state t (take len bytes) o) d'
+  pub aim-on : (d' : ReadStand) (t len : ℕ) → turn_of mode s d ≡ onward d' t len → Aimed mode s aim (put d.state t (take len bytes) o) d'
   aim-on d' t len e = subst (AimOk mode s aim o d) e aim-ok
 
-  pub aim-refused : (m k a : ℕ) → turn_of mode s d ≡ Turn.Refused m k a → refusal_column mode (want_of d.state) m (drop a s) ≡ refusal_column mode (want_of aim) m (drop a s)
+  pub aim-refused : (m : Refusal) (k a : ℕ) → turn_of mode s d ≡ halted m k a → refusal_column mode (want_of d.state) (number_of m) (drop a s) ≡ refusal_column mode (want_of aim) (number_of m) (drop a s)
   aim-refused m k a e = subst (AimOk mode s aim o d) e aim-ok
 
 -- what the loop of the first pass keeps
@@ -105,7 +112,7 @@ turns-stand {mode} {s} {target} {aim} {d} h (on {e} {f} {t} {len} p q) =
     (put e.state t (take len (drop e.at s)) b.0, m.then, aim-on mode s target aim b.0 e b.1 b.2 f t len q)
 
 -- the column of a refusal of the first pass
-pub column-is : (mode : Mode) (s : List ℕ) (start : ℕ) (m k a : ℕ) → walk_from mode s start ≡ stop m k a
-    → column_from mode s start ≡ refusal_column mode (want_of (due_from mode s start)) m (drop a s)
+pub column-is : (mode : Mode) (s : List ℕ) (start : ℕ) (m : Refusal) (k a : ℕ) → walk_from mode s start ≡ stop m k a
+    → column_from mode s start ≡ refusal_column mode (want_of (due_from mode s start)) (number_of m) (drop a s)
 unfolding column_from
 column-is mode s start m k a e = rw e

@@ -1,6 +1,10 @@
 -- What a file's tables hold is bounded by its bytes, so that tables large enough for every file of a length can be lent. Assumes nothing.
 -- A row takes 28 bytes of the file at least, a letter one, an island count two, a point twelve.
-use mathlib.Core.Path.{◌≡◌, refl, sym, ◌∙◌, ap, subst}
+use Rattle.std.specs.Prelude.{Option, Some, None, Result, Ok, Err}
+use Rattle.record.specs.declared.refusal.Refusal.{Refusal}
+use Rattle.record.specs.declared.refusal.Refusal.TheVariants as Refusal
+use Rattle.machine.specs.Machine.{Step}
+use mathlib.Core.Path.{◌≡◌, refl, sym, ap, subst}
 use mathlib.Core.Bool.{Bool, true, false, cond, not, ◌&&◌, ◌||◌}
 use mathlib.Core.List.{List, [], ◌∷◌, ◌++◌}
 use Prim.Native.Nat.{ℕ, zero, suc, ◌+◌, ◌-◌, ◌*◌, ◌/◌, ◌≤◌}
@@ -8,63 +12,53 @@ use native.Mathlib.Omega.{arith}
 use lib.ListN.{length, get_or, take, drop, length-append, length-set, length-drop}
 use lib.Dec.{leb, eqb}
 use lib.IntN.{ℤ}
-use borrow.Author.Tests.{leb-true, leb-false, le-leb, eqb-true, eqb-false}
+use borrow.Author.Tests.{leb-true, leb-false, eqb-true, eqb-false}
 use Rattle.laws.specs.Lists.{run, below}
-use Rattle.laws.proofs.Choice.{and_left, and_right, cond-elim, false≢true}
+use Rattle.laws.proofs.Choice.{and_left, and_right, cond-elim}
 use Rattle.laws.proofs.ListLaws.{run-le, below_at}
 use Rattle.record.specs.declared.Mode.{Mode}
 use Rattle.record.specs.Record.{is_exact}
 use Rattle.number.specs.declared.Word.{Word}
-use Rattle.number.specs.declared.Word.TheVariants as Word
-use Rattle.number.specs.declared.Decimal.{Decimal}
-use Rattle.number.specs.declared.Decimal.TheVariants as Decimal
 use Rattle.number.specs.Words.{blank, unled, trimmed, word_of}
 use Rattle.number.specs.Number.{digit, ended, integer_is, integer_at, integer_of, sign_of, signs, signed, thousandths, is_token, is_neat, real_is, real_at, real_signed, real_of}
 use Rattle.number.proofs.WordLaws.{trimmed-le, word-is}
-use Rattle.token.specs.declared.Token.TheVariants.{Say, Bad}
-use Rattle.token.specs.declared.Token.{Token}
 use Rattle.token.specs.declared.Want.{Want}
 use Rattle.token.specs.declared.Want.TheVariants.{Key, Text, Int, Real}
 use Rattle.token.specs.Lex.{unlift, keywords, key_text, of_key, of_text, of_decimal, lex_of}
 use Rattle.token.proofs.TokenLaws.{key-read, key-most, key_most}
-use Rattle.record.specs.Refusals.{bad_letters, bad_count}
 use Rattle.kinds.specs.Kinds.{row_width, want_at, schedule, next_in, next_of, fixed, fixed_vertices, is_listed}
 use Rattle.machine.specs.Machine.{want_of, fresh_ring, vertices_of, fields_end, field_of, is_shut, ring_step, vertex_of, key_step, step_of}
 use Rattle.machine.specs.declared.Ring.{Ring}
 use Rattle.machine.specs.declared.State.{State}
 use Rattle.machine.specs.declared.State.TheVariants.{Due, Field, Island, X, Y}
-use Rattle.machine.specs.declared.Step.{Step}
-use Rattle.machine.specs.declared.Step.TheVariants.{Go, No, End}
 use Rattle.heading.specs.declared.Header.{Header}
 use Rattle.sheet.specs.Tables.{Tables, starts_of, new_row, cell_of, set_last, put}
 use Rattle.sheet.specs.Reading.{sheet, reading}
 use Rattle.sheet.proofs.Pass.{Pass, done, more, end-some}
 use Rattle.sheet.proofs.Meaning.{Parts, meaning-file, reading-meaning, file-parts}
 use Rattle.reader.specs.declared.Needs.{Needs}
-use Rattle.reader.specs.Turn.{added}
 use Rattle.reader.specs.Read.{needs_of}
-use Rattle.reader.proofs.Standing.{Sized}
 use Rattle.reader.proofs.Answering.{pass-sized}
 
 -- ---- the least content of a record, by what it is read as
 
 -- letters are never empty
-text-some : (mode : Mode) (c : List ℕ) (t : ℕ) → lex_of mode Text c ≡ Say t → 1 ≤ length c
+text-some : (mode : Mode) (c : List ℕ) (t : ℕ) → lex_of mode Text c ≡ Ok t → 1 ≤ length c
 unfolding lex_of
 text-some mode c t q = go (word_of mode c) refl q
   where
-    go : (w : Word) → word_of mode c ≡ w → of_text w ≡ Say t → 1 ≤ length c
-    go (Word.Is start len) e q =
-        cond-elim (λ (x : Token). x ≡ Say t → 1 ≤ length c) (eqb len 0) (Bad bad_letters) (Say len)
+    go : (w : Option Word) → word_of mode c ≡ w → of_text w ≡ Ok t → 1 ≤ length c
+    go (Some w) e q =
+        cond-elim (λ (x : Result ℕ Refusal). x ≡ Ok t → 1 ≤ length c) (eqb w.len 0) (Err Refusal.Letters) (Ok w.len)
         (λ _ d. absurd (let z : ◌≡◌ {A = ℕ} 0 1 = cc in omega arith))
-        (λ f _. some (eqb-false len 0 f) (word-is mode c start len e).0) q
+        (λ f _. some (eqb-false w.len 0 f) (word-is mode c w.start w.len e).0) q
       where
-        some : (len ≡ 0 → ⊥) → start + len ≤ length c → 1 ≤ length c
+        some : (w.len ≡ 0 → ⊥) → w.start + w.len ≤ length c → 1 ≤ length c
         some n h = omega arith
-    go Word.Padded e q = absurd (let z : ◌≡◌ {A = ℕ} 0 1 = cc in omega arith)
+    go None e q = absurd (let z : ◌≡◌ {A = ℕ} 0 1 = cc in omega arith)
 
 -- an integer has a digit
-int-some : (mode : Mode) (c : List ℕ) (t : ℕ) → lex_of mode Int c ≡ Say t → 1 ≤ length c
+int-some : (mode : Mode) (c : List ℕ) (t : ℕ) → lex_of mode Int c ≡ Ok t → 1 ≤ length c
 unfolding lex_of integer_of integer_at integer_is unled run
 int-some mode [] t q = absurd (let z : ◌≡◌ {A = ℕ} 0 1 = cc in omega arith)
 int-some mode (b ∷ c) t q = omega arith
@@ -83,7 +77,7 @@ token-long sign u e =
     let three = eqb-true (run digit (drop (n + 1) u)) 3 (and_right t₃ (eqb (run digit (drop (n + 1) u)) 3) e₄) in
     omega (arith, leb-true 1 n e₁, three, run-le digit (drop (n + 1) u), length-drop (n + 1) u)
 
-real-long : (mode : Mode) (c : List ℕ) (t : ℕ) → lex_of mode Real c ≡ Say t → 5 ≤ length c
+real-long : (mode : Mode) (c : List ℕ) (t : ℕ) → lex_of mode Real c ≡ Ok t → 5 ≤ length c
 unfolding lex_of real_of real_signed real_at real_is unled
 real-long mode c t q =
     let s = unled c in
@@ -93,7 +87,7 @@ real-long mode c t q =
     let row = is-token (token && end) (not (is_exact mode) || is_neat (length c) (sign_of s) u (run digit u)) (signed (sign_of s) (thousandths u (run digit u))) q in
     omega (arith, token-long (sign_of s) u (and_left token end row), length-drop (signs (sign_of s)) s, length-drop (run blank c) c)
   where
-    is-token : (a b : Bool) (z : ℤ) → of_decimal (cond (a && b) (Decimal.Is z) Decimal.Malformed) ≡ Say t → a ≡ true
+    is-token : (a b : Bool) (z : ℤ) → of_decimal (cond (a && b) (Some z) None) ≡ Ok t → a ≡ true
     is-token true b z q = refl
     is-token false b y q = absurd (let z : ◌≡◌ {A = ℕ} 0 1 = cc in omega arith)
 
@@ -104,7 +98,7 @@ least_of Text = 2
 least_of Int = 2
 least_of Real = 6
 
-least-long : (mode : Mode) (w : Want) (c : List ℕ) (t : ℕ) → lex_of mode w c ≡ Say t → least_of w ≤ length c + 1
+least-long : (mode : Mode) (w : Want) (c : List ℕ) (t : ℕ) → lex_of mode w c ≡ Ok t → least_of w ≤ length c + 1
 least-long mode Key c t q = omega arith
 least-long mode Text c t q = omega (arith, text-some mode c t q)
 least-long mode Int c t q = omega (arith, int-some mode c t q)
@@ -140,17 +134,17 @@ owing (Y r x) = 12 * r.left - 6
 
 -- a step that goes on still owes w
 abbrev Pays : ℕ → Step → Type 0
-Pays w (Go st) = w ≤ owing st
-Pays w (No m) = Unit {0}
-Pays w End = Unit {0}
+Pays w (Ok (Some st)) = w ≤ owing st
+Pays w (Err m) = Unit {0}
+Pays w (Ok None) = Unit {0}
 
 vertices-pays : (kind i n : ℕ) → Pays (cond (eqb kind 1) 0 24) (vertices_of kind i n)
 unfolding vertices_of
 vertices-pays kind i n = go (eqb kind 1)
   where
     go : (b : Bool) → Pays (cond b 0 24) (cond b
-        (cond (leb (4 + 4 * i) n) (cond (eqb i 0) (Go (X (fresh_ring true 0 n))) (Go (Island i n i))) (No bad_count))
-        (cond (leb 2 n) (Go (X (fresh_ring false 0 n))) (No bad_count)))
+        (cond (leb (4 + 4 * i) n) (cond (eqb i 0) (Ok (Some (X (fresh_ring true 0 n)))) (Ok (Some (Island i n i)))) (Err Refusal.Count))
+        (cond (leb 2 n) (Ok (Some (X (fresh_ring false 0 n)))) (Err Refusal.Count)))
     go true = cond-elim (Pays 0) (leb (4 + 4 * i) n) _ _ (λ _. cond-elim (Pays 0) (eqb i 0) _ _ (λ _. omega arith) (λ _. omega arith)) (λ _. tt)
     go false = cond-elim (Pays 24) (leb 2 n) _ _ (λ e. omega (arith, leb-true 2 n e)) (λ _. tt)
 
@@ -167,12 +161,12 @@ field-pays : (mode : Mode) (kind p i n : ℕ)
 unfolding field_of
 field-pays mode kind p i n = cond-elim (Pays _) (eqb p 2 && is_exact mode && not (is_listed kind n)) _ _ (λ _. tt) (λ _. at (eqb p 11))
   where
-    on : (b : Bool) → Pays (cond b (12 * fixed_vertices kind) (owed 8 kind (next_of kind p))) (cond b (fields_end kind) (Go (Field kind (next_of kind p) (cond (eqb p 10) n i))))
+    on : (b : Bool) → Pays (cond b (12 * fixed_vertices kind) (owed 8 kind (next_of kind p))) (cond b (fields_end kind) (Ok (Some (Field kind (next_of kind p) (cond (eqb p 10) n i)))))
     on true = end-pays kind
     on false = owed_more 8 kind (next_of kind p)
 
     at : (b : Bool) → Pays (cond b (cond (eqb kind 1) 0 24) (cond (eqb (next_of kind p) 0) (12 * fixed_vertices kind) (owed 8 kind (next_of kind p))))
-        (cond b (vertices_of kind i n) (cond (eqb (next_of kind p) 0) (fields_end kind) (Go (Field kind (next_of kind p) (cond (eqb p 10) n i)))))
+        (cond b (vertices_of kind i n) (cond (eqb (next_of kind p) 0) (fields_end kind) (Ok (Some (Field kind (next_of kind p) (cond (eqb p 10) n i))))))
     at true = vertices-pays kind i n
     at false = on (eqb (next_of kind p) 0)
 
@@ -196,9 +190,9 @@ all-long = refl
 
 -- a step that goes on opens a row by the keyword t
 abbrev Opens : ℕ → Step → Type 0
-Opens t (Go st) = (eqb (next_of (t / 2) 0) 0 ≡ false) × (owed 9 (t / 2) (next_of (t / 2) 0) ≤ owing st)
-Opens t (No m) = Unit {0}
-Opens t End = Unit {0}
+Opens t (Ok (Some st)) = (eqb (next_of (t / 2) 0) 0 ≡ false) × (owed 9 (t / 2) (next_of (t / 2) 0) ≤ owing st)
+Opens t (Err m) = Unit {0}
+Opens t (Ok None) = Unit {0}
 
 key-opens : (t : ℕ) → Opens t (key_step t)
 unfolding key_step
@@ -206,7 +200,7 @@ key-opens t =
     cond-elim (Opens t) (eqb t 0) _ _ (λ _. tt)
     (λ _. cond-elim (Opens t) (eqb (next_of (t / 2) 0) 0) _ _ (λ _. tt) (λ e. (e, omega arith)))
 
-key-long : (mode : Mode) (c : List ℕ) (t : ℕ) → lex_of mode Key c ≡ Say t → eqb (next_of (t / 2) 0) 0 ≡ false → 27 ≤ length c + owed 9 (t / 2) (next_of (t / 2) 0)
+key-long : (mode : Mode) (c : List ℕ) (t : ℕ) → lex_of mode Key c ≡ Ok t → eqb (next_of (t / 2) 0) 0 ≡ false → 27 ≤ length c + owed 9 (t / 2) (next_of (t / 2) 0)
 unfolding lex_of
 key-long mode c t q n = go (word_of mode c) refl q
   where
@@ -215,17 +209,17 @@ key-long mode c t q n = go (word_of mode c) refl q
     long w e true f h = absurd (let z : ◌≡◌ {A = ℕ} 0 1 = cc in omega arith)
     long w e false f h = subst (λ (x : List ℕ). 27 ≤ length x + owed 9 (t / 2) (next_of (t / 2) 0)) e (leb-true 27 _ h)
 
-    go : (w : Word) → word_of mode c ≡ w → of_key c w ≡ Say t → 27 ≤ length c + owed 9 (t / 2) (next_of (t / 2) 0)
-    go (Word.Is start len) e q =
-        let v = word-is mode c start len e in
-        let w = take len (drop start c) in
+    go : (w : Option Word) → word_of mode c ≡ w → of_key c w ≡ Ok t → 27 ≤ length c + owed 9 (t / 2) (next_of (t / 2) 0)
+    go (Some x) e q =
+        let v = word-is mode c x.start x.len e in
+        let w = take x.len (drop x.start c) in
         let k : 27 ≤ length w + owed 9 (t / 2) (next_of (t / 2) 0) =
         long w (sym (key-read w t q).1) (eqb (next_of (t / 2) 0) 0) n (below_at (key_most + 1) is_long t all-long (omega (arith, key-most w t q))) in
         omega (arith, k, ap length v.1, trimmed-le c)
-    go Word.Padded e q = absurd (let z : ◌≡◌ {A = ℕ} 0 1 = cc in omega arith)
+    go None e q = absurd (let z : ◌≡◌ {A = ℕ} 0 1 = cc in omega arith)
 
 -- a row is 15 numbers, so 15 times its bytes are 28 for each
-put-rows : (mode : Mode) (st st' : State) (next t : ℕ) (c : List ℕ) (o : Tables) (n : ℕ) → lex_of mode (want_of st) c ≡ Say t → step_of mode st t next ≡ Go st'
+put-rows : (mode : Mode) (st st' : State) (next t : ℕ) (c : List ℕ) (o : Tables) (n : ℕ) → lex_of mode (want_of st) c ≡ Ok t → step_of mode st t next ≡ Ok (Some st')
     → length c + 1 ≤ n → 28 * length (put st t c o).rows + row_width * owing st ≤ 28 * length o.rows + row_width * n + row_width * owing st'
 unfolding put want_of step_of set_last vertex_of owed
 put-rows mode Due st' next t c o n q g h =
@@ -260,7 +254,7 @@ pass-rows {mode} {st} {o = o} (more {st₁ = stm} {t = t} {c = c} {e = e} {bs = 
 abbrev weight : Tables → ℕ
 weight o = length o.letters + 2 * length o.islands + 6 * length o.points
 
-put-weight : (mode : Mode) (st : State) (t : ℕ) (c : List ℕ) (o : Tables) (n : ℕ) → lex_of mode (want_of st) c ≡ Say t
+put-weight : (mode : Mode) (st : State) (t : ℕ) (c : List ℕ) (o : Tables) (n : ℕ) → lex_of mode (want_of st) c ≡ Ok t
     → length c + 1 ≤ n → weight (put st t c o) ≤ weight o + n
 unfolding put want_of
 put-weight mode Due t c o n q h = omega arith

@@ -1,7 +1,11 @@
 -- The second pass: the loop's steps. Its invariant is that of the first, and that each table holds what was read so far. Assumes nothing.
+use Rattle.std.specs.Prelude.{Option, Some, None, Result, Ok}
+use Rattle.record.specs.declared.refusal.Refusal.{Refusal}
+use Rattle.header.specs.declared.Stopped.{Stopped}
+use Rattle.reader.specs.Turn.{onward, halted, finished}
 use mathlib.Core.Path.{◌≡◌, refl, sym, ◌∙◌, ap, subst}
 use mathlib.Core.List.{List}
-use Prim.Native.Nat.{ℕ, ◌+◌, ◌-◌, ◌≤◌, ◌<◌}
+use Prim.Native.Nat.{ℕ, ◌+◌, ◌-◌, ◌≤◌}
 use native.Mathlib.Omega.{arith}
 use native.Mathlib.Nat.{add-sub_cancel_left}
 use lib.ListN.{length, take, drop}
@@ -9,12 +13,9 @@ use lib.IntN.{ℤ}
 use Rattle.laws.proofs.TableLaws.{length_over}
 use Rattle.record.specs.declared.Mode.{Mode}
 use Rattle.record.specs.Refusals.{file_most}
-use Rattle.number.specs.declared.Whole.{Whole}
-use Rattle.number.specs.declared.Whole.TheVariants as Whole
 use Rattle.number.specs.Number.{integer_of}
 use Rattle.number.proofs.NumberLaws.{integer-most}
 use Rattle.token.specs.Lex.{of_whole, lex_of}
-use Rattle.token.specs.declared.Token.{Token}
 use Rattle.token.specs.declared.Want.TheVariants.{Int}
 use Rattle.token.proofs.TokenLaws.{says-most}
 use Rattle.machine.specs.Machine.{want_of}
@@ -33,15 +34,15 @@ use Rattle.reader.proofs.Filling.{Holding, at-fits, store-room, store-holds}
 
 -- ---- an island's count is an integer
 
-int-most : (mode : Mode) (c : List ℕ) (t : ℕ) → lex_of mode Int c ≡ Token.Say t → t ≤ 9999
+int-most : (mode : Mode) (c : List ℕ) (t : ℕ) → lex_of mode Int c ≡ Ok t → t ≤ 9999
 unfolding lex_of
 int-most mode c t = go (integer_of mode c) refl
   where
-    go : (w : Whole) → integer_of mode c ≡ w → of_whole w ≡ Token.Say t → t ≤ 9999
-    go (Whole.Is n) e q = let z : n ≡ t = cc in omega (arith, integer-most mode c n e)
-    go Whole.Malformed e q = absurd (let z : ◌≡◌ {A = ℕ} 0 1 = cc in omega arith)
+    go : (w : Option ℕ) → integer_of mode c ≡ w → of_whole w ≡ Ok t → t ≤ 9999
+    go (Some n) e q = let z : n ≡ t = cc in omega (arith, integer-most mode c n e)
+    go None e q = absurd (let z : ◌≡◌ {A = ℕ} 0 1 = cc in omega arith)
 
-island-token : (mode : Mode) (st : State) (c : List ℕ) (t : ℕ) → lex_of mode (want_of st) c ≡ Token.Say t → IslandToken st t
+island-token : (mode : Mode) (st : State) (c : List ℕ) (t : ℕ) → lex_of mode (want_of st) c ≡ Ok t → IslandToken st t
 unfolding want_of
 island-token mode Due c t q = tt
 island-token mode (Field k p i) c t q = tt
@@ -83,8 +84,8 @@ module _ {mode : Mode} {s : List ℕ} {target : Sections} {rows₀ : List ℤ} {
         points_kept = ap length g.points-are ∙ length_over o.points points₀ f.points-fit;
       }
 
-  module _ (r : Turn) (q : r ≡ turn_of mode s d) where
-    module _ (d' : ReadStand) (t len : ℕ) (e : r ≡ Turn.On d' t len) where
+  module _ (r : Result (Option Turn) Stopped) (q : r ≡ turn_of mode s d) where
+    module _ (d' : ReadStand) (t len : ℕ) (e : r ≡ onward d' t len) where
       went : Moved mode s target h.tables d d' t len
       went = at_on mode s target h.tables d h.stands r q d' t len e
 
@@ -129,13 +130,13 @@ module _ {mode : Mode} {s : List ℕ} {target : Sections} {rows₀ : List ℤ} {
           }
 
     -- sections that are read are not refused
-    pub fill-refused : {X : Type 0} (m k a : ℕ) → r ≡ Turn.Refused m k a → X
+    pub fill-refused : {X : Type 0} (m : Refusal) (k a : ℕ) → r ≡ halted m k a → X
     fill-refused m k a e =
         let z : target ≡ stop m k a = subst (TurnOk mode s target h.tables d) (sym q ∙ e) (turn-ok mode s target h.tables d h.stands) in
         absurd (subst (λ (x : Sections). Room x (length rows₀) (length letters₀) (length islands₀) (length points₀)) z room)
 
     -- at the end the tables hold all
-    pub fill_done : r ≡ Turn.Done → Holding (section_tables target) rows₀ rows letters₀ letters islands₀ islands points₀ points
+    pub fill_done : r ≡ finished → Holding (section_tables target) rows₀ rows letters₀ letters islands₀ islands points₀ points
     fill_done e =
         let z : target ≡ read h.tables d.at = (subst (TurnOk mode s target h.tables d) (sym q ∙ e) (turn-ok mode s target h.tables d h.stands)).0 in
         subst (λ (x : Sections). Holding (section_tables x) rows₀ rows letters₀ letters islands₀ islands points₀ points) (sym z) h.holds

@@ -1,28 +1,25 @@
 -- What is stored: each table holds what was read so far over what it held at entry. Assumes nothing.
-use mathlib.Core.Path.{◌≡◌, refl, sym, ◌∙◌, ap, ap₂, subst}
+use mathlib.Core.Path.{◌≡◌, refl, sym, ◌∙◌, ap, ap₂}
 use mathlib.Core.Bool.{Bool, true, false, cond}
 use mathlib.Core.List.{List, [], ◌∷◌, ◌++◌, append-nil}
-use Prim.Native.Nat.{ℕ, zero, suc, ◌+◌, ◌-◌, ◌*◌, ◌≤◌, ◌<◌}
+use Prim.Native.Nat.{ℕ, ◌+◌, ◌-◌, ◌*◌, ◌≤◌}
 use native.Mathlib.Omega.{arith}
-use lib.ListN.{length, take, drop, set, length-append, length-set, length-drop}
+use lib.ListN.{length, take, drop, set, length-append, length-set}
 use lib.Dec.{eqb}
-use lib.IntN.{ℤ, pos}
+use lib.IntN.{ℤ}
 use Rattle.laws.specs.Lists.{over, pasted}
 use Rattle.laws.proofs.TableLaws.{over-more, over-one, over-set}
 use Rattle.record.specs.declared.Mode.{Mode}
 use Rattle.number.specs.Words.{trimmed}
-use Rattle.token.specs.Lex.{unlift, lex_of}
-use Rattle.token.specs.declared.Token.{Token}
+use Rattle.token.specs.Lex.{unlift}
 use Rattle.kinds.specs.Kinds.{row_width, want_at}
-use Rattle.machine.specs.Machine.{want_of}
 use Rattle.machine.specs.declared.State.{State}
 use Rattle.machine.specs.declared.State.TheVariants.{Due, Field, Island, X, Y}
-use Rattle.sheet.specs.Tables.{Tables, empty, Starts, starts_of, new_row, cell_of, set_last, put}
-use Rattle.sheet.specs.Reading.{Sections, read, stop, walk}
+use Rattle.sheet.specs.Tables.{Tables, Starts, starts_of, new_row, cell_of, set_last, put}
+use Rattle.sheet.specs.Reading.{Sections, read, stop}
 use Rattle.sheet.proofs.Okay.{Okay}
-use Rattle.sheet.proofs.Pass.{Goes, Pass, done, more, Accepts, walk-accepts}
-use Rattle.reader.specs.Store.{rows_put, letters_put, islands_put, points_put, PutRoom, Room, section_tables}
-use Rattle.reader.specs.Turn.{InFile}
+use Rattle.sheet.proofs.Pass.{Pass, done, more, walk-accepts}
+use Rattle.reader.specs.Store.{rows_put, letters_put, islands_put, points_put, PutRoom, Room}
 use Rattle.reader.specs.declared.Needs.{Needs}
 use Rattle.reader.specs.declared.ReadStand.{ReadStand}
 use Rattle.reader.proofs.Standing.{Sized, starts-are, At, Moved}

@@ -9,6 +9,7 @@ use lib.ListN.{length, get_or, take, drop, take-append-drop}
 use lib.Seq.{drop-drop}
 use lib.Dec.{leb, eqb}
 use borrow.Author.Tests.{leb-true, le-leb, eq-eqb, ne_eqb, not-false}
+use Rattle.std.specs.Prelude.{Option, Some, None, Ok, IfSome}
 use Rattle.laws.specs.Lists.{all, same}
 use Rattle.laws.specs.Text.{text}
 use Rattle.laws.proofs.ListLaws.{left, same-is}
@@ -21,13 +22,11 @@ use Rattle.record.proofs.RecordLaws.{line-make}
 use Rattle.number.proofs.WordWays.{blank-not}
 use Rattle.number.proofs.WordLaws.{untrimmed, word-make}
 use Rattle.token.specs.Lex.{lex_of, key_text, keywords, is_key, may_lie_outside}
-use Rattle.token.specs.declared.Token.TheVariants.{Say}
 use Rattle.token.specs.declared.Want.TheVariants.{Key}
 use Rattle.token.proofs.TokenLaws.{key-spelt, lex-widens}
 use Rattle.quick.specs.Seen.{RealAt, UsualAt, Usual, ValueAt}
 use Rattle.kinds.specs.Kinds.{vertices_place}
 use Rattle.machine.specs.Machine.{field_of, vertices_of}
-use Rattle.machine.specs.declared.Step.{Step}
 use Rattle.reader.specs.Turn.{FirstAt}
 use Rattle.reader.specs.RingRun.{real_in}
 use Rattle.reader.specs.Heads.{KeySays, IsTrim, Countable, opened_by, PointIn, PointAt, PointsAt}
@@ -43,7 +42,7 @@ unfolding all
 border-plain = refl
 
 -- it says a border that does not lie outside, in every mode
-border-said : (mode : Mode) → lex_of mode Key (text "BORDO") ≡ Say 2
+border-said : (mode : Mode) → lex_of mode Key (text "BORDO") ≡ Ok 2
 unfolding key_text keywords is_key may_lie_outside
 border-said mode = lex-widens Exact mode refl Key (text "BORDO") 2 (key-spelt 2 refl)
 
@@ -95,7 +94,7 @@ border-countable kind islands n k h e = record { goes = λ mode. go mode (eqb is
     some : eqb n 0 ≡ false
     some = ne_eqb n 0 (λ z. omega arith)
 
-    go : (mode : Mode) (b : Bool) → eqb islands 0 ≡ b → field_of mode kind vertices_place islands n ≡ Step.Go (opened_by kind islands n)
+    go : (mode : Mode) (b : Bool) → eqb islands 0 ≡ b → field_of mode kind vertices_place islands n ≡ Ok (Some (opened_by kind islands n))
     go mode true z = rw (eq-eqb kind 1 k, le-leb (4 + 4 * islands) n m, some, z)
     go mode false z = rw (eq-eqb kind 1 k, le-leb (4 + 4 * islands) n m, some, z)
 
@@ -127,15 +126,16 @@ module _ {mode : Mode} {s : List ℕ} {at w n : ℕ} (u : Usual mode s at w n) w
 
 -- the ways of `point_at`
 module _ (mode : Mode) (s : List ℕ) (at : ℕ) (judged : Bool) where
-  module _ (w : ℕ) (i : (at ≤ length s) × (length s ≤ file_most)) (f : 0 < w → Usual mode s at w 2) (h : 0 < w) where
-    pub point-asks : (at + 2 * w < 18446744073709551616) × (0 < w)
-    point-asks = (omega (arith, (f h).inside i.0, i.1), h)
+  module _ (w : ℕ) (i : (at ≤ length s) × (length s ≤ file_most)) (f : Usual mode s at w 2) where
+    pub point-asks : at + 2 * w < 18446744073709551616
+    point-asks = omega (arith, f.inside i.0, i.1)
 
     pub point-usual : (r : First) → PointIn s at w judged r → PointAt mode s at judged r.x r.y r.next
-    point-usual r p = point-there (f h) judged 0 1 at (omega arith) (omega arith) (omega arith) (omega arith) r p
+    point-usual r p = point-there f judged 0 1 at (omega arith) (omega arith) (omega arith) (omega arith) r p
 
-  pub point-first : (r : First) → (0 < r.next → FirstAt mode s at r.x r.y r.next) → 0 < r.next → PointAt mode s at judged r.x r.y r.next
-  point-first r f h = record { fx = r.x; fy = r.y; first = f h; same = λ _. (refl, refl) }
+  pub point-first : (o : Option First) → IfSome o (λ r. FirstAt mode s at r.x r.y r.next) → IfSome o (λ r. PointAt mode s at judged r.x r.y r.next)
+  point-first (Some r) f = record { fx = r.x; fy = r.y; first = f; same = λ _. (refl, refl) }
+  point-first None f = tt
 
 -- two points
 abbrev pub both : First → First → TwoPoints
@@ -143,18 +143,18 @@ both p q = record { x = p.x; y = p.y; x2 = q.x; y2 = q.y; next = q.next }
 
 -- the ways of `points_at`
 module _ (mode : Mode) (s : List ℕ) (at : ℕ) (judged : Bool) where
-  module _ (w : ℕ) (i : (at ≤ length s) × (length s ≤ file_most)) (f : 0 < w → Usual mode s at w 4) (h : 0 < w) where
-    pub points-asks : (at + 2 * w < 18446744073709551616) × (0 < w)
-    points-asks = (omega (arith, (f h).inside i.0, i.1), h)
+  module _ (w : ℕ) (i : (at ≤ length s) × (length s ≤ file_most)) (f : Usual mode s at w 4) where
+    pub points-asks : at + 2 * w < 18446744073709551616
+    points-asks = omega (arith, f.inside i.0, i.1)
 
     module _ (p : First) (a : PointIn s at w judged p) where
-      pub points-more : (p.next + 2 * w < 18446744073709551616) × (0 < w)
-      points-more = (omega (arith, (f h).inside i.0, i.1, a.there), h)
+      pub points-more : p.next + 2 * w < 18446744073709551616
+      points-more = omega (arith, f.inside i.0, i.1, a.there)
 
       pub points-usual : (q : First) → PointIn s p.next w judged q → PointsAt mode s at judged (both p q)
       points-usual q b =
-          let x = point-there (f h) judged 0 1 at (omega arith) (omega arith) (omega arith) (omega arith) p a in
-          let y = point-there (f h) judged 2 3 p.next (omega arith) (omega arith) (omega (arith, a.there)) (omega (arith, a.there)) q b in
+          let x = point-there f judged 0 1 at (omega arith) (omega arith) (omega arith) (omega arith) p a in
+          let y = point-there f judged 2 3 p.next (omega arith) (omega arith) (omega (arith, a.there)) (omega (arith, a.there)) q b in
           record {
             mid = p.next;
             fx = x.fx;
@@ -166,16 +166,16 @@ module _ (mode : Mode) (s : List ℕ) (at : ℕ) (judged : Bool) where
             same = λ t. ((x.same t).0, (x.same t).1, (y.same t).0, (y.same t).1);
           }
 
-  module _ (p q : First) (f : 0 < p.next → FirstAt mode s at p.x p.y p.next) (n : p.next ≡ 0 → ⊥) where
-    pub points-first : (0 < q.next → FirstAt mode s p.next q.x q.y q.next) → 0 < q.next → PointsAt mode s at judged (both p q)
-    points-first g h =
+  module _ (p q : First) (f : FirstAt mode s at p.x p.y p.next) where
+    pub points-first : FirstAt mode s p.next q.x q.y q.next → PointsAt mode s at judged (both p q)
+    points-first g =
         record {
           mid = p.next;
           fx = p.x;
           fy = p.y;
           fx2 = q.x;
           fy2 = q.y;
-          first = f (omega arith);
-          second = g h;
+          first = f;
+          second = g;
           same = λ _. (refl, refl, refl, refl);
         }

@@ -5,6 +5,9 @@ use mathlib.Core.List.{List, []}
 use Prim.Native.Nat.{ℕ, zero, suc, ◌+◌, ◌*◌, ◌/◌, ◌≤◌, ◌<◌}
 use native.Mathlib.Omega.{arith}
 use lib.ListN.{length}
+use Rattle.machine.specs.Machine.{Step}
+use Rattle.record.specs.declared.Line.{Line}
+use Rattle.std.specs.Prelude.{Option, Some, None, Ok, IfSome}
 use Rattle.record.specs.declared.Mode.{Mode}
 use Rattle.record.specs.Record.{is_exact}
 use Rattle.token.specs.declared.Want.TheVariants.{Int, Real}
@@ -13,7 +16,6 @@ use Rattle.kinds.specs.Kinds.{row_width, want_at, next_of, next_in, schedule}
 use Rattle.machine.specs.Machine.{want_of, field_of, step_of}
 use Rattle.machine.specs.declared.State.{State}
 use Rattle.machine.specs.declared.State.TheVariants.{Field}
-use Rattle.machine.specs.declared.Step.TheVariants.{Go}
 use Rattle.reader.specs.Turn.{still, on}
 use Rattle.reader.specs.Trust.{Sure, Vouched}
 use Rattle.reader.specs.Heads.{KeySays, LeadAt, CountsAt, CodeGoes, Countable, PointAt, PointsAt, HeadAt, HeadRead}
@@ -39,9 +41,12 @@ usual-more mode s at n w a u = record { inside = λ _. omega (arith, u.inside w)
 
 -- a record's bytes are what they are
 usual-width : {mode : Mode} {s : List ℕ} {at w v : ℕ} → UsualAt mode s at 14 → RealAt mode s at w v → w ≡ 14
-usual-width u r = let e = sym u.line ∙ r.line in cc
+usual-width {w = w} u r =
+    let e = sym r.line ∙ u.line in
+    let q : ◌≡◌ {A = Line} (record { len = r.len; width = w }) (record { len = 12; width = 14 }) = cc in
+    ap (λ (x : Line). x.width) q
 
-go-is : (a b : State) → Go a ≡ Go b → a ≡ b
+go-is : (a b : State) → ◌≡◌ {A = Step} (Ok (Some a)) (Ok (Some b)) → a ≡ b
 go-is a b e = cc
 
 -- ---- the fields of a row, from a stand on from which no turn is refused
@@ -66,11 +71,11 @@ module _ (mode : Mode) (s : List ℕ) (x : is_exact mode ≡ true) where
       record { usual = subst (λ (n : ℕ). UsualAt mode s n 14) h.at-is r.usual; inside = omega (arith, r.inside, h.at-is) }
 
   -- and the field behind it
-  real-past : {kind p at : ℕ} (q : ℕ) → want_at p ≡ Real → ((n : ℕ) → field_of mode kind p 0 n ≡ Go (Field kind q 0)) → At kind p at → At kind q (at + 14)
+  real-past : {kind p at : ℕ} (q : ℕ) → want_at p ≡ Real → ((n : ℕ) → field_of mode kind p 0 n ≡ Ok (Some (Field kind q 0))) → At kind p at → At kind q (at + 14)
   unfolding want_of step_of
   real-past {kind} {p} {at} q w g h =
       let r = sure-real mode s h.d h.sure x (ap want_of h.state-is ∙ w) in
-      let e : field_of mode kind p 0 r.t ≡ Go r.to.state = subst (λ (y : State). step_of mode y r.t r.next ≡ Go r.to.state) h.state-is r.steps in
+      let e : field_of mode kind p 0 r.t ≡ Ok (Some r.to.state) = subst (λ (y : State). step_of mode y r.t r.next ≡ Ok (Some r.to.state)) h.state-is r.steps in
       record {
         d = r.to;
         state-is = sym (go-is (Field kind q 0) r.to.state (sym (g r.t) ∙ e));
@@ -78,7 +83,7 @@ module _ (mode : Mode) (s : List ℕ) (x : is_exact mode ≡ true) where
         sure = sure-on h.sure (on still r.turn);
       }
 
-  one-real : {kind p at n : ℕ} (q : ℕ) → want_at p ≡ Real → ((n : ℕ) → field_of mode kind p 0 n ≡ Go (Field kind q 0)) → (At kind q (at + 14) → Usual mode s (at + 14) 14 n) → At kind p at
+  one-real : {kind p at n : ℕ} (q : ℕ) → want_at p ≡ Real → ((n : ℕ) → field_of mode kind p 0 n ≡ Ok (Some (Field kind q 0))) → (At kind q (at + 14) → Usual mode s (at + 14) 14 n) → At kind p at
       → Usual mode s at 14 (suc n)
   one-real {kind} {p} {at} {n} q w g u h =
       let r = real-there w h in
@@ -88,11 +93,11 @@ module _ (mode : Mode) (s : List ℕ) (x : is_exact mode ≡ true) where
   last-real {kind} {p} {at} w h = let r = real-there w h in usual-more mode s at 0 r.inside r.usual (usual-none mode s (at + 14))
 
   -- a point, and two
-  point-there : {kind at : ℕ} → ((n : ℕ) → field_of mode kind 5 0 n ≡ Go (Field kind 6 0)) → At kind 5 at → Usual mode s at 14 2
+  point-there : {kind at : ℕ} → ((n : ℕ) → field_of mode kind 5 0 n ≡ Ok (Some (Field kind 6 0))) → At kind 5 at → Usual mode s at 14 2
   unfolding want_at
   point-there g h = one-real 6 refl g (last-real refl) h
 
-  points-there : {kind at : ℕ} → ((n : ℕ) → field_of mode kind 5 0 n ≡ Go (Field kind 6 0)) → ((n : ℕ) → field_of mode kind 6 0 n ≡ Go (Field kind 7 0)) → ((n : ℕ) → field_of mode kind 7 0 n ≡ Go (Field kind 8 0))
+  points-there : {kind at : ℕ} → ((n : ℕ) → field_of mode kind 5 0 n ≡ Ok (Some (Field kind 6 0))) → ((n : ℕ) → field_of mode kind 6 0 n ≡ Ok (Some (Field kind 7 0))) → ((n : ℕ) → field_of mode kind 7 0 n ≡ Ok (Some (Field kind 8 0)))
       → At kind 5 at → Usual mode s at 14 4
   unfolding want_at
   points-there g g' g'' h = one-real 6 refl g (one-real 7 refl g' (one-real 8 refl g'' (last-real refl))) h
@@ -112,8 +117,8 @@ angled {mode} {s} {at} {n} a p =
 
 module _ (mode : Mode) (s : List ℕ) (at w t : ℕ) (key : KeySays mode s at w t) (judged : Bool) (vouched : Vouched mode s at judged) (b : judged ≡ true) (x : is_exact mode ≡ true) where
   -- behind letters and a number
-  lead-past : {n m j : ℕ} (kind p q : ℕ) → t / 2 ≡ kind → 1 ≤ kind → next_of kind 0 ≡ 9 → LeadAt mode s (at + w) n m j → field_of mode kind 9 0 n ≡ Go (Field kind p 0) → want_at p ≡ Int → p < row_width
-      → field_of mode kind p 0 m ≡ Go (Field kind q 0) → At mode s x kind q j
+  lead-past : {n m j : ℕ} (kind p q : ℕ) → t / 2 ≡ kind → 1 ≤ kind → next_of kind 0 ≡ 9 → LeadAt mode s (at + w) n m j → field_of mode kind 9 0 n ≡ Ok (Some (Field kind p 0)) → want_at p ≡ Int → p < row_width
+      → field_of mode kind p 0 m ≡ Ok (Some (Field kind q 0)) → At mode s x kind q j
   lead-past {n} {m} {j} kind p q e h o lead g i l g' =
       let v = vouched b in
       let d = v.d in
@@ -198,5 +203,6 @@ module _ (mode : Mode) (s : List ℕ) (at w t : ℕ) (key : KeySays mode s at w 
       }
 
 -- a head without points
-pub own_read : (mode : Mode) (s : List ℕ) (at : ℕ) (judged : Bool) (h : RowHead) → HeadAt mode s at h → HeadRead mode s at judged h
-own_read mode s at judged h e = record { fx = h.x; fy = h.y; fx2 = h.x2; fy2 = h.y2; head = e; same = λ _. refl }
+pub own_read : (mode : Mode) (s : List ℕ) (at : ℕ) (judged : Bool) (o : Option RowHead) → IfSome o (λ h. HeadAt mode s at h) → IfSome o (λ h. HeadRead mode s at judged h)
+own_read mode s at judged (Some h) e = record { fx = h.x; fy = h.y; fx2 = h.x2; fy2 = h.y2; head = e; same = λ _. refl }
+own_read mode s at judged None e = tt

@@ -1,4 +1,7 @@
 -- A row from its keyword up to its vertices is so many turns of the walk. Assumes nothing.
+use Rattle.std.specs.Prelude.{Some, Ok, Err}
+use Rattle.record.specs.declared.refusal.Refusal.TheVariants as Refusal
+use Rattle.reader.specs.Turn.{onward}
 use mathlib.Core.Path.{◌≡◌, refl, ap, subst}
 use mathlib.Core.Bool.{Bool, true, false, cond, not, ◌&&◌}
 use mathlib.Core.List.{List}
@@ -12,7 +15,6 @@ use Rattle.laws.specs.Lists.{pasted}
 use Rattle.laws.proofs.TableLaws.{pasted-none}
 use Rattle.record.specs.declared.Mode.{Mode}
 use Rattle.record.specs.Record.{is_exact}
-use Rattle.record.specs.Refusals.{unlisted_code}
 use Rattle.number.specs.Words.{trimmed}
 use Rattle.record.proofs.RecordLaws.{line_view}
 use Rattle.token.specs.Lex.{unlift}
@@ -25,14 +27,12 @@ use Rattle.kinds.specs.Kinds.{row_width, want_at, next_of, next_in, schedule, fi
 use Rattle.machine.specs.Machine.{want_of, key_step, field_of, fields_end, step_of, one_of}
 use Rattle.machine.specs.declared.State.{State}
 use Rattle.machine.specs.declared.State.TheVariants.{Due, Field}
-use Rattle.machine.specs.declared.Step.{Step}
 use Rattle.sheet.specs.Tables.{new_row, cell_of}
 use Rattle.reader.specs.Turn.{size_next, row_more, added, turn_of, FieldSays, Turns, still, on, stand_on, FirstAt}
 use Rattle.reader.specs.Store.{token_most, starts_behind, rows_put, letters_put, islands_put, points_put, Puts, no-turn, turned}
 use Rattle.reader.specs.Heads.{KeySays, WordSays, LeadAt, CountsAt, CodeGoes, Countable, opened_by, rows_head, HeadAt}
 use Rattle.reader.specs.declared.Needs.{Needs}
 use Rattle.reader.specs.declared.ReadStand.{ReadStand}
-use Rattle.reader.specs.declared.Turn.{Turn}
 use Rattle.reader.proofs.Fields.{field-turn, apart-real, apart-int}
 
 -- turns, with their tables forgotten
@@ -49,15 +49,15 @@ abbrev pub row_only : Needs → Needs
 row_only a = record { rows = a.rows + 1; letters = a.letters; islands = a.islands; points = a.points }
 
 key-turn : (mode : Mode) (s : List ℕ) (d : ReadStand) (at w t : ℕ) (k : KeySays mode s at w t) → d.state ≡ Due → d.at ≡ at → (kind p : ℕ) → t / 2 ≡ kind → 1 ≤ kind
-    → next_of kind 0 ≡ p → 1 ≤ p → turn_of mode s d ≡ Turn.On (stand_on (new_stand d (row_only d.needs)) (Field kind p 0) (at + w) d.ring 1) t k.len
+    → next_of kind 0 ≡ p → 1 ≤ p → turn_of mode s d ≡ onward (stand_on (new_stand d (row_only d.needs)) (Field kind p 0) (at + w) d.ring 1) t k.len
 unfolding turn_of one_of want_of step_of key_step added size_next
 key-turn mode s d at w t k e f kind p g h n o =
     let a : eqb t 0 ≡ false = ne_eqb t 0 (λ z. omega (arith, g)) in
     let b : eqb p 0 ≡ false = ne_eqb p 0 (λ z. omega arith) in
     rw (e, f, k.line, k.says, a, g, n, b)
 
-word-turn : (mode : Mode) (s : List ℕ) (d : ReadStand) (kind i here ring k w t : ℕ) → WordSays mode s here w t → (st : State) → field_of mode kind 9 i t ≡ Step.Go st
-    → turn_of mode s (stand_on (new_stand d (row_only d.needs)) (Field kind 9 i) here ring k) ≡ Turn.On (stand_on (new_stand d (row_more d.needs t)) st (here + w) (here + w) (k + 1)) t t
+word-turn : (mode : Mode) (s : List ℕ) (d : ReadStand) (kind i here ring k w t : ℕ) → WordSays mode s here w t → (st : State) → field_of mode kind 9 i t ≡ Ok (Some st)
+    → turn_of mode s (stand_on (new_stand d (row_only d.needs)) (Field kind 9 i) here ring k) ≡ onward (stand_on (new_stand d (row_more d.needs t)) st (here + w) (here + w) (k + 1)) t t
 unfolding turn_of one_of want_of want_at step_of added size_next
 word-turn mode s d kind i here ring k w t f st g =
     let a : d.nth + k + 1 ≡ d.nth + (k + 1) = omega arith in
@@ -89,7 +89,7 @@ module _ (mode : Mode) (s : List ℕ) (d : ReadStand) (r : List ℤ) (l i : List
             e (turned no-turn (key-turn mode s d at w t k e f kind q g h n o));
       }
 
-  word-far : {kind here ring k w t : ℕ} {r' : List ℤ} → WordSays mode s here w t → (st : State) → field_of mode kind 9 0 t ≡ Step.Go st
+  word-far : {kind here ring k w t : ℕ} {r' : List ℤ} → WordSays mode s here w t → (st : State) → field_of mode kind 9 0 t ≡ Ok (Some st)
       → Far (row_only d.needs) (Field kind 9 0) here ring k r' l
       → Far (row_more d.needs t) st (here + w) (here + w) (k + 1) (set r' (row_width * d.needs.rows + 9) (pos t)) (pasted l d.needs.letters (take t (drop here s)))
   unfolding want_at
@@ -101,7 +101,7 @@ module _ (mode : Mode) (s : List ℕ) (d : ReadStand) (r : List ℤ) (l i : List
       record { puts = rw (z, f.bare) at u }
 
   field-far : {b : Needs} {kind q isl here ring k w t : ℕ} {r' : List ℤ} {l' : List ℕ} (v : ℤ) → b.rows ≡ d.needs.rows + 1 → FieldSays mode s here q w t → cell_of (want_at q) t ≡ v
-      → (st : State) → field_of mode kind q isl t ≡ Step.Go st → Far b (Field kind q isl) here ring k r' l'
+      → (st : State) → field_of mode kind q isl t ≡ Ok (Some st) → Far b (Field kind q isl) here ring k r' l'
       → Far b st (here + w) (here + w) (k + 1) (set r' (row_width * d.needs.rows + q) v) l'
   field-far {b} {kind} {q} {isl} {here} {ring} {k} {w} {t} {r'} {l'} v e f c st g u =
       let z : b.rows - 1 ≡ d.needs.rows = omega (arith, e) in
@@ -111,27 +111,27 @@ module _ (mode : Mode) (s : List ℕ) (d : ReadStand) (r : List ℤ) (l i : List
       record { puts = rw (z, f.apart, c) at x }
 
   pub int-far : {b : Needs} {kind q isl here ring k w n : ℕ} {r' : List ℤ} {l' : List ℕ} → b.rows ≡ d.needs.rows + 1 → want_at q ≡ Int → q < row_width → IntegerAt mode s here w n
-      → (st : State) → field_of mode kind q isl n ≡ Step.Go st → Far b (Field kind q isl) here ring k r' l'
+      → (st : State) → field_of mode kind q isl n ≡ Ok (Some st) → Far b (Field kind q isl) here ring k r' l'
       → Far b st (here + w) (here + w) (k + 1) (set r' (row_width * d.needs.rows + q) (pos n)) l'
   int-far {b} {kind} {q} {isl} {here} {ring} {k} {w} {n} a e h f st g u =
       field-far (pos n) a (int-says mode s here q w n e h f) (ap (λ (x : Want). cell_of x n) e) st g u
 
   real-far : {b : Needs} {kind q here ring k w t : ℕ} {r' : List ℤ} {l' : List ℕ} → b.rows ≡ d.needs.rows + 1 → want_at q ≡ Real → q < row_width → RealAt mode s here w t
-      → (st : State) → field_of mode kind q 0 t ≡ Step.Go st → Far b (Field kind q 0) here ring k r' l'
+      → (st : State) → field_of mode kind q 0 t ≡ Ok (Some st) → Far b (Field kind q 0) here ring k r' l'
       → Far b st (here + w) (here + w) (k + 1) (set r' (row_width * d.needs.rows + q) (unlift t)) l'
   real-far {b} {kind} {q} {here} {ring} {k} {w} {t} a e h f st g u =
       field-far (unlift t) a (real-says mode s here q w t e h f) (ap (λ (x : Want). cell_of x t) e) st g u
 
   -- letters and a number
-  pub lead-far : {kind here ring k t n next : ℕ} {r' : List ℤ} (q : ℕ) → LeadAt mode s here t n next → field_of mode kind 9 0 t ≡ Step.Go (Field kind q 0) → want_at q ≡ Int → q < row_width
-      → (st : State) → field_of mode kind q 0 n ≡ Step.Go st → Far (row_only d.needs) (Field kind 9 0) here ring k r' l
+  pub lead-far : {kind here ring k t n next : ℕ} {r' : List ℤ} (q : ℕ) → LeadAt mode s here t n next → field_of mode kind 9 0 t ≡ Ok (Some (Field kind q 0)) → want_at q ≡ Int → q < row_width
+      → (st : State) → field_of mode kind q 0 n ≡ Ok (Some st) → Far (row_only d.needs) (Field kind 9 0) here ring k r' l
       → Far (row_more d.needs t) st next next (k + 1 + 1) (set (set r' (row_width * d.needs.rows + 9) (pos t)) (row_width * d.needs.rows + q) (pos n))
       (pasted l d.needs.letters (take t (drop here s)))
   lead-far {kind} q v a e h st g u = rw v.there (int-far refl e h v.number st g (word-far v.word (Field kind q 0) a u))
 
   -- two reals
   pair_far : {b : Needs} {kind here ring k x y next : ℕ} {r' : List ℤ} {l' : List ℕ} (q q' : ℕ) → b.rows ≡ d.needs.rows + 1 → FirstAt mode s here x y next → want_at q ≡ Real → q < row_width
-      → want_at q' ≡ Real → q' < row_width → field_of mode kind q 0 x ≡ Step.Go (Field kind q' 0) → (st : State) → field_of mode kind q' 0 y ≡ Step.Go st
+      → want_at q' ≡ Real → q' < row_width → field_of mode kind q 0 x ≡ Ok (Some (Field kind q' 0)) → (st : State) → field_of mode kind q' 0 y ≡ Ok (Some st)
       → Far b (Field kind q 0) here ring k r' l'
       → Far b st next next (k + 1 + 1) (set (set r' (row_width * d.needs.rows + q) (unlift x)) (row_width * d.needs.rows + q') (unlift y)) l'
   pair_far {b} {kind} q q' a v e h e' h' g st g' u =
@@ -180,34 +180,34 @@ pub counts-inside : {mode : Mode} {s : List ℕ} {at n m next : ℕ} → CountsA
 counts-inside f = omega (arith, (integer-inside f.second).1, f.there)
 
 -- a code that goes on leads to the next field
-pub code-sign : (mode : Mode) (n : ℕ) → CodeGoes mode 3 n → field_of mode 3 2 0 n ≡ Step.Go (Field 3 4 0)
+pub code-sign : (mode : Mode) (n : ℕ) → CodeGoes mode 3 n → field_of mode 3 2 0 n ≡ Ok (Some (Field 3 4 0))
 unfolding field_of next_of next_in schedule
 code-sign mode n c = go (eqb 2 2 && is_exact mode && not (is_listed 3 n)) c.st c.goes
   where
-    go : (b : Bool) (st : State) → cond b (Step.No unlisted_code) (Step.Go (Field 3 4 0)) ≡ Step.Go st → cond b (Step.No unlisted_code) (Step.Go (Field 3 4 0)) ≡ Step.Go (Field 3 4 0)
+    go : (b : Bool) (st : State) → cond b (Err Refusal.Code) (Ok (Some (Field 3 4 0))) ≡ Ok (Some st) → cond b (Err Refusal.Code) (Ok (Some (Field 3 4 0))) ≡ Ok (Some (Field 3 4 0))
     go true st e = absurd (let z : ◌≡◌ {A = ℕ} 0 1 = cc in omega arith)
     go false st e = refl
 
-pub code-mark : (mode : Mode) (n : ℕ) → CodeGoes mode 4 n → field_of mode 4 2 0 n ≡ Step.Go (Field 4 5 0)
+pub code-mark : (mode : Mode) (n : ℕ) → CodeGoes mode 4 n → field_of mode 4 2 0 n ≡ Ok (Some (Field 4 5 0))
 unfolding field_of next_of next_in schedule
 code-mark mode n c = go (eqb 2 2 && is_exact mode && not (is_listed 4 n)) c.st c.goes
   where
-    go : (b : Bool) (st : State) → cond b (Step.No unlisted_code) (Step.Go (Field 4 5 0)) ≡ Step.Go st → cond b (Step.No unlisted_code) (Step.Go (Field 4 5 0)) ≡ Step.Go (Field 4 5 0)
+    go : (b : Bool) (st : State) → cond b (Err Refusal.Code) (Ok (Some (Field 4 5 0))) ≡ Ok (Some st) → cond b (Err Refusal.Code) (Ok (Some (Field 4 5 0))) ≡ Ok (Some (Field 4 5 0))
     go true st e = absurd (let z : ◌≡◌ {A = ℕ} 0 1 = cc in omega arith)
     go false st e = refl
 
-code-path : (mode : Mode) (n : ℕ) → CodeGoes mode 5 n → field_of mode 5 2 0 n ≡ Step.Go (Field 5 11 0)
+code-path : (mode : Mode) (n : ℕ) → CodeGoes mode 5 n → field_of mode 5 2 0 n ≡ Ok (Some (Field 5 11 0))
 unfolding field_of next_of next_in schedule
 code-path mode n c = go (eqb 2 2 && is_exact mode && not (is_listed 5 n)) c.st c.goes
   where
-    go : (b : Bool) (st : State) → cond b (Step.No unlisted_code) (Step.Go (Field 5 11 0)) ≡ Step.Go st → cond b (Step.No unlisted_code) (Step.Go (Field 5 11 0)) ≡ Step.Go (Field 5 11 0)
+    go : (b : Bool) (st : State) → cond b (Err Refusal.Code) (Ok (Some (Field 5 11 0))) ≡ Ok (Some st) → cond b (Err Refusal.Code) (Ok (Some (Field 5 11 0))) ≡ Ok (Some (Field 5 11 0))
     go true st e = absurd (let z : ◌≡◌ {A = ℕ} 0 1 = cc in omega arith)
     go false st e = refl
 
 -- ---- a head of each kind
 
 module _ (mode : Mode) (s : List ℕ) (at w t : ℕ) (key : KeySays mode s at w t) where
-  border-puts : (n m j angle aw x y j' x2 y2 j'' i v next : ℕ) → t / 2 ≡ 1 → LeadAt mode s (at + w) n m j → RealAt mode s j aw angle → FirstAt mode s (j + aw) x y j' → FirstAt mode s j' x2 y2 j'' → CountsAt mode s j'' i v next → (st : State) → field_of mode 1 11 i v ≡ Step.Go st
+  border-puts : (n m j angle aw x y j' x2 y2 j'' i v next : ℕ) → t / 2 ≡ 1 → LeadAt mode s (at + w) n m j → RealAt mode s j aw angle → FirstAt mode s (j + aw) x y j' → FirstAt mode s j' x2 y2 j'' → CountsAt mode s j'' i v next → (st : State) → field_of mode 1 11 i v ≡ Ok (Some st)
       → (d : ReadStand) → d.state ≡ Due → d.at ≡ at → (r : List ℤ) (l is : List ℕ) (p : List ℤ)
       → (let B = row_width * d.needs.rows in
       Far mode s d r l is p (row_more d.needs n) st next next 10
@@ -262,7 +262,7 @@ module _ (mode : Mode) (s : List ℕ) (at w t : ℕ) (key : KeySays mode s at w 
       let c = pair_far mode s d r l is p 5 6 refl first refl (omega arith) refl (omega arith) refl (Field 4 7 0) refl b in
       pair_far mode s d r l is p 7 8 refl second refl (omega arith) refl (omega arith) refl Due refl c
 
-  path-puts : (m v next : ℕ) → t / 2 ≡ 5 → CountsAt mode s (at + w) m v next → CodeGoes mode 5 m → (st : State) → field_of mode 5 11 0 v ≡ Step.Go st
+  path-puts : (m v next : ℕ) → t / 2 ≡ 5 → CountsAt mode s (at + w) m v next → CodeGoes mode 5 m → (st : State) → field_of mode 5 11 0 v ≡ Ok (Some st)
       → (d : ReadStand) → d.state ≡ Due → d.at ≡ at → (r : List ℤ) (l is : List ℕ) (p : List ℤ)
       → (let B = row_width * d.needs.rows in
       Far mode s d r l is p (row_only d.needs) st next next 3

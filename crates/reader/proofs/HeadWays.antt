@@ -1,4 +1,7 @@
 -- The ways through the functions that see a record of a head. Assumes nothing.
+use Rattle.std.specs.Prelude.{Result, Ok}
+use Rattle.record.specs.declared.refusal.Refusal.{Refusal}
+use Rattle.record.specs.Record.{got}
 use mathlib.Core.Path.{◌≡◌, refl, sym, ◌∙◌, ap}
 use mathlib.Core.Bool.{Bool, true, false}
 use mathlib.Core.List.{List}
@@ -14,31 +17,26 @@ use Rattle.record.specs.declared.Line.{Line}
 use Rattle.record.specs.Record.{line_of}
 use Rattle.record.proofs.RecordLaws.{line_view}
 use Rattle.token.specs.Lex.{lex_of}
-use Rattle.token.specs.declared.Token.{Token}
-use Rattle.token.specs.declared.Token.TheVariants.{Say}
 use Rattle.token.specs.declared.Want.TheVariants.{Key}
 use Rattle.quick.specs.Seen.{IntegerAt}
-use Rattle.machine.specs.Machine.{field_of}
-use Rattle.machine.specs.declared.State.{State}
-use Rattle.machine.specs.declared.Step.{Step}
 use Rattle.reader.specs.Turn.{size_of}
-use Rattle.reader.specs.Heads.{KeySays, IsTrim, WordSays, LeadAt, CountsAt, CodeGoes, border_cells, note_cells, sign_cells, mark_cells, path_cells, rows_head, HeadAt, HeadRead}
+use Rattle.reader.specs.Heads.{KeySays, IsTrim, WordSays, LeadAt, CountsAt, border_cells, note_cells, sign_cells, mark_cells, path_cells, rows_head}
 use Rattle.reader.specs.declared.RowHead.{RowHead}
 use Rattle.reader.specs.declared.Said.{Said}
 use Rattle.reader.specs.declared.Size.{Size}
 use Rattle.reader.proofs.Fields.{size-read}
 use Rattle.reader.proofs.HeadTurns.{integer-inside, word-inside}
 
-module _ (mode : Mode) (s : List ℕ) (at : ℕ) (l : Line) (len width : ℕ) (f : l ≡ Line.Got len width) where
-  pub key-said : (x : Token) (t : ℕ) → x ≡ Token.Say t → l ≡ line_of mode true (tail s at) → x ≡ lex_of mode Key (take len (tail s at)) → KeySays mode s at width t
+module _ (mode : Mode) (s : List ℕ) (at : ℕ) (l : Result Line Refusal) (len width : ℕ) (f : l ≡ got len width) where
+  pub key-said : (x : Result ℕ Refusal) (t : ℕ) → x ≡ Ok t → l ≡ line_of mode true (tail s at) → x ≡ lex_of mode Key (take len (tail s at)) → KeySays mode s at width t
   key-said x t h q g = record { len = len; line = rw (rest-is s at) at (sym q ∙ f); says = rw (rest-is s at) at (sym g ∙ h) }
 
   pub word-said : (b : Bool) → l ≡ line_of mode false (tail s at) → (b ≡ true → IsTrim (take len (tail s at))) → b ≡ true → WordSays mode s at width len
   word-said b q g h =
-      let a : line_of mode false (drop at s) ≡ Line.Got len width = rw (rest-is s at) at (sym q ∙ f) in
+      let a : line_of mode false (drop at s) ≡ got len width = rw (rest-is s at) at (sym q ∙ f) in
       let t : IsTrim (take len (drop at s)) = rw (rest-is s at) at (g h) in
       let k : length (take len (drop at s)) ≡ len = (line_view mode false (drop at s) len width a).counted in
-      record { line = a; says = t.says mode ∙ ap Say k; bare = t.bare }
+      record { line = a; says = t.says mode ∙ ap Ok k; bare = t.bare }
 
 module _ (mode : Mode) (s : List ℕ) (at : ℕ) where
   pub integer-slow : (z : Size) → z ≡ size_of mode (tail s at) → 0 < z.width → IntegerAt mode s at z.width z.n
@@ -49,39 +47,28 @@ module _ (mode : Mode) (s : List ℕ) (at : ℕ) where
 
 -- ---- two records
 
-module _ (mode : Mode) (s : List ℕ) (at : ℕ) (x y : Said) (n : x.width ≡ 0 → ⊥) where
-  module _ (f : 0 < x.width → WordSays mode s at x.width x.token) where
+module _ (mode : Mode) (s : List ℕ) (at : ℕ) (x y : Said) where
+  module _ (f : WordSays mode s at x.width x.token) where
     pub lead-mid : at + x.width ≤ length s
-    lead-mid = (word-inside (f (omega arith))).1
+    lead-mid = (word-inside f).1
 
-    module _ (g : 0 < y.width → IntegerAt mode s (at + x.width) y.width y.token) (o : y.width ≡ 0 → ⊥) where
+    module _ (g : IntegerAt mode s (at + x.width) y.width y.token) where
       pub lead-end : at + x.width + y.width ≤ length s
-      lead-end = (integer-inside (g (omega arith))).1
+      lead-end = (integer-inside g).1
 
       pub lead_is : LeadAt mode s at x.token y.token (at + x.width + y.width)
-      lead_is = record { w = x.width; w' = y.width; word = f (omega arith); number = g (omega arith); there = refl }
+      lead_is = record { w = x.width; w' = y.width; word = f; number = g; there = refl }
 
-  module _ (f : 0 < x.width → IntegerAt mode s at x.width x.token) where
+  module _ (f : IntegerAt mode s at x.width x.token) where
     pub counts-mid : at + x.width ≤ length s
-    counts-mid = (integer-inside (f (omega arith))).1
+    counts-mid = (integer-inside f).1
 
-    module _ (g : 0 < y.width → IntegerAt mode s (at + x.width) y.width y.token) (o : y.width ≡ 0 → ⊥) where
+    module _ (g : IntegerAt mode s (at + x.width) y.width y.token) where
       pub counts_end : at + x.width + y.width ≤ length s
-      counts_end = (integer-inside (g (omega arith))).1
+      counts_end = (integer-inside g).1
 
       pub counts-is : CountsAt mode s at x.token y.token (at + x.width + y.width)
-      counts-is = record { w = x.width; w' = y.width; first = f (omega arith); second = g (omega arith); there = refl }
-
-pub code-goes : (mode : Mode) (kind n : ℕ) (x : Step) → x ≡ field_of mode kind 2 0 n → (st : State) → x ≡ Step.Go st → CodeGoes mode kind n
-code-goes mode kind n x e st f = record { st = st; goes = sym e ∙ f }
-
--- ---- a head
-
-pub unseen : (mode : Mode) (s : List ℕ) (at : ℕ) (judged : Bool) (h : RowHead) → h.next ≡ 0 → 0 < h.next → HeadRead mode s at judged h
-unseen mode s at judged h e f = absurd (omega (arith, e))
-
-pub unseen-head : (mode : Mode) (s : List ℕ) (at : ℕ) (h : RowHead) → h.next ≡ 0 → 0 < h.next → HeadAt mode s at h
-unseen-head mode s at h e f = absurd (omega (arith, e))
+      counts-is = record { w = x.width; w' = y.width; first = f; second = g; there = refl }
 
 -- ---- the numbers of a head, by its kind
 
@@ -108,8 +95,6 @@ module _ (h : RowHead) (b : ℕ) (l m : List ℤ) where
         pub cells-path : (h.token / 2 ≡ 4 → ⊥) → m ≡ path_cells h b l → m ≡ rows_head h b l
         unfolding rows_head
         cells-path e q = rw (ne_eqb (h.token / 2) 1 n, ne_eqb (h.token / 2) 2 o, ne_eqb (h.token / 2) 3 u, ne_eqb (h.token / 2) 4 e) q
-
-pub ruleset cells-ways = (cells-border, cells-note, cells-sign, cells-mark, cells-path)
 
 -- ---- for the proof files
 

@@ -13,7 +13,7 @@ use Rattle.kinds.specs.Kinds.{row_width}
 use Rattle.sheet.specs.Tables.{Tables}
 use Rattle.sheet.specs.Reading.{Reading, sheet, refused, reading}
 use Rattle.reader.specs.declared.Needs.{Needs}
-use Rattle.reader.specs.declared.Answer.TheVariants as Answer
+use Rattle.reader.specs.declared.Unread.TheVariants as Unread
 use Rattle.reader.specs.Columns.{reading_column}
 use Rattle.reader.specs.Read.{needs_of, Rooms, holds_all, read_with, refused_with, answered, read_of, counts_of}
 use Rattle.reader.proofs.Bytes.{tables-most}
@@ -32,16 +32,16 @@ needs-most mode bs h o q =
     record { rows = omega (arith, r); letters = omega (arith, w); islands = omega (arith, w); points = omega (arith, w) }
 
 -- **a file of n bytes, read in any mode, uses or needs at most these**
-pub counts-most : (mode : Mode) (bs : List ℕ) (r : Rooms) → Most (length bs) (counts_of (read_of mode bs r).answer)
+pub counts-most : (mode : Mode) (bs : List ℕ) (r : Rooms) → Most (length bs) (counts_of (read_of mode bs r))
 unfolding read_of
 counts-most mode bs r = by (reading mode bs) refl
   where
     room : (h : Header) (o : Tables) → Most (length bs) (needs_of o) → (b : Bool)
-        → Most (length bs) (counts_of (cond b (read_with (needs_of o) h) (refused_with (Answer.NoRoom (needs_of o)))).answer)
+        → Most (length bs) (counts_of (cond b (read_with (needs_of o) h) (refused_with (Unread.NoRoom (needs_of o)))))
     room h o m true = m
     room h o m false = m
 
-    by : (x : Reading) → reading mode bs ≡ x → Most (length bs) (counts_of (answered (reading_column mode bs) x r).answer)
+    by : (x : Reading) → reading mode bs ≡ x → Most (length bs) (counts_of (answered (reading_column mode bs) x r))
     by (sheet h o) e = room h o (needs-most mode bs h o e) (holds_all (needs_of o) r)
     by (refused m k at) e = record { rows = omega arith; letters = omega arith; islands = omega arith; points = omega arith }
 
@@ -65,7 +65,7 @@ enough-holds mode bs h o r n q l e =
     )
 
 -- **no room is never the answer there**: who lends so much need not ask for the needs first
-pub enough-read : (mode : Mode) (bs : List ℕ) (r : Rooms) (n : ℕ) → length bs ≤ n → Enough n r → (a : Needs) → read_of mode bs r ≡ refused_with (Answer.NoRoom a) → ⊥
+pub enough-read : (mode : Mode) (bs : List ℕ) (r : Rooms) (n : ℕ) → length bs ≤ n → Enough n r → (a : Needs) → read_of mode bs r ≡ refused_with (Unread.NoRoom a) → ⊥
 enough-read mode bs r n l e a q =
     let s = no-room-is mode bs r a q in
     false≢true (sym s.short ∙ enough-holds mode bs s.header s.tables r n s.sound l e)

@@ -3,7 +3,6 @@ use mathlib.Core.Path.{◌≡◌, refl, sym, ◌∙◌, subst}
 use mathlib.Core.Bool.{Bool, true, false}
 use mathlib.Core.List.{List}
 use Prim.Native.Nat.{ℕ, ◌+◌, ◌-◌, ◌*◌, ◌≤◌, ◌<◌}
-use native.Mathlib.Nat.{mul-pos}
 use native.Mathlib.Omega.{arith}
 use lib.IntN.{ℤ}
 use lib.Dec.{eqb}
@@ -73,23 +72,23 @@ module _ (mode : Mode) (s : List ℕ) (at islands n : ℕ) where
   only_none z kind =
       record { over = λ d i e p. subst (Turns mode s d) (behind-none d n at z (e ∙ sym (opened-none kind islands n z)) p) still }
 
-  module _ (o : n ≡ 0 → ⊥) (g : islands ≤ 0) (h : 2 ≤ n) (w : ℕ) (f : 0 < w → Usual mode s at w (2 * n)) (k : w ≡ 0 → ⊥) where
+  module _ (o : n ≡ 0 → ⊥) (g : islands ≤ 0) (h : 2 ≤ n) (w : ℕ) (f : Usual mode s at w (2 * n)) where
     module _ (kind : ℕ) (d : ReadStand) (i : InFile s d) (e : d.state ≡ opened_by kind islands n) (p : d.at ≡ at) where
       one-is : (d.state ≡ X (fresh_ring (eqb kind 1) 0 n)) × ((fresh_ring (eqb kind 1) 0 n).fresh ≡ true) × (2 ≤ n)
       one-is = (e ∙ sym (opened_one kind islands n o g), refl, h)
 
-      found : 0 < w → Usual mode s d.at w (2 * n)
-      found x = rw p (f x)
+      found : Usual mode s d.at w (2 * n)
+      found = rw p f
 
       one-turns : ShutAt s at w (at + w * (2 * n - 2)) (eqb kind 1) → Turns mode s d (behind_rings d n (at + w * (2 * n)))
       one-turns q =
-          let u = ring-turns mode s d i (fresh_ring (eqb kind 1) 0 n) one-is w found k (rw p q) in
+          let u = ring-turns mode s d i (fresh_ring (eqb kind 1) 0 n) one-is w found (rw p q) in
           let v = subst (Turns mode s d) (behind-one mode s d (eqb kind 1) n (d.at + w * (2 * n))) u in
           subst (λ (a : ℕ). Turns mode s d (behind_rings d n (a + w * (2 * n)))) p v
 
       one-stored : (from : ℕ) → d.needs.points ≡ from → Sure mode s d → (l : List ℤ) → Store.Stores mode s d l (behind_rings d n (at + w * (2 * n))) (stored_reals s at w (2 * from) l (2 * n))
       one-stored from y x l =
-          let u = ring-stored mode s d i (fresh_ring (eqb kind 1) 0 n) one-is w found k x l in
+          let u = ring-stored mode s d i (fresh_ring (eqb kind 1) 0 n) one-is w found x l in
           let S : ℕ → ℕ → Type 0 = λ a m. Store.Stores mode s d l (behind_rings d n (a + w * (2 * n))) (stored_reals s a w (2 * m) l (2 * n)) in
           let v : S d.at d.needs.points =
           subst (λ (b : ReadStand). Store.Stores mode s d l b (stored_reals s d.at w (2 * d.needs.points) l (2 * n))) (behind-one mode s d (eqb kind 1) n (d.at + w * (2 * n))) u in
@@ -102,20 +101,12 @@ module _ (mode : Mode) (s : List ℕ) (at islands n : ℕ) where
     -- ---- the ways of `only_into`
 
     pub only-stored : (from : ℕ) (l m : List ℤ) → m ≡ stored_reals s at w (2 * from) l (2 * n) → RingInto mode s at islands n from l (at + w * (2 * n)) m
-    only-stored from l m q =
-        let far : 0 < w * (2 * n) = mul-pos (omega arith) (omega arith) in
-        record { kept = λ z. absurd (omega arith); stores = λ _ kind d i x e p y. rw q (one-stored kind d i e p from y x l) }
+    only-stored from l m q = record { stores = λ kind d i x e p y. rw q (one-stored kind d i e p from y x l) }
 
   module _ (from : ℕ) (l : List ℤ) where
     pub into-none : n ≡ 0 → RingInto mode s at islands n from l at l
     into-none z =
-        record {
-          kept = λ _. refl;
-          stores = λ _ kind d i x e p y. subst (λ (b : ReadStand). Store.Stores mode s d l b l) (behind-none d n at z (e ∙ sym (opened-none kind islands n z)) p) Store.still;
-        }
-
-    pub into-not : RingInto mode s at islands n from l 0 l
-    into-not = record { kept = λ _. refl; stores = λ h. absurd (omega arith) }
+        record { stores = λ kind d i x e p y. subst (λ (b : ReadStand). Store.Stores mode s d l b l) (behind-none d n at z (e ∙ sym (opened-none kind islands n z)) p) Store.still }
 
   -- what `trusted_width` asks
   pub trusts : (0 < n → islands ≡ 0 → is_exact mode ≡ true → Usual mode s at 14 (2 * n)) → (n ≡ 0 → ⊥) → islands ≤ 0 → is_exact mode ≡ true → Usual mode s at 14 (2 * n)

@@ -1,4 +1,8 @@
 -- A whole ring in its usual form is so many turns of the walk. Assumes nothing.
+use Rattle.std.specs.Prelude.{Option, Some, None, Ok}
+use Rattle.record.specs.declared.refusal.Refusal.TheVariants as Refusal
+use Rattle.machine.specs.Machine.{Step}
+use Rattle.reader.specs.Turn.{onward, halted}
 use mathlib.Core.Path.{◌≡◌, refl, sym, ◌∙◌, ap, subst}
 use mathlib.Core.Bool.{Bool, true, false, not, ◌&&◌, ◌||◌}
 use mathlib.Core.List.{List, []}
@@ -10,23 +14,20 @@ use lib.ListN.{length, get_or, take, drop, set, length-set, length-drop}
 use lib.Seq.{ext_get_or}
 use lib.Dec.{eqb}
 use lib.IntN.{ℤ}
-use borrow.Author.Tests.{le-leb, eq-eqb, ne_eqb, eqb-true, eqb-false, not-false}
+use borrow.Author.Tests.{le-leb, eq-eqb, eqb-true, eqb-false, not-false}
 use Rattle.laws.specs.Lists.{tail}
 use Rattle.laws.proofs.ListLaws.{rest-is}
 use Rattle.laws.proofs.Choice.{and_left, and_right}
 use Rattle.record.specs.declared.Mode.{Mode}
 use Rattle.record.specs.declared.Mode.TheVariants.{Exact}
 use Rattle.record.specs.Record.{is_exact}
-use Rattle.record.specs.Refusals.{open_ring, file_most}
+use Rattle.record.specs.Refusals.{file_most}
 use Rattle.record.proofs.RecordLaws.{line_view}
-use Rattle.number.specs.declared.Whole.{Whole}
 use Rattle.number.specs.Number.{integer_of, real_of}
 use Rattle.number.proofs.NumberLaws.{integer-most}
 use Rattle.token.specs.Lex.{unlift, of_whole, lex_of}
-use Rattle.token.specs.declared.Token.{Token}
 use Rattle.token.specs.declared.Want.TheVariants.{Int}
 use Rattle.quick.specs.declared.IntegerTaken.{IntegerTaken}
-use Rattle.quick.specs.declared.UsualRun.{UsualRun}
 use Rattle.quick.specs.Seen.{RealAt, UsualAt, Usual, ValueAt, IntegerAt}
 use Rattle.quick.proofs.Places.{real-inside, real-most}
 use Rattle.quick.proofs.UsualLaws.{usual-long, usual-real}
@@ -34,15 +35,13 @@ use Rattle.machine.specs.Machine.{want_of, is_shut, ring_step, vertex_of, step_o
 use Rattle.machine.specs.declared.Ring.{Ring}
 use Rattle.machine.specs.declared.State.{State}
 use Rattle.machine.specs.declared.State.TheVariants.{Island, X}
-use Rattle.machine.specs.declared.Step.{Step}
-use Rattle.reader.specs.Turn.{size_of, size_next, added, turn_of, InFile, Turns, still, on, behind_rings, begun, FirstAt}
+use Rattle.reader.specs.Turn.{size_of, size_next, added, turn_of, InFile, Turns, still, on, begun, FirstAt}
 use Rattle.reader.specs.Store.{token_most}
 use Rattle.reader.specs.Store as Store
 use Rattle.reader.specs.Trust.{Sure}
-use Rattle.reader.specs.RingRun.{of_real, real_in, stored_reals, Storable, ShutAt, at_next, past_ring, behind_ring, past_islands, IslandsPut}
+use Rattle.reader.specs.RingRun.{of_real, real_in, stored_reals, Storable, ShutAt, past_ring, behind_ring, past_islands, IslandsPut}
 use Rattle.reader.specs.declared.Size.{Size}
 use Rattle.reader.specs.declared.ReadStand.{ReadStand}
-use Rattle.reader.specs.declared.Turn.{Turn}
 use Rattle.reader.proofs.Standing.{size-width}
 use Rattle.reader.proofs.Running.{half, x-turn, fresh-into-on, stores-turns}
 use Rattle.reader.proofs.Fields.{SizeRead, size-read}
@@ -116,7 +115,7 @@ module _ (mode : Mode) (s : List ℕ) (at w n : ℕ) (u : Usual mode s at w n) w
 -- ---- the last vertex of a ring
 
 module _ (mode : Mode) (s : List ℕ) (d : ReadStand) (r : Ring) (k a w x y : ℕ) (p : RealAt mode s a w y) (e : k + 1 ≡ r.left) where
-  last-any : is_shut r.closed r.fx r.fy x y ≡ true → turn_of mode s (half d r k x a) ≡ Turn.On (behind_ring mode s d r (a + w)) y p.len
+  last-any : is_shut r.closed r.fx r.fy x y ≡ true → turn_of mode s (half d r k x a) ≡ onward (behind_ring mode s d r (a + w)) y p.len
   unfolding turn_of one_of want_of step_of vertex_of ring_step added size_next behind_ring
   last-any q = go (eqb r.rings 0) refl
     where
@@ -129,11 +128,11 @@ module _ (mode : Mode) (s : List ℕ) (d : ReadStand) (r : Ring) (k a w x y : �
       o : d.ring + 0 ≡ d.ring
       o = omega arith
 
-      go : (b : Bool) → eqb r.rings 0 ≡ b → turn_of mode s (half d r k x a) ≡ Turn.On (behind_ring mode s d r (a + w)) y p.len
+      go : (b : Bool) → eqb r.rings 0 ≡ b → turn_of mode s (half d r k x a) ≡ onward (behind_ring mode s d r (a + w)) y p.len
       go true z = rw (p.line, p.says, le-leb (r.left - k) 1 (omega arith), q, z, f, g, o)
       go false z = rw (p.line, p.says, le-leb (r.left - k) 1 (omega arith), q, z, f, g)
 
-  last-open : is_shut r.closed r.fx r.fy x y ≡ false → turn_of mode s (half d r k x a) ≡ Turn.Refused open_ring (d.nth + 2 * k + 1) a
+  last-open : is_shut r.closed r.fx r.fy x y ≡ false → turn_of mode s (half d r k x a) ≡ halted Refusal.OpenRing (d.nth + 2 * k + 1) a
   unfolding turn_of one_of want_of step_of vertex_of ring_step
   last-open q = rw (p.line, p.says, le-leb (r.left - k) 1 (omega arith), q)
 
@@ -142,7 +141,7 @@ module _ (mode : Mode) (s : List ℕ) (d : ReadStand) (r : Ring) (k a w x y : �
     where
       go : (b : Bool) → is_shut r.closed r.fx r.fy x y ≡ b → is_shut r.closed r.fx r.fy x y ≡ true
       go true z = z
-      go false z = absurd (h.never (half d r k x a) t open_ring (d.nth + 2 * k + 1) a (last-open z))
+      go false z = absurd (h.never (half d r k x a) t Refusal.OpenRing (d.nth + 2 * k + 1) a (last-open z))
 
 behind-begun : (mode : Mode) (s : List ℕ) (d : ReadStand) (r : Ring) (x y at : ℕ) → behind_ring mode s d (begun r x y) at ≡ behind_ring mode s d r at
 unfolding behind_ring
@@ -188,7 +187,7 @@ module _ (mode : Mode) (s : List ℕ) (d : ReadStand) (i : InFile s d) (r : Ring
       let h = head in
       let a = real-inside h.real-x in
       let b = real-inside h.real-y in
-      fresh-into-on mode s d i r c x₀ y₀ (d.at + w * (2 * 1)) (λ _. h) (λ z. absurd (omega arith)) l (set l (2 * d.needs.points) (unlift x₀)) (table (2 * 1)) (table (2 * k)) refl head-stored
+      fresh-into-on mode s d i r c x₀ y₀ (d.at + w * (2 * 1)) h l (set l (2 * d.needs.points) (unlift x₀)) (table (2 * 1)) (table (2 * k)) refl head-stored
       (r.left - 2) last (omega arith, rest-stored mode s d.at w (2 * r.left) u d.needs.points l (r.left - 2) (omega (arith, c.2))) (begun r x₀ y₀) refl
       (half d (begun r x₀ y₀) k (real_in s last) (last + w)) _
       (Store.on Store.still tt (x-turn mode s d (begun r x₀ y₀) k last w (real_in s last) (x-there mode s d.at w (2 * r.left) u k (omega (arith, c.2)))))
@@ -214,13 +213,13 @@ module _ (mode : Mode) (s : List ℕ) (d : ReadStand) (i : InFile s d) (r : Ring
 
 -- ---- the ways of `size_at`
 
-said-whole : (mode : Mode) (c : List ℕ) (n : ℕ) → lex_of mode Int c ≡ Token.Say n → integer_of mode c ≡ Whole.Is n
+said-whole : (mode : Mode) (c : List ℕ) (n : ℕ) → lex_of mode Int c ≡ Ok n → integer_of mode c ≡ Some n
 unfolding lex_of
 said-whole mode c n = go (integer_of mode c) refl
   where
-    go : (w : Whole) → integer_of mode c ≡ w → of_whole w ≡ Token.Say n → integer_of mode c ≡ Whole.Is n
-    go (Whole.Is t) e q = let z : t ≡ n = cc in e ∙ ap Whole.Is z
-    go Whole.Malformed e q = absurd (let z : ◌≡◌ {A = ℕ} 0 1 = cc in omega arith)
+    go : (w : Option ℕ) → integer_of mode c ≡ w → of_whole w ≡ Ok n → integer_of mode c ≡ Some n
+    go (Some t) e q = let z : t ≡ n = cc in e ∙ ap Some z
+    go None e q = absurd (let z : ◌≡◌ {A = ℕ} 0 1 = cc in omega arith)
 
 pub size-quick : (mode : Mode) (s : List ℕ) (at : ℕ) (q : IntegerTaken) → (0 < q.width → IntegerAt mode s at q.width q.value) → 0 < q.width → record { n = q.value; width = q.width } ≡ size_of mode (drop at s)
 unfolding size_of
@@ -228,10 +227,6 @@ size-quick mode s at q f h = let r = f h in rw (r.line, said-whole mode (take r.
 
 pub size-slow : (mode : Mode) (s : List ℕ) (at : ℕ) (z : Size) → z ≡ size_of mode (tail s at) → z ≡ size_of mode (drop at s)
 size-slow mode s at z e = e ∙ ap (size_of mode) (rest-is s at)
-
--- the way of `judged_width`
-pub width-judged : (mode : Mode) (s : List ℕ) (at n : ℕ) (r : UsualRun) → (r.count ≤ n) × Usual mode s at r.width r.count → n ≤ r.count → 0 < r.width → Usual mode s at r.width n
-width-judged mode s at n r j h _ = let z : r.count ≡ n = omega (arith, j.0) in subst (Usual mode s at r.width) z j.1
 
 -- ---- the same real twice
 
@@ -277,21 +272,9 @@ module _ (s : List ℕ) (at w last : ℕ) (closed : Bool) where
       let b = same_in s (at + w) (last + w) (g (and_right x y q)) in
       record { shut = λ mode _ _ _ _. rw (a, b, eq-eqb (real_in s last) (real_in s last) refl, eq-eqb (real_in s (last + w)) (real_in s (last + w)) refl) (or-true (not closed)) }
 
--- ---- the ways of `past_ring`
-
-module _ (d : ReadStand) (r : Ring) (at : ℕ) (z : Size) where
-  pub past-last : (e : ReadStand) → e ≡ behind_rings d r.left at → r.rings ≡ 0 → e ≡ past_ring d r at z
-  past-last e q h = q ∙ rw h
-
-  pub past_next : (r.rings ≡ 0 → ⊥) → at_next d r at z ≡ past_ring d r at z
-  past_next n = rw (ne_eqb r.rings 0 n)
-
 -- ---- a run that is a ring: what a width that was found says, of n vertices
 
-module _ (mode : Mode) (s : List ℕ) (at w n : ℕ) (f : 0 < w → Usual mode s at w (2 * n)) (o : w ≡ 0 → ⊥) where
-  pub run-usual : Usual mode s at w (2 * n)
-  run-usual = f (omega arith)
-
+module _ (mode : Mode) (s : List ℕ) (at w n : ℕ) (run-usual : Usual mode s at w (2 * n)) where
   pub run_inside : at ≤ length s → at + w * (2 * n) ≤ length s
   run_inside = run-usual.inside
 
@@ -325,16 +308,13 @@ run_room mode s at w n from u m h l v f t = let a = f (not-false v t) in record 
 
 -- a ring of at least two vertices, all of it to come
 module _ (mode : Mode) (s : List ℕ) (d : ReadStand) (i : InFile s d) (r : Ring) (c : (d.state ≡ X r) × (r.fresh ≡ true) × (2 ≤ r.left)) (w : ℕ)
-    (f : 0 < w → Usual mode s d.at w (2 * r.left)) (o : w ≡ 0 → ⊥) where
-  usual : Usual mode s d.at w (2 * r.left)
-  usual = run-usual mode s d.at w r.left f o
-
+    (usual : Usual mode s d.at w (2 * r.left)) where
   place : d.at + w * (2 * r.left - 2) ≡ d.at + w * (2 * (r.left - 2 + 1))
   place = let a = c.2 in ap (λ (j : ℕ). d.at + w * j) (omega arith)
 
   pub ring-turns : ShutAt s d.at w (d.at + w * (2 * r.left - 2)) r.closed → Turns mode s d (behind_ring mode s d r (d.at + w * (2 * r.left)))
   ring-turns q =
-      let h = run-shut mode s d.at w r.left f o c.2 r.closed q in
+      let h = run-shut mode s d.at w r.left usual c.2 r.closed q in
       let k = subst (λ (p : ℕ). is_shut r.closed (real_in s d.at) (real_in s (d.at + w)) (real_in s p) (real_in s (p + w)) ≡ true) place h in
       stores-turns (ring-stores mode s d i r c w usual [] k)
 
@@ -366,12 +346,12 @@ module _ (mode : Mode) (s : List ℕ) (d : ReadStand) (i : InFile s d) (r : Ring
     unfolding behind_ring
     behind-is at y h = h ∙ rw q
 
-    module _ (w : ℕ) (g : 0 < w → Usual mode s d.at w (2 * r.left)) (n : w ≡ 0 → ⊥) (y : ReadStand) (h : y ≡ past_ring d r (d.at + w * (2 * r.left)) z) where
+    module _ (w : ℕ) (g : Usual mode s d.at w (2 * r.left)) (y : ReadStand) (h : y ≡ past_ring d r (d.at + w * (2 * r.left)) z) where
       pub skim-on : (b' : Bool) → (b' ≡ true → ShutAt s d.at w (d.at + w * (2 * r.left - 2)) r.closed) → not b' ≡ false → Turns mode s d y
-      skim-on b' f' t' = rw (behind-is (d.at + w * (2 * r.left)) y h) (ring-turns mode s d i r fresh-is w g n (f' (not-false b' t')))
+      skim-on b' f' t' = rw (behind-is (d.at + w * (2 * r.left)) y h) (ring-turns mode s d i r fresh-is w g (f' (not-false b' t')))
 
       pub into-on : Sure mode s d → (l m : List ℤ) → m ≡ stored_reals s d.at w (2 * d.needs.points) l (2 * r.left) → Store.Stores mode s d l y m
-      into-on k l m p = rw (p, behind-is (d.at + w * (2 * r.left)) y h) (ring-stored mode s d i r fresh-is w g n k l)
+      into-on k l m p = rw (p, behind-is (d.at + w * (2 * r.left)) y h) (ring-stored mode s d i r fresh-is w g k l)
 
 -- ---- the ways of `values_into`
 
@@ -423,7 +403,7 @@ module _ (s : List ℕ) (at w n cell : ℕ) (l : List ℤ) (a : Storable s at w 
 -- ---- island counts
 
 module _ (mode : Mode) (s : List ℕ) (d : ReadStand) (a b c here k : ℕ) (z : Size) (r : SizeRead mode (drop here s) z) where
-  island-turn : (st : State) → step_of mode (Island a b c) z.n 0 ≡ Step.Go st → turn_of mode s (past_islands d (Island a b c) here k) ≡ Turn.On (past_islands d st (here + z.width) (k + 1)) z.n r.len
+  island-turn : (st : State) → step_of mode (Island a b c) z.n 0 ≡ Ok (Some st) → turn_of mode s (past_islands d (Island a b c) here k) ≡ onward (past_islands d st (here + z.width) (k + 1)) z.n r.len
   unfolding turn_of one_of want_of lex_of added size_next
   island-turn st g =
       let p : d.nth + k + 1 ≡ d.nth + (k + 1) = omega arith in
@@ -478,7 +458,7 @@ module _ (mode : Mode) (s : List ℕ) (d : ReadStand) (w : InFile s d) (i : List
         let l = line_view mode false (drop here s) r.len z.width r.line in
         (l.some, omega (arith, l.some, l.within, length-drop here s), integer-most mode (take r.len (drop here s)) z.n r.number)
 
-    module _ (a b c : ℕ) (p : st ≡ Island a b c) (x : Step) (g : x ≡ step_of mode (Island a b c) z.n 0) (st' : State) (h : x ≡ Step.Go st') where
+    module _ (a b c : ℕ) (p : st ≡ Island a b c) (x : Step) (g : x ≡ step_of mode (Island a b c) z.n 0) (st' : State) (h : x ≡ Ok (Some st')) where
       pub counting-on : (m' : List ℕ) → m' ≡ set m (d.needs.islands + k) z.n → Counting mode s d i st' (here + z.width) (k + 1) m'
       counting-on m' o =
           let f = count-inside in
@@ -520,7 +500,7 @@ module _ (mode : Mode) (s : List ℕ) (d : ReadStand) (w : InFile s d) (st : Sta
         let l = line_view mode false (drop here s) r.len z.width r.line in
         (l.some, omega (arith, l.some, l.within, length-drop here s))
 
-    module _ (a b c : ℕ) (p : st ≡ Island a b c) (x : Step) (g : x ≡ step_of mode (Island a b c) z.n 0) (st' : State) (h : x ≡ Step.Go st') where
+    module _ (a b c : ℕ) (p : st ≡ Island a b c) (x : Step) (g : x ≡ step_of mode (Island a b c) z.n 0) (st' : State) (h : x ≡ Ok (Some st')) where
       pub counted-on : Counted mode s d st' (here + z.width) (k + 1)
       counted-on =
           let f = said_in in

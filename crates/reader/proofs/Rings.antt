@@ -1,6 +1,10 @@
 -- The sizes of the rings that are to come: those of the table are those that stand in the file. Assumes nothing.
-use mathlib.Core.Path.{◌≡◌, refl, sym, ◌∙◌, ap, ap₂, subst}
-use mathlib.Core.Bool.{Bool, true, false, cond, not, ◌&&◌, ◌||◌}
+use Rattle.std.specs.Prelude.{Option, Some, None, Ok, Err}
+use Rattle.record.specs.declared.refusal.Refusal.TheVariants as Refusal
+use Rattle.machine.specs.Machine.{Step}
+use Rattle.record.specs.Record.{got}
+use mathlib.Core.Path.{◌≡◌, refl, sym, ◌∙◌, ap, subst}
+use mathlib.Core.Bool.{Bool, true, false, cond, not, ◌&&◌}
 use mathlib.Core.List.{List, [], ◌∷◌, ◌++◌, append_assoc}
 use Prim.Native.Nat.{ℕ, zero, suc, ◌+◌, ◌-◌, ◌*◌, ◌/◌, ◌≤◌, ◌<◌}
 use native.Mathlib.Omega.{arith}
@@ -10,21 +14,16 @@ use lib.Dec.{leb, eqb}
 use borrow.Author.Tests.{leb-true, leb-false, eqb-false}
 use Rattle.laws.proofs.Choice.{cond-elim}
 use Rattle.record.specs.declared.Mode.{Mode}
-use Rattle.record.specs.declared.Line.{Line}
 use Rattle.record.specs.Record.{is_exact, line_of}
-use Rattle.number.specs.declared.Whole.{Whole}
 use Rattle.number.specs.Number.{integer_of}
 use Rattle.token.specs.Lex.{of_whole, lex_of}
-use Rattle.token.specs.declared.Token.{Token}
 use Rattle.kinds.specs.Kinds.{next_of, fixed_vertices, is_listed}
 use Rattle.machine.specs.Machine.{want_of, is_due, vertices_of, fields_end, field_of, island_of, is_shut, ring_step, vertex_of, key_step, step_of}
 use Rattle.machine.specs.declared.Ring.{Ring}
 use Rattle.machine.specs.declared.State.{State}
 use Rattle.machine.specs.declared.State.TheVariants.{Due, Field, Island, X, Y}
-use Rattle.machine.specs.declared.Step.{Step}
-use Rattle.machine.specs.declared.Step.TheVariants.{Go, No, End}
-use Rattle.sheet.specs.Tables.{Tables, put, rings_of, ring_after}
-use Rattle.reader.specs.Turn.{no_size, sized, size_line, size_of, is_turning, size_next, isl_next}
+use Rattle.sheet.specs.Tables.{Tables, put, ring_after}
+use Rattle.reader.specs.Turn.{no_size, sized, size_of, is_turning, size_next, isl_next}
 
 -- the first n numbers of the records
 unfoldable pub counts : Mode → ℕ → List ℕ → List ℕ
@@ -66,9 +65,9 @@ ring-next mode s (Y r x) o at ring h t = rw t (counts-head mode r.rings o.island
 -- ---- after a record
 
 abbrev StepPend : Mode → List ℕ → List ℕ → ℕ → ℕ → Step → Type 0
-StepPend mode s I at ring (Go st) = Pend mode s st I at ring
-StepPend mode s I at ring (No m) = Unit {0}
-StepPend mode s I at ring End = Unit {0}
+StepPend mode s I at ring (Ok (Some st)) = Pend mode s st I at ring
+StepPend mode s I at ring (Err m) = Unit {0}
+StepPend mode s I at ring (Ok None) = Unit {0}
 
 module _ (mode : Mode) (s I : List ℕ) (at : ℕ) where
   none_left : (ring : ℕ) → (0 ≤ length I) × (drop (length I - 0) I ≡ counts mode 0 (drop ring s))
@@ -174,8 +173,8 @@ ring-pend mode s I at ring next r fx fy x y h = go (leb r.left 1) (eqb r.rings 0
 
     go : (a b : Bool) → eqb r.rings 0 ≡ b
         → StepPend mode s I at (ring + (cond (a && not b) (size_of mode (drop ring s)) no_size).width)
-        (cond a (cond (is_shut r.closed fx fy x y) (cond b (Go Due) (Go (X (record { closed = r.closed; fresh = true; rings = r.rings - 1; left = next; fx = 0; fy = 0 })))) (No 12))
-        (Go (X (record { closed = r.closed; fresh = false; rings = r.rings; left = r.left - 1; fx = fx; fy = fy }))))
+        (cond a (cond (is_shut r.closed fx fy x y) (cond b (Ok (Some Due)) (Ok (Some (X (record { closed = r.closed; fresh = true; rings = r.rings - 1; left = next; fx = 0; fy = 0 }))))) (Err Refusal.OpenRing))
+        (Ok (Some (X (record { closed = r.closed; fresh = false; rings = r.rings; left = r.left - 1; fx = fx; fy = fy })))))
     go true true e = cond-elim (StepPend mode s I at (ring + 0)) (is_shut r.closed fx fy x y) _ _ (λ _. tt) (λ _. tt)
     go true false e =
         cond-elim (StepPend mode s I at (ring + (size_of mode (drop ring s)).width)) (is_shut r.closed fx fy x y) _ _
@@ -188,18 +187,18 @@ ring-pend mode s I at ring next r fx fy x y h = go (leb r.left 1) (eqb r.rings 0
     go false b e = stay (ring + 0) refl
 
 -- a record that says an island's count, by its line
-size_is : (mode : Mode) (bs : List ℕ) (len width t : ℕ) → line_of mode false bs ≡ Line.Got len width → of_whole (integer_of mode (take len bs)) ≡ Token.Say t
+size_is : (mode : Mode) (bs : List ℕ) (len width t : ℕ) → line_of mode false bs ≡ got len width → of_whole (integer_of mode (take len bs)) ≡ Ok t
     → size_of mode bs ≡ record { n = t; width = width }
 unfolding size_of
 size_is mode bs len width t e f = rw e (go (integer_of mode (take len bs)) f)
   where
-    go : (w : Whole) → of_whole w ≡ Token.Say t → sized width w ≡ record { n = t; width = width }
-    go (Whole.Is n) q = let z : n ≡ t = cc in ap (λ (k : ℕ). record { n = k; width = width }) z
-    go Whole.Malformed q = absurd (let z : ◌≡◌ {A = ℕ} 0 1 = cc in omega arith)
+    go : (w : Option ℕ) → of_whole w ≡ Ok t → sized width w ≡ record { n = t; width = width }
+    go (Some n) q = let z : n ≡ t = cc in ap (λ (k : ℕ). record { n = k; width = width }) z
+    go None q = absurd (let z : ◌≡◌ {A = ℕ} 0 1 = cc in omega arith)
 
 -- the sizes to come, after any record
 step-pend : (mode : Mode) (s : List ℕ) (st : State) (t len width : ℕ) (c : List ℕ) (o : Tables) (at ring next : ℕ)
-    → Pend mode s st o.islands at ring → line_of mode (is_due st) (drop at s) ≡ Line.Got len width → lex_of mode (want_of st) (take len (drop at s)) ≡ Token.Say t
+    → Pend mode s st o.islands at ring → line_of mode (is_due st) (drop at s) ≡ got len width → lex_of mode (want_of st) (take len (drop at s)) ≡ Ok t
     → StepPend mode s (put st t c o).islands (at + width) (isl_next st ring (size_next mode st (drop ring s)).width (at + width)) (step_of mode st t next)
 unfolding step_of put size_next want_of lex_of vertex_of
 step-pend mode s Due t len width c o at ring next h e f = key-pend mode s o.islands (at + width) ring t
@@ -210,8 +209,8 @@ step-pend mode s (X r) t len width c o at ring next h e f = h
 step-pend mode s (Y r x) t len width c o at ring next h e f = ring-pend mode s o.islands (at + width) ring next r _ _ x t h
 
 pub go-pend : (mode : Mode) (s : List ℕ) (st st' : State) (t len width : ℕ) (c : List ℕ) (o : Tables) (at ring next : ℕ)
-    → Pend mode s st o.islands at ring → line_of mode (is_due st) (drop at s) ≡ Line.Got len width → lex_of mode (want_of st) (take len (drop at s)) ≡ Token.Say t
-    → step_of mode st t next ≡ Go st'
+    → Pend mode s st o.islands at ring → line_of mode (is_due st) (drop at s) ≡ got len width → lex_of mode (want_of st) (take len (drop at s)) ≡ Ok t
+    → step_of mode st t next ≡ Ok (Some st')
     → Pend mode s st' (put st t c o).islands (at + width) (isl_next st ring (size_next mode st (drop ring s)).width (at + width))
 go-pend mode s st st' t len width c o at ring next h e f g =
     subst (StepPend mode s (put st t c o).islands (at + width) (isl_next st ring (size_next mode st (drop ring s)).width (at + width))) g (step-pend mode s st t len width c o at ring next h e f)
@@ -227,10 +226,10 @@ step-free mode (Y r x) t a b e = go (leb r.left 1) (eqb r.rings 0) e
   where
     last : Bool → ℕ → Step
     last q n = cond (is_shut r.closed (cond r.fresh x r.fx) (cond r.fresh t r.fy) x t)
-        (cond q (Go Due) (Go (X (record { closed = r.closed; fresh = true; rings = r.rings - 1; left = n; fx = 0; fy = 0 })))) (No 12)
+        (cond q (Ok (Some Due)) (Ok (Some (X (record { closed = r.closed; fresh = true; rings = r.rings - 1; left = n; fx = 0; fy = 0 }))))) (Err Refusal.OpenRing)
 
     on : Step
-    on = Go (X (record { closed = r.closed; fresh = false; rings = r.rings; left = r.left - 1; fx = cond r.fresh x r.fx; fy = cond r.fresh t r.fy }))
+    on = Ok (Some (X (record { closed = r.closed; fresh = false; rings = r.rings; left = r.left - 1; fx = cond r.fresh x r.fx; fy = cond r.fresh t r.fy })))
 
     go : (p q : Bool) → (p && not q) ≡ false → cond p (last q a) on ≡ cond p (last q b) on
     go true true e = refl

@@ -1,4 +1,8 @@
 -- Whole rows one behind the other: what a head and its only ring make of a stand, and what they leave in the tables. Assumes nothing.
+use Rattle.std.specs.Prelude.{Result, Ok, Err}
+use Rattle.record.specs.declared.refusal.Refusal.{Refusal}
+use Rattle.record.specs.declared.refusal.Refusal.TheVariants as Refusal
+use Rattle.reader.specs.Turn.{onward, halted, finished}
 use mathlib.Core.Path.{◌≡◌, refl, sym, ◌∙◌, ap, subst}
 use mathlib.Core.Bool.{Bool, true, false, cond}
 use mathlib.Core.List.{List, []}
@@ -30,7 +34,7 @@ use Rattle.reader.specs.RingRun.{RingOver, RingInto}
 use Rattle.reader.specs.declared.Needs.{Needs}
 use Rattle.reader.specs.declared.ReadStand.{ReadStand}
 use Rattle.reader.specs.declared.RowHead.{RowHead}
-use Rattle.reader.specs.declared.Turn.{Turn}
+use Rattle.reader.proofs.Standing.{onward-is}
 use Rattle.reader.proofs.Running.{turns-join, stores-turns}
 use Rattle.reader.proofs.HeadTurns.{puts-turns}
 use Rattle.reader.proofs.Trusted.{sure-on, sure-usual}
@@ -39,29 +43,26 @@ use Rattle.reader.proofs.Rows.{turns-inside, Skimmed, skimmed-on, puts-join, sto
 -- ---- turns go forward
 
 -- a record has a byte at least
-turn-past : (mode : Mode) (s : List ℕ) (d e : ReadStand) (t len : ℕ) → turn_of mode s d ≡ Turn.On e t len → d.at < e.at
+turn-past : (mode : Mode) (s : List ℕ) (d e : ReadStand) (t len : ℕ) → turn_of mode s d ≡ onward e t len → d.at < e.at
 unfolding turn_of
 turn-past mode s d e t len q = by (one_of mode d.state (size_next mode d.state (drop d.ring s)).n (drop d.at s)) (one-view mode d.state (size_next mode d.state (drop d.ring s)).n (drop d.at s)) q
   where
-    shut : (m : Mode) (k next size : ℕ) → closing m k next size ≡ Turn.On e t len → d.at < e.at
+    shut : (m : Mode) (k next size : ℕ) → closing m k next size ≡ onward e t len → d.at < e.at
     shut Loose k next size r = absurd (let z : ◌≡◌ {A = ℕ} 0 1 = cc in omega arith)
     shut Former k next size r = absurd (let z : ◌≡◌ {A = ℕ} 0 1 = cc in omega arith)
     shut Exact k next size r = go (leb size next) r
       where
-        go : (x : Bool) → cond x Turn.Done (Turn.Refused 13 k next) ≡ Turn.On e t len → d.at < e.at
+        go : (x : Bool) → cond x finished (halted Refusal.AfterEof k next) ≡ onward e t len → d.at < e.at
         go true y = absurd (let z : ◌≡◌ {A = ℕ} 0 1 = cc in omega arith)
         go false y = absurd (let z : ◌≡◌ {A = ℕ} 0 1 = cc in omega arith)
 
-    by : (w : One) → OneView mode d.state (size_next mode d.state (drop d.ring s)).n (drop d.at s) w
-        → turned mode d (length s) (size_next mode d.state (drop d.ring s)).width w ≡ Turn.On e t len → d.at < e.at
-    by (One.Go st t' len' w) v r =
-        let z : d.at + w ≡ e.at = ap (λ (x : ReadStand). x.at) (on-is r) in
+    by : (w : Result One Refusal) → OneView mode d.state (size_next mode d.state (drop d.ring s)).n (drop d.at s) w
+        → turned mode d (length s) (size_next mode d.state (drop d.ring s)).width w ≡ onward e t len → d.at < e.at
+    by (Ok (One.Go st t' len' w)) v r =
+        let z : d.at + w ≡ e.at = ap (λ (x : ReadStand). x.at) (onward-is r) in
         omega (arith, v.line.some)
-      where
-        on-is : {f : ReadStand} {m n : ℕ} → Turn.On f m n ≡ Turn.On e t len → f ≡ e
-        on-is r = cc
-    by (One.No m) v r = absurd (let z : ◌≡◌ {A = ℕ} 0 1 = cc in omega arith)
-    by (One.End w) v r = shut mode (d.nth + 1) (d.at + w) (length s) r
+    by (Err m) v r = absurd (let z : ◌≡◌ {A = ℕ} 0 1 = cc in omega arith)
+    by (Ok (One.End w)) v r = shut mode (d.nth + 1) (d.at + w) (length s) r
 
 turns-past : {mode : Mode} {s : List ℕ} {d e : ReadStand} → Turns mode s d e → d.at ≤ e.at
 turns-past still = omega arith
@@ -83,12 +84,12 @@ not-vouched mode s at e = absurd (false≢true e)
 -- ---- a head, from a stand by its numbers
 
 module _ {mode : Mode} {s : List ℕ} {at nth ring : ℕ} {needs : Needs} (w : InFile s (stand_of Due at nth ring needs))
-    {judged : Bool} (h : RowHead) (f : 0 < h.next → HeadRead mode s at judged h) (n : h.next ≡ 0 → ⊥) where
+    {judged : Bool} (h : RowHead) (f : HeadRead mode s at judged h) where
   abbrev here : ReadStand
   here = stand_of Due at nth ring needs
 
   head-turns : Turns mode s here (behind_head here h)
-  head-turns = puts-turns ((f (omega arith)).head.puts here refl refl [] [] [] [])
+  head-turns = puts-turns (f.head.puts here refl refl [] [] [] [])
 
   head-within : InFile s (behind_head here h)
   head-within = turns-inside w head-turns
@@ -139,17 +140,17 @@ module _ {mode : Mode} {s : List ℕ} {at nth ring : ℕ} {needs : Needs} (w : I
 -- ---- the first pass
 
 module _ {mode : Mode} {s : List ℕ} {d₀ : ReadStand} {at nth ring : ℕ} {needs : Needs} (v : Skimmed mode s d₀ (stand_of Due at nth ring needs))
-    (h : RowHead) (f : 0 < h.next → HeadRead mode s at false h) (n : h.next ≡ 0 → ⊥)
-    (e : ℕ) (g : 0 < e → RingOver mode s h.next (h.token / 2) h.islands h.vertices e) (m : e ≡ 0 → ⊥) where
+    (h : RowHead) (f : HeadRead mode s at false h)
+    (e : ℕ) (g : RingOver mode s h.next (h.token / 2) h.islands h.vertices e) where
   -- over the only ring
   pub ring-turns : (let b = behind_head (stand_of Due at nth ring needs) h in Turns mode s b (behind_rings b h.vertices e))
-  ring-turns = (g (omega arith)).over (behind_head (stand_of Due at nth ring needs) h) (head-within v.within h f n) refl refl
+  ring-turns = g.over (behind_head (stand_of Due at nth ring needs) h) (head-within v.within h f) refl refl
 
   pub skim-again : (b a : Needs) → b ≡ row_more needs h.letters → a ≡ points_more b h.vertices
       → Skimmed mode s d₀ (stand_of Due e (nth + h.records + 2 * h.vertices) h.next a)
   skim-again b a k j =
-      subst (Skimmed mode s d₀) (end_is v.within h f n e ring-turns b a k j)
-      (skimmed-on v _ (row-turns v.within h f n e ring-turns))
+      subst (Skimmed mode s d₀) (end_is v.within h f e ring-turns b a k j)
+      (skimmed-on v _ (row-turns v.within h f e ring-turns))
 
 -- ---- the second pass
 
@@ -187,19 +188,19 @@ opened-only kind islands n h z = rw (ne_eqb n 0 (λ q. omega arith), z) (by (eqb
     by false = refl
 
 module _ {mode : Mode} {s : List ℕ} {d₀ : ReadStand} {r₀ r p₀ p : List ℤ} {l₀ l : List ℕ} {at nth ring : ℕ} {needs : Needs} (v : Rowing mode s d₀ r₀ l₀ p₀ (stand_of Due at nth ring needs) r l p)
-    (h : RowHead) (f : 0 < h.next → HeadRead mode s at true h) (n : h.next ≡ 0 → ⊥) where
+    (h : RowHead) (f : HeadRead mode s at true h) where
   -- the head with its points
   judged-head : HeadAt mode s at h
-  judged-head = let a = f (omega arith) in subst (HeadAt mode s at) (a.same refl) a.head
+  judged-head = subst (HeadAt mode s at) (f.same refl) f.head
 
   abbrev behind : ReadStand
   behind = behind_head (stand_of Due at nth ring needs) h
 
   behind-within : InFile s behind
-  behind-within = head-within (v []).within h f n
+  behind-within = head-within (v []).within h f
 
   behind-sure : Sure mode s behind
-  behind-sure = sure-on (v []).sure (head-turns (v []).within h f n)
+  behind-sure = sure-on (v []).sure (head-turns (v []).within h f)
 
   -- what is asked before it is stored
   pub store_asks : HeadFew h × Counted needs × (h.word + h.letters ≤ length s) × (length s ≤ file_most)
@@ -217,30 +218,31 @@ module _ {mode : Mode} {s : List ℕ} {d₀ : ReadStand} {r₀ r p₀ p : List �
   into-asks k z x =
       sure-usual mode s behind behind-sure x (fresh_ring (eqb (h.token / 2) 1) 0 h.vertices) (opened-only (h.token / 2) h.islands h.vertices k z)
 
+  -- over the only ring
+  stores-ring : (e : ℕ) (p₁ : List ℤ) → RingInto mode s h.next h.islands h.vertices needs.points p e p₁ → Stores mode s behind p (behind_rings behind h.vertices e) p₁
+  stores-ring e p₁ q = q.stores (h.token / 2) behind behind-within behind-sure refl refl refl
+
+  pub into-turns : (e : ℕ) (p₁ : List ℤ) → RingInto mode s h.next h.islands h.vertices needs.points p e p₁ → Turns mode s behind (behind_rings behind h.vertices e)
+  into-turns e p₁ q = stores-turns (stores-ring e p₁ q)
+
   module _ (r₁ : List ℤ) (l₁ : List ℕ) (a : r₁ ≡ rows_head h (row_width * needs.rows) (pasted r (row_width * needs.rows) (new_row h.token (starts_behind needs))))
-      (b : l₁ ≡ pasted l needs.letters (take h.letters (drop h.word s))) (e : ℕ) (p₁ : List ℤ)
-      (q : RingInto mode s h.next h.islands h.vertices needs.points p e p₁) where
+      (b : l₁ ≡ pasted l needs.letters (take h.letters (drop h.word s))) where
     head_puts : RowsPut mode s (stand_of Due at nth ring needs) r l p behind r₁ l₁ p
     head_puts i = rw (a, b) (judged-head.puts (stand_of Due at nth ring needs) refl refl r l i p)
 
-    -- over the only ring
-    stores-ring : (e ≡ 0 → ⊥) → Stores mode s behind p (behind_rings behind h.vertices e) p₁
-    stores-ring m = q.stores (omega arith) (h.token / 2) behind behind-within behind-sure refl refl refl
-
-    pub into-turns : (e ≡ 0 → ⊥) → Turns mode s behind (behind_rings behind h.vertices e)
-    into-turns m = stores-turns (stores-ring m)
-
-    module _ (lr : length r₁ ≡ length r) (ll : length l₁ ≡ length l) (lp : length p₁ ≡ length p) where
+    module _ (lr : length r₁ ≡ length r) (ll : length l₁ ≡ length l) where
       -- the row is left behind its head
-      pub put-behind : e ≡ 0 → (st : State) → st ≡ opened_by (h.token / 2) h.islands h.vertices → (c : Needs) → c ≡ row_more needs h.letters
+      pub put-behind : (p₁ : List ℤ) → p₁ ≡ p → (st : State) → st ≡ opened_by (h.token / 2) h.islands h.vertices → (c : Needs) → c ≡ row_more needs h.letters
           → Rowing mode s d₀ r₀ l₀ p₀ (stand_of st h.next (nth + h.records) h.next c) r₁ l₁ p₁
-      put-behind z st t c k = rw (t, k) (rowing-on v behind (subst (λ (y : List ℤ). RowsPut mode s (stand_of Due at nth ring needs) r l p behind r₁ l₁ y) (sym (q.kept z)) head_puts) lr ll lp)
+      put-behind p₁ z st t c k =
+          rw (t, k) (rowing-on v behind (subst (λ (y : List ℤ). RowsPut mode s (stand_of Due at nth ring needs) r l p behind r₁ l₁ y) (sym z) head_puts) lr ll (ap (λ (y : List ℤ). length y) z))
 
       -- it is stored whole
-      pub put-again : (e ≡ 0 → ⊥) → (c d : Needs) → c ≡ row_more needs h.letters → d ≡ points_more c h.vertices
+      pub put-again : (e : ℕ) (p₁ : List ℤ) (q : RingInto mode s h.next h.islands h.vertices needs.points p e p₁) → length p₁ ≡ length p
+          → (c d : Needs) → c ≡ row_more needs h.letters → d ≡ points_more c h.vertices
           → Rowing mode s d₀ r₀ l₀ p₀ (stand_of Due e (nth + h.records + 2 * h.vertices) h.next d) r₁ l₁ p₁
-      put-again m c d k j =
-          rw (j, k) (rowing-on v (behind_rings behind h.vertices e) (λ i. puts-join (head_puts i) (stores-puts r₁ l₁ i (stores-ring m))) lr ll lp)
+      put-again e p₁ q lp c d k j =
+          rw (j, k) (rowing-on v (behind_rings behind h.vertices e) (λ i. puts-join (head_puts i) (stores-puts r₁ l₁ i (stores-ring e p₁ q))) lr ll lp)
 
 -- the way of `head_into`
 pub stored-head : (h : RowHead) (s : List ℕ) (b from : ℕ) (new r r₁ r₂ : List ℤ) (l l₁ : List ℕ) → r₁ ≡ pasted r b new → r₂ ≡ rows_head h b r₁

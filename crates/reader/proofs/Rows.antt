@@ -1,7 +1,10 @@
 -- Pieces of rows one behind the other: any turns keep the walk inside the file, and each table holds what they store. Assumes nothing.
+use Rattle.std.specs.Prelude.{Option, Result}
+use Rattle.header.specs.declared.Stopped.{Stopped}
+use Rattle.reader.specs.Turn.{onward}
 use mathlib.Core.Path.{◌≡◌, refl, sym, ◌∙◌, ap, subst}
 use mathlib.Core.List.{List}
-use Prim.Native.Nat.{ℕ, ◌+◌, ◌-◌, ◌≤◌, ◌<◌}
+use Prim.Native.Nat.{ℕ, ◌+◌, ◌-◌, ◌<◌}
 use native.Mathlib.Omega.{arith}
 use native.Mathlib.Nat.{add-sub_cancel_left}
 use lib.ListN.{length, take, drop}
@@ -110,7 +113,7 @@ puts-filled {mode} {s} {target} room h (turned {e} {f} {r'} {p'} {l'} {i'} {t} {
 -- a turn, what it stores, and the pieces behind it
 module _ {mode : Mode} {s : List ℕ} {target : Sections} {rows₀ : List ℤ} {letters₀ islands₀ : List ℕ} {points₀ : List ℤ} {rows : List ℤ} {letters islands : List ℕ} {points : List ℤ} {d : ReadStand}
     (room : Room target (length rows₀) (length letters₀) (length islands₀) (length points₀))
-    (h : Filled mode s target rows₀ letters₀ islands₀ points₀ rows letters islands points d) (r : Turn) (q : r ≡ turn_of mode s d) (d' : ReadStand) (t len : ℕ) (e : r ≡ Turn.On d' t len)
+    (h : Filled mode s target rows₀ letters₀ islands₀ points₀ rows letters islands points d) (r : Result (Option Turn) Stopped) (q : r ≡ turn_of mode s d) (d' : ReadStand) (t len : ℕ) (e : r ≡ onward d' t len)
     (rows' : List ℤ) (letters' islands' : List ℕ) (points' : List ℤ) (a₁ : rows' ≡ rows_put d.state t d.needs rows)
     (a₂ : letters' ≡ letters_put d.state (take (d.at + len - d.at) (drop d.at s)) d.needs letters)
     (a₃ : islands' ≡ islands_put d.state t d.needs islands) (a₄ : points' ≡ points_put d.state t d.needs points) where

@@ -1,4 +1,5 @@
 -- A run of vertices is so many turns of the walk, two a vertex. Assumes nothing.
+use Rattle.reader.specs.Turn.{onward}
 use mathlib.Core.Path.{◌≡◌, refl, sym, ◌∙◌, ap, subst}
 use mathlib.Core.Bool.{Bool, true, false}
 use mathlib.Core.List.{List}
@@ -21,7 +22,6 @@ use Rattle.reader.specs.Turn.{size_next, added, turn_of, InFile, Turns, still, o
 use Rattle.reader.specs.Store.{token_most}
 use Rattle.reader.specs.Store as Store
 use Rattle.reader.specs.declared.ReadStand.{ReadStand}
-use Rattle.reader.specs.declared.Turn.{Turn}
 use Rattle.reader.proofs.Standing.{At, Moved, TurnOk, turn-ok}
 
 -- ---- one vertex
@@ -38,11 +38,11 @@ half d r k x at =
     }
 
 module _ (mode : Mode) (s : List ℕ) (d : ReadStand) (r : Ring) (k a : ℕ) where
-  pub x-turn : (w x : ℕ) (p : RealAt mode s a w x) → turn_of mode s (past_vertices d r k a) ≡ Turn.On (half d r k x (a + w)) x p.len
+  pub x-turn : (w x : ℕ) (p : RealAt mode s a w x) → turn_of mode s (past_vertices d r k a) ≡ onward (half d r k x (a + w)) x p.len
   unfolding turn_of one_of want_of step_of added
   x-turn w x p = rw (p.line, p.says)
 
-  y-turn : (w x y : ℕ) (p : RealAt mode s a w y) → k + 1 < r.left → turn_of mode s (half d r k x a) ≡ Turn.On (past_vertices d r (k + 1) (a + w)) y p.len
+  y-turn : (w x y : ℕ) (p : RealAt mode s a w y) → k + 1 < r.left → turn_of mode s (half d r k x a) ≡ onward (past_vertices d r (k + 1) (a + w)) y p.len
   unfolding turn_of one_of want_of step_of vertex_of ring_step added size_next
   y-turn w x y p h =
       let e : r.left - k - 1 ≡ r.left - (k + 1) = omega arith in
@@ -111,11 +111,11 @@ module _ (mode : Mode) (s : List ℕ) (d : ReadStand) (r : Ring) where
   abbrev opened : ℕ → ℕ → ReadStand
   opened x at = record { state = Y r x; at = at; nth = d.nth + 1; ring = d.ring; needs = d.needs }
 
-  first-x : (w x : ℕ) (p : RealAt mode s d.at w x) → d.state ≡ X r → turn_of mode s d ≡ Turn.On (opened x (d.at + w)) x p.len
+  first-x : (w x : ℕ) (p : RealAt mode s d.at w x) → d.state ≡ X r → turn_of mode s d ≡ onward (opened x (d.at + w)) x p.len
   unfolding turn_of one_of want_of step_of added
   first-x w x p e = rw (e, p.line, p.says)
 
-  first-y : (a w x y : ℕ) (p : RealAt mode s a w y) → r.fresh ≡ true → 2 ≤ r.left → turn_of mode s (opened x a) ≡ Turn.On (past_vertices d (begun r x y) 1 (a + w)) y p.len
+  first-y : (a w x y : ℕ) (p : RealAt mode s a w y) → r.fresh ≡ true → 2 ≤ r.left → turn_of mode s (opened x a) ≡ onward (past_vertices d (begun r x y) 1 (a + w)) y p.len
   unfolding turn_of one_of want_of step_of vertex_of ring_step added size_next
   first-y a w x y p f h =
       let g : d.nth + 1 + 1 ≡ d.nth + 2 * 1 = omega arith in
@@ -136,10 +136,7 @@ module _ (mode : Mode) (s : List ℕ) (at : ℕ) (x y : RealTaken) (f : 0 < x.wi
 
 -- the ways of `skim_fresh`
 module _ (mode : Mode) (s : List ℕ) (d : ReadStand) (w : InFile s d) (r : Ring) (c : (d.state ≡ X r) × (r.fresh ≡ true) × (2 ≤ r.left))
-    (x y n : ℕ) (f : 0 < n → FirstAt mode s d.at x y n) (z : n ≡ 0 → ⊥) (k a : ℕ) (v : (k ≤ r.left - 2) × Vertices mode s n k a) where
-  the-first : FirstAt mode s d.at x y n
-  the-first = f (omega arith)
-
+    (x y n : ℕ) (the-first : FirstAt mode s d.at x y n) (k a : ℕ) (v : (k ≤ r.left - 2) × Vertices mode s n k a) where
   pub fresh-bounds : (d.at + 2 ≤ n) × (n + 2 * k ≤ a) × (a ≤ length s)
   fresh-bounds =
       let p = real-inside the-first.real-x in
@@ -166,7 +163,7 @@ module _ (mode : Mode) (s : List ℕ) (d : ReadStand) (w : InFile s d) (r : Ring
 
 module _ (mode : Mode) (s : List ℕ) (d : ReadStand) (r : Ring) (k a : ℕ) where
   last-y : (w x y : ℕ) (p : RealAt mode s a w y) → r.left - k ≤ 1 → r.rings ≡ 0 → is_shut r.closed r.fx r.fy x y ≡ true
-      → turn_of mode s (half d r k x a) ≡ Turn.On (behind_rings d (k + 1) (a + w)) y p.len
+      → turn_of mode s (half d r k x a) ≡ onward (behind_rings d (k + 1) (a + w)) y p.len
   unfolding turn_of one_of want_of step_of vertex_of ring_step added size_next
   last-y w x y p h z q =
       let f : d.nth + 2 * k + 1 + 1 ≡ d.nth + 2 * (k + 1) = omega arith in
@@ -185,16 +182,13 @@ module _ (mode : Mode) (s : List ℕ) (d : ReadStand) (r : Ring) (k at : ℕ) (v
   pub shut-still : (e : ReadStand) → e ≡ past_vertices d r k at → Turns mode s (past_vertices d r k at) e
   shut-still e q = rw q still
 
-  module _ (z : (r.left - k ≤ 1) × (r.rings ≡ 0)) (x y n : ℕ) (f : 0 < n → FirstAt mode s at x y n) (o : n ≡ 0 → ⊥) (b : Bool) (g : b ≡ is_shut r.closed r.fx r.fy x y) (t : b ≡ true) where
-    last : FirstAt mode s at x y n
-    last = f (omega arith)
-
-    last-x-turn : turn_of mode s (past_vertices d r k at) ≡ Turn.On (half d r k x (at + last.w)) x last.real-x.len
+  module _ (z : (r.left - k ≤ 1) × (r.rings ≡ 0)) (x y n : ℕ) (last : FirstAt mode s at x y n) (b : Bool) (g : b ≡ is_shut r.closed r.fx r.fy x y) (t : b ≡ true) where
+    last-x-turn : turn_of mode s (past_vertices d r k at) ≡ onward (half d r k x (at + last.w)) x last.real-x.len
     last-x-turn = x-turn mode s d r k at last.w x last.real-x
 
-    last-y-turn : turn_of mode s (half d r k x (at + last.w)) ≡ Turn.On (behind_rings d (k + 1) n) y last.real-y.len
+    last-y-turn : turn_of mode s (half d r k x (at + last.w)) ≡ onward (behind_rings d (k + 1) n) y last.real-y.len
     last-y-turn = last-y mode s d r k (at + last.w) last.w' x y last.real-y z.0 z.1 (sym g ∙ t)
-        ∙ ap (λ (z : ℕ). Turn.On (behind_rings d (k + 1) z) y last.real-y.len) (sym last.there)
+        ∙ ap (λ (z : ℕ). onward (behind_rings d (k + 1) z) y last.real-y.len) (sym last.there)
 
     pub shut-on : (e : ReadStand) → e ≡ behind_rings d (k + 1) n → Turns mode s (past_vertices d r k at) e
     shut-on e q = rw q (on (on still last-x-turn) last-y-turn)
@@ -258,15 +252,14 @@ module _ (mode : Mode) (s : List ℕ) (d : ReadStand) (w : InFile s d) (r : Ring
 
 -- the ways of `fresh_into`
 module _ (mode : Mode) (s : List ℕ) (d : ReadStand) (w : InFile s d) (r : Ring) (c : (d.state ≡ X r) × (r.fresh ≡ true) × (2 ≤ r.left))
-    (x y n : ℕ) (f : 0 < n → FirstAt mode s d.at x y n) (z : n ≡ 0 → ⊥) where
+    (x y n : ℕ) (t : FirstAt mode s d.at x y n) where
   pub fresh-most : (x ≤ token_most) × (y ≤ token_most)
-  fresh-most = let t = f (omega arith) in (real-most t.real-x, real-most t.real-y)
+  fresh-most = (real-most t.real-x, real-most t.real-y)
 
   module _ (l l₁ l₂ m : List ℤ) (p : l₁ ≡ set l (2 * d.needs.points) (unlift x)) (p' : l₂ ≡ set l₁ (2 * d.needs.points + 1) (unlift y))
       (k a : ℕ) (v : (k ≤ r.left - 2) × Store.VerticesStored mode s n (d.needs.points + 1) l₂ k a m) (b : Ring) (g : b ≡ begun r x y) where
     pub fresh-into-on : (e : ReadStand) (m' : List ℤ) → Store.Stores mode s (past_vertices d b (k + 1) a) m e m' → Store.Stores mode s d l e m'
     fresh-into-on e m' q =
-        let t = f (omega arith) in
         let u : 1 + k ≡ k + 1 = omega arith in
         let q₀ : Store.points_put d.state x d.needs l ≡ set l (2 * d.needs.points) (unlift x) = rw c.0 in
         let h₁ : Store.Stores mode s d l (opened mode s d r x (d.at + t.w)) (set l (2 * d.needs.points) (unlift x)) =

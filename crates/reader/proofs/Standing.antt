@@ -1,4 +1,9 @@
 -- Where a walk of the reader stands in the meaning's walk, and what a turn makes of that. Assumes nothing.
+use Rattle.std.specs.Prelude.{Option, Some, None, Result, Ok, Err}
+use Rattle.record.specs.declared.refusal.Refusal.{Refusal}
+use Rattle.record.specs.declared.refusal.Refusal.TheVariants as Refusal
+use Rattle.header.specs.declared.Stopped.{Stopped}
+use Rattle.reader.specs.Turn.{onward, halted, finished}
 use mathlib.Core.Path.{◌≡◌, refl, sym, ◌∙◌, ap, subst}
 use mathlib.Core.Bool.{Bool, true, false, cond, ◌&&◌}
 use mathlib.Core.List.{List, [], ◌∷◌}
@@ -14,20 +19,16 @@ use Rattle.record.specs.declared.Mode.TheVariants.{Loose, Exact, Former}
 use Rattle.record.specs.declared.Line.{Line}
 use Rattle.record.specs.Record.{line_of}
 use Rattle.record.proofs.RecordLaws.{line_view, line-none}
-use Rattle.number.specs.declared.Whole.{Whole}
 use Rattle.number.specs.declared.Word.{Word}
-use Rattle.number.specs.declared.Word.TheVariants as Word
 use Rattle.number.specs.Words.{word_of, trimmed}
 use Rattle.number.specs.Number.{integer_of}
 use Rattle.number.proofs.WordLaws.{word-is, trimmed-le}
 use Rattle.token.specs.Lex.{unlift, of_text, lex_of}
-use Rattle.token.specs.declared.Token.{Token}
 use Rattle.token.specs.declared.Want.TheVariants.{Text, Int, Real}
 use Rattle.kinds.specs.Kinds.{row_width, want_at}
 use Rattle.machine.specs.Machine.{want_of, is_due, step_of, of_step, of_token, of_line, one_of}
 use Rattle.machine.specs.declared.State.{State}
 use Rattle.machine.specs.declared.State.TheVariants.{Due, Field, Island, X, Y}
-use Rattle.machine.specs.declared.Step.TheVariants.{Go, No, End}
 use Rattle.machine.specs.declared.One.{One}
 use Rattle.sheet.specs.Tables.{Tables, starts_of, new_row, set_last, put, ring_after}
 use Rattle.sheet.specs.Reading.{Sections, read, stop, after, walk}
@@ -53,28 +54,28 @@ pub record Sized (st : State) (o : Tables) (a : Needs) : Type 0 where
   pub points : length o.points ≡ 2 * a.points + odd_of st
 
 -- letters that are read are as many as the word has
-text_says : (mode : Mode) (c : List ℕ) (t : ℕ) → lex_of mode Text c ≡ Token.Say t → length (trimmed c) ≡ t
+text_says : (mode : Mode) (c : List ℕ) (t : ℕ) → lex_of mode Text c ≡ Ok t → length (trimmed c) ≡ t
 unfolding lex_of
 text_says mode c t = go (word_of mode c) refl
   where
-    some : (start len : ℕ) → word_of mode c ≡ Word.Is start len → (b : Bool) → cond b (Token.Bad 9) (Token.Say len) ≡ Token.Say t → length (trimmed c) ≡ t
+    some : (start len : ℕ) → word_of mode c ≡ Some (record { start = start; len = len }) → (b : Bool) → cond b (Err Refusal.Letters) (Ok len) ≡ Ok t → length (trimmed c) ≡ t
     some start len e true q = absurd (let z : ◌≡◌ {A = ℕ} 0 1 = cc in omega arith)
     some start len e false q = let z : len ≡ t = cc in sym (word-is mode c start len e).2 ∙ z
 
-    go : (w : Word) → word_of mode c ≡ w → of_text w ≡ Token.Say t → length (trimmed c) ≡ t
-    go (Word.Is start len) e q = some start len e (eqb len 0) q
-    go Word.Padded e q = absurd (let z : ◌≡◌ {A = ℕ} 0 1 = cc in omega arith)
+    go : (w : Option Word) → word_of mode c ≡ w → of_text w ≡ Ok t → length (trimmed c) ≡ t
+    go (Some w) e q = some w.start w.len e (eqb w.len 0) q
+    go None e q = absurd (let z : ◌≡◌ {A = ℕ} 0 1 = cc in omega arith)
 
 -- what a record's letters are, by its place
-letters-say : (mode : Mode) (p : ℕ) (c : List ℕ) (t : ℕ) → lex_of mode (want_at p) c ≡ Token.Say t → length (cond (eqb p 9) (trimmed c) []) ≡ cond (eqb p 9) t 0
+letters-say : (mode : Mode) (p : ℕ) (c : List ℕ) (t : ℕ) → lex_of mode (want_at p) c ≡ Ok t → length (cond (eqb p 9) (trimmed c) []) ≡ cond (eqb p 9) t 0
 unfolding want_at
 letters-say mode p c t q = go (eqb p 9) q
   where
-    go : (b : Bool) → lex_of mode (cond b Text (cond (leb 4 p && leb p 8) Real Int)) c ≡ Token.Say t → length (cond b (trimmed c) []) ≡ cond b t 0
+    go : (b : Bool) → lex_of mode (cond b Text (cond (leb 4 p && leb p 8) Real Int)) c ≡ Ok t → length (cond b (trimmed c) []) ≡ cond b t 0
     go true q = text_says mode c t q
     go false q = refl
 
-sized-by : (mode : Mode) (st st' : State) (t : ℕ) (c : List ℕ) (o : Tables) (a : Needs) → Sized st o a → lex_of mode (want_of st) c ≡ Token.Say t → odd_of st' ≡ odd_next st
+sized-by : (mode : Mode) (st st' : State) (t : ℕ) (c : List ℕ) (o : Tables) (a : Needs) → Sized st o a → lex_of mode (want_of st) c ≡ Ok t → odd_of st' ≡ odd_next st
     → Sized st' (put st t c o) (added a st t)
 unfolding put added set_last want_of
 sized-by mode Due st' t c o a h q e =
@@ -93,7 +94,7 @@ sized-by mode (X r) st' t c o a h q e =
 sized-by mode (Y r x) st' t c o a h q e =
     record { rows = h.rows; letters = h.letters; islands = h.islands; points = omega (arith, length-append o.points (unlift t ∷ []), h.points) }
 
-pub sized-put : (mode : Mode) (st st' : State) (t next : ℕ) (c : List ℕ) (o : Tables) (a : Needs) → Sized st o a → lex_of mode (want_of st) c ≡ Token.Say t → step_of mode st t next ≡ Go st'
+pub sized-put : (mode : Mode) (st st' : State) (t next : ℕ) (c : List ℕ) (o : Tables) (a : Needs) → Sized st o a → lex_of mode (want_of st) c ≡ Ok t → step_of mode st t next ≡ Ok (Some st')
     → Sized st' (put st t c o) (added a st t)
 sized-put mode st st' t next c o a h q g = sized-by mode st st' t c o a h q (subst (StepOdd (odd_next st)) g (step-odd mode st t next))
 
@@ -126,13 +127,13 @@ pub one_same : (mode : Mode) (s : List ℕ) (target : Sections) (o : Tables) (d 
 unfolding one_of
 one_same mode s target o d h = go (is_turning d.state) refl
   where
-    free : is_turning d.state ≡ false → (a b : ℕ) (l : Line) → of_line mode d.state a (drop d.at s) l ≡ of_line mode d.state b (drop d.at s) l
-    free e a b (Line.Bad m) = refl
-    free e a b (Line.Got len width) = by (lex_of mode (want_of d.state) (take len (drop d.at s)))
+    free : is_turning d.state ≡ false → (a b : ℕ) (l : Result Line Refusal) → of_line mode d.state a (drop d.at s) l ≡ of_line mode d.state b (drop d.at s) l
+    free e a b (Err m) = refl
+    free e a b (Ok x) = by (lex_of mode (want_of d.state) (take x.len (drop d.at s)))
       where
-        by : (k : Token) → of_token mode d.state a len width k ≡ of_token mode d.state b len width k
-        by (Token.Say t) = ap (of_step t len width) (step-free mode d.state t a b e)
-        by (Token.Bad m) = refl
+        by : (k : Result ℕ Refusal) → of_token mode d.state a x.len x.width k ≡ of_token mode d.state b x.len x.width k
+        by (Ok t) = ap (of_step t x.len x.width) (step-free mode d.state t a b e)
+        by (Err m) = refl
 
     go : (b : Bool) → is_turning d.state ≡ b
         → of_line mode d.state (size_next mode d.state (drop d.ring s)).n (drop d.at s) (line_of mode (is_due d.state) (drop d.at s))
@@ -141,7 +142,7 @@ one_same mode s target o d h = go (is_turning d.state) refl
     go false e = free e (size_next mode d.state (drop d.ring s)).n (ring_after d.state o) (line_of mode (is_due d.state) (drop d.at s))
 
 -- no record is left where no byte is
-pub one_none : (mode : Mode) (st : State) (next : ℕ) (bs : List ℕ) → length bs ≤ 0 → one_of mode st next bs ≡ One.No 2
+pub one_none : (mode : Mode) (st : State) (next : ℕ) (bs : List ℕ) → length bs ≤ 0 → one_of mode st next bs ≡ Err Refusal.Cut
 unfolding one_of
 one_none mode st next [] h = rw (line-none mode (is_due st))
 one_none mode st next (b ∷ bs) h = absurd (omega arith)
@@ -167,13 +168,13 @@ pub size-width : (mode : Mode) (bs : List ℕ) → (size_of mode bs).width ≤ l
 unfolding size_of
 size-width mode bs = by (line_of mode false bs) refl
   where
-    said : (width : ℕ) → width ≤ length bs → (w : Whole) → (sized width w).width ≤ length bs
-    said width h (Whole.Is t) = h
-    said width h Whole.Malformed = omega arith
+    said : (width : ℕ) → width ≤ length bs → (w : Option ℕ) → (sized width w).width ≤ length bs
+    said width h (Some t) = h
+    said width h None = omega arith
 
-    by : (l : Line) → line_of mode false bs ≡ l → (size_line mode bs l).width ≤ length bs
-    by (Line.Got len width) e = said width (line_view mode false bs len width e).within (integer_of mode (take len bs))
-    by (Line.Bad m) e = omega arith
+    by : (l : Result Line Refusal) → line_of mode false bs ≡ l → (size_line mode bs l).width ≤ length bs
+    by (Ok x) e = said x.width (line_view mode false bs x.len x.width e).within (integer_of mode (take x.len bs))
+    by (Err m) e = omega arith
 
 pub next-width : (mode : Mode) (st : State) (bs : List ℕ) → (size_next mode st bs).width ≤ length bs
 unfolding size_next
@@ -193,7 +194,7 @@ pub record Grows (a b : Needs) (n : ℕ) : Type 0 where
   pub islands : b.islands ≤ a.islands + n
   pub points : b.points ≤ a.points + n
 
-pub added-most : (mode : Mode) (st : State) (a : Needs) (t width : ℕ) (c : List ℕ) → lex_of mode (want_of st) c ≡ Token.Say t → 1 ≤ width → length c ≤ width → Grows a (added a st t) width
+pub added-most : (mode : Mode) (st : State) (a : Needs) (t width : ℕ) (c : List ℕ) → lex_of mode (want_of st) c ≡ Ok t → 1 ≤ width → length c ≤ width → Grows a (added a st t) width
 unfolding added want_of
 added-most mode Due a t width c q h k = omega arith
 added-most mode (Field kd p i) a t width c q h k = omega (arith, letters-say mode p c t q, few (eqb p 9))
@@ -225,28 +226,30 @@ went-inside mode s d st t len w b v =
       points = omega (arith, b.points, g.points);
     }
 
+pub onward-is : {d e : ReadStand} {t n t' n' : ℕ} → onward d t n ≡ onward e t' n' → d ≡ e
+onward-is {d} {e} {t} {n} {t'} {n'} q =
+    let w : ◌≡◌ {A = Turn} (record { stand = d; token = t; len = n }) (record { stand = e; token = t'; len = n' }) = cc in
+    ap (λ (x : Turn). x.stand) w
+
 -- so does a turn
-pub turn_inside : (mode : Mode) (s : List ℕ) (d e : ReadStand) (t len : ℕ) → InFile s d → turn_of mode s d ≡ Turn.On e t len → InFile s e
+pub turn_inside : (mode : Mode) (s : List ℕ) (d e : ReadStand) (t len : ℕ) → InFile s d → turn_of mode s d ≡ onward e t len → InFile s e
 unfolding turn_of
 turn_inside mode s d e t len b q = by (one_of mode d.state (size_next mode d.state (drop d.ring s)).n (drop d.at s)) (one-view mode d.state (size_next mode d.state (drop d.ring s)).n (drop d.at s)) q
   where
-    shut : (m : Mode) (k next size : ℕ) → closing m k next size ≡ Turn.On e t len → InFile s e
+    shut : (m : Mode) (k next size : ℕ) → closing m k next size ≡ onward e t len → InFile s e
     shut Loose k next size r = absurd (let z : ◌≡◌ {A = ℕ} 0 1 = cc in omega arith)
     shut Former k next size r = absurd (let z : ◌≡◌ {A = ℕ} 0 1 = cc in omega arith)
     shut Exact k next size r = go (leb size next) r
       where
-        go : (x : Bool) → cond x Turn.Done (Turn.Refused 13 k next) ≡ Turn.On e t len → InFile s e
+        go : (x : Bool) → cond x finished (halted Refusal.AfterEof k next) ≡ onward e t len → InFile s e
         go true y = absurd (let z : ◌≡◌ {A = ℕ} 0 1 = cc in omega arith)
         go false y = absurd (let z : ◌≡◌ {A = ℕ} 0 1 = cc in omega arith)
 
-    by : (w : One) → OneView mode d.state (size_next mode d.state (drop d.ring s)).n (drop d.at s) w
-        → turned mode d (length s) (size_next mode d.state (drop d.ring s)).width w ≡ Turn.On e t len → InFile s e
-    by (One.Go st t' len' w) v r = subst (InFile s) (on-is r) (went-inside mode s d st t' len' w b v)
-      where
-        on-is : {f : ReadStand} {m n : ℕ} → Turn.On f m n ≡ Turn.On e t len → f ≡ e
-        on-is r = cc
-    by (One.No m) v r = absurd (let z : ◌≡◌ {A = ℕ} 0 1 = cc in omega arith)
-    by (One.End w) v r = shut mode (d.nth + 1) (d.at + w) (length s) r
+    by : (w : Result One Refusal) → OneView mode d.state (size_next mode d.state (drop d.ring s)).n (drop d.at s) w
+        → turned mode d (length s) (size_next mode d.state (drop d.ring s)).width w ≡ onward e t len → InFile s e
+    by (Ok (One.Go st t' len' w)) v r = subst (InFile s) (onward-is r) (went-inside mode s d st t' len' w b v)
+    by (Err m) v r = absurd (let z : ◌≡◌ {A = ℕ} 0 1 = cc in omega arith)
+    by (Ok (One.End w)) v r = shut mode (d.nth + 1) (d.at + w) (length s) r
 
 -- ---- a turn
 
@@ -256,12 +259,12 @@ pub record Moved (mode : Mode) (s : List ℕ) (target : Sections) (o : Tables) (
   pub on : d.at < d'.at
   pub inside : d.at + len ≤ length s
   pub short : length (take len (drop d.at s)) ≤ 255
-  pub says : lex_of mode (want_of d.state) (take len (drop d.at s)) ≡ Token.Say t
+  pub says : lex_of mode (want_of d.state) (take len (drop d.at s)) ≡ Ok t
 
-abbrev pub TurnOk : Mode → List ℕ → Sections → Tables → ReadStand → Turn → Type 0
-TurnOk mode s target o d (Turn.On d' t len) = Moved mode s target o d d' t len
-TurnOk mode s target o d (Turn.Refused m k a) = target ≡ stop m k a
-TurnOk mode s target o d Turn.Done = (target ≡ read o d.at) × (needs_of o ≡ d.needs)
+abbrev pub TurnOk : Mode → List ℕ → Sections → Tables → ReadStand → Result (Option Turn) Stopped → Type 0
+TurnOk mode s target o d (Ok (Some x)) = Moved mode s target o d x.stand x.token x.len
+TurnOk mode s target o d (Ok None) = (target ≡ read o d.at) × (needs_of o ≡ d.needs)
+TurnOk mode s target o d (Err x) = target ≡ stop x.refusal x.«record» x.offset
 
 module _ (mode : Mode) (s : List ℕ) (target : Sections) (o : Tables) (d : ReadStand) (h : At mode s target o d) where
   abbrev size : Size
@@ -270,7 +273,7 @@ module _ (mode : Mode) (s : List ℕ) (target : Sections) (o : Tables) (d : Read
   abbrev bytes : List ℕ
   bytes = drop d.at s
 
-  moved : (st : State) (t len w : ℕ) → one_of mode d.state size.n bytes ≡ One.Go st t len w → Went mode d.state size.n bytes st t len w
+  moved : (st : State) (t len w : ℕ) → one_of mode d.state size.n bytes ≡ Ok (One.Go st t len w) → Went mode d.state size.n bytes st t len w
       → Moved mode s target o d (record { state = st; at = d.at + w; nth = d.nth + 1; ring = isl_next d.state d.ring size.width (d.at + w); needs = added d.needs d.state t }) t len
   moved st t len w e v =
       let b = h.within in
@@ -294,7 +297,7 @@ module _ (mode : Mode) (s : List ℕ) (target : Sections) (o : Tables) (d : Read
         says = v.goes.says;
       }
 
-  closed : (m : Mode) (w : ℕ) → m ≡ mode → one_of mode d.state size.n bytes ≡ One.End w → Ended mode d.state size.n bytes w
+  closed : (m : Mode) (w : ℕ) → m ≡ mode → one_of mode d.state size.n bytes ≡ Ok (One.End w) → Ended mode d.state size.n bytes w
       → TurnOk mode s target o d (closing m (d.nth + 1) (d.at + w) (length s))
   closed m w q e v =
       let needs : needs_of o ≡ d.needs = needs-are o d.needs (subst (λ (x : State). Sized x o d.needs) v.due h.sized) in
@@ -303,7 +306,7 @@ module _ (mode : Mode) (s : List ℕ) (target : Sections) (o : Tables) (d : Read
       go m q rest needs
     where
       by : (z : List ℕ) → z ≡ drop (d.at + w) s → (x : Bool) → leb (length s) (d.at + w) ≡ x → target ≡ Reading.behind_eof Exact o d.at (d.nth + 1) (d.at + w) z → needs_of o ≡ d.needs
-          → TurnOk mode s target o d (cond x Turn.Done (Turn.Refused 13 (d.nth + 1) (d.at + w)))
+          → TurnOk mode s target o d (cond x finished (halted Refusal.AfterEof (d.nth + 1) (d.at + w)))
       by [] f true y r needs = (r, needs)
       by [] f false y r needs = absurd (omega (arith, leb-false (length s) (d.at + w) y, length-drop (d.at + w) s, ap length f))
       by (a ∷ z) f true y r needs = absurd (omega (arith, leb-true (length s) (d.at + w) y, length-drop (d.at + w) s, ap length f))
@@ -320,7 +323,7 @@ module _ (mode : Mode) (s : List ℕ) (target : Sections) (o : Tables) (d : Read
   unfolding turn_of
   turn-ok = by (one_of mode d.state size.n bytes) refl (one-view mode d.state size.n bytes)
     where
-      by : (w : One) → one_of mode d.state size.n bytes ≡ w → OneView mode d.state size.n bytes w → TurnOk mode s target o d (turned mode d (length s) size.width w)
-      by (One.Go st t len w) e v = moved st t len w e v
-      by (One.No m) e v = target_is mode s target o d h ∙ rw e
-      by (One.End w) e v = closed mode w refl e v
+      by : (w : Result One Refusal) → one_of mode d.state size.n bytes ≡ w → OneView mode d.state size.n bytes w → TurnOk mode s target o d (turned mode d (length s) size.width w)
+      by (Ok (One.Go st t len w)) e v = moved st t len w e v
+      by (Err m) e v = target_is mode s target o d h ∙ rw e
+      by (Ok (One.End w)) e v = closed mode w refl e v

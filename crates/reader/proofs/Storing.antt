@@ -12,12 +12,12 @@ use lib.Signed.{mag}
 use mir.Syntax.{w64}
 use mir.Val.{SFits, to_z, of_z}
 use mir.ValLaws.{to_z_pos, to_z-of_z}
-use borrow.Author.Tests.{eq-eqb, ne_eqb}
+use borrow.Author.Tests.{ne_eqb}
+use Rattle.std.specs.Prelude.{Option, Some, None}
 use Rattle.laws.specs.Lists.{pasted}
 use Rattle.laws.proofs.TableLaws.{paste_more, paste_all, pasted-behind}
 use Rattle.record.specs.declared.Mode.TheVariants.{Loose}
 use Rattle.number.specs.declared.Word.{Word}
-use Rattle.number.specs.declared.Word.TheVariants as Word
 use Rattle.number.specs.Words.{word_of, trimmed}
 use Rattle.number.proofs.WordLaws.{word-is}
 use Rattle.token.specs.Lex.{lift_by, unlift}
@@ -55,25 +55,6 @@ module _ {A : Type 0} (l : List A) (at : ℕ) (s d : List A) (j : ℕ) (p : Past
 
 abbrev cell_at : ℕ → ℕ → ℕ
 cell_at j t = cond (eqb j 0) (t / 2) (cond (eqb j 1) (t % 2) (unsaid (t / 2) j))
-
-module _ (j t : ℕ) where
-  pub cell-first : j ≡ 0 → t / 2 ≡ cell_at j t
-  cell-first e = rw (eq-eqb j 0 e)
-
-  module _ (m : j ≡ 0 → ⊥) where
-    pub cell-second : j ≡ 1 → t % 2 ≡ cell_at j t
-    cell-second e = rw (ne_eqb j 0 m, eq-eqb j 1 e)
-
-    module _ (n : j ≡ 1 → ⊥) where
-      pub cell-vertices : j ≡ vertices_place → (v : ℕ) → v ≡ fixed_vertices (t / 2) → v ≡ cell_at j t
-      unfolding unsaid
-      cell-vertices e v q = rw (ne_eqb j 0 m, ne_eqb j 1 n, eq-eqb j vertices_place e) q
-
-      pub cell-rest : (j ≡ vertices_place → ⊥) → 0 ≡ cell_at j t
-      unfolding unsaid
-      cell-rest e = rw (ne_eqb j 0 m, ne_eqb j 1 n, ne_eqb j vertices_place e)
-
-pub ruleset cell-ways = (cell-first, cell-second, cell-vertices, cell-rest)
 
 module _ (j t v : ℕ) (e : v ≡ cell_at j t) where
   pub cell-is : j < own_width → pos v ≡ get_or (own_cells t) j (pos 0)
@@ -135,13 +116,13 @@ module _ (t : ℕ) (h : t ≤ token_most) where
 
 -- ---- the word of a content
 
-module _ (c : List ℕ) (w : Word) (e : w ≡ word_of Loose c) where
+module _ (c : List ℕ) (w : Option Word) (e : w ≡ word_of Loose c) where
   -- loose mode drops blanks, so it takes every content
-  pub never-padded : w ≡ Word.Padded → ⊥
+  pub never-padded : w ≡ None → ⊥
   unfolding word_of
   never-padded f = let z : ◌≡◌ {A = ℕ} 0 1 = cc in omega arith
 
-  module _ (start len : ℕ) (f : w ≡ Word.Is start len) where
+  module _ (start len : ℕ) (f : w ≡ Some (record { start = start; len = len })) where
     pub word_in : start + len ≤ length c
     word_in = (word-is Loose c start len (sym e ∙ f)).0
 

@@ -1,4 +1,9 @@
 -- What the first pass of exact mode has judged fine stands in its usual form: the second pass need not judge it again. Assumes nothing.
+use Rattle.record.specs.declared.refusal.Refusal.TheVariants as Refusal
+use Rattle.machine.specs.Machine.{Step}
+use Rattle.std.specs.Prelude.{Option, Some, None, Result, Ok, Err}
+use Rattle.record.specs.declared.refusal.Refusal.{Refusal}
+use Rattle.reader.specs.Turn.{onward}
 use mathlib.Core.Path.{◌≡◌, refl, sym, ◌∙◌, ap, subst}
 use mathlib.Core.List.{List}
 use mathlib.Core.Bool.{Bool, true, false, cond, not, ◌&&◌}
@@ -13,21 +18,16 @@ use Rattle.laws.proofs.Choice.{and_left, and_right, cond-first, false≢true, tr
 use Rattle.record.specs.declared.Mode.{Mode}
 use Rattle.record.specs.declared.Mode.TheVariants.{Loose, Exact, Former}
 use Rattle.record.specs.Record.{is_exact}
-use Rattle.record.specs.Refusals.{malformed}
 use Rattle.record.specs.RecordView.{LineEnd, crlf, lf}
-use Rattle.number.specs.declared.Decimal.{Decimal}
-use Rattle.number.specs.declared.Decimal.TheVariants as Decimal
 use Rattle.number.specs.Words.{unled}
 use Rattle.number.specs.Number.{digit, ended, sign_of, signs, signed, thousandths, lean, is_token, is_neat, real_is, real_at, real_signed, real_of}
 use Rattle.token.specs.Lex.{of_decimal, lex_of}
-use Rattle.token.specs.declared.Token.{Token}
 use Rattle.token.specs.declared.Want.{Want}
 use Rattle.token.specs.declared.Want.TheVariants.{Real}
 use Rattle.machine.specs.Machine.{want_of, is_due, ring_step, vertex_of, step_of, one_of}
 use Rattle.machine.specs.declared.Ring.{Ring}
 use Rattle.machine.specs.declared.State.{State}
 use Rattle.machine.specs.declared.State.TheVariants.{Due, Field, Island, X, Y}
-use Rattle.machine.specs.declared.Step.TheVariants.{Go}
 use Rattle.machine.specs.declared.One.{One}
 use Rattle.quick.specs.Seen.{UsualAt, Usual}
 use Rattle.sheet.specs.Tables.{Tables}
@@ -36,7 +36,6 @@ use Rattle.reader.specs.Turn.{isl_next, added, size_next, turn_of, Turns, still,
 use Rattle.reader.specs.Store.{Room}
 use Rattle.reader.specs.Trust.{Sure}
 use Rattle.reader.specs.declared.ReadStand.{ReadStand}
-use Rattle.reader.specs.declared.Turn.{Turn}
 use Rattle.reader.specs.declared.Size.{Size}
 use Rattle.reader.proofs.Standing.{At, TurnOk, turn-ok}
 use Rattle.reader.proofs.Running.{turns-reach, turns-join}
@@ -45,10 +44,10 @@ use Rattle.sheet.proofs.Pass.{Went, OneView, one-view}
 
 -- ---- a real of exact mode has 12 characters, and its record 14 bytes
 
-no-decimal : (z : ℤ) → Decimal.Malformed ≡ Decimal.Is z → ⊥
+no-decimal : (z : ℤ) → None ≡ Some z → ⊥
 no-decimal z e = let w : ◌≡◌ {A = ℕ} 0 1 = cc in omega arith
 
-no-say : (m t : ℕ) → Token.Bad m ≡ Token.Say t → ⊥
+no-say : (m : Refusal) (t : ℕ) → ◌≡◌ {A = Result ℕ Refusal} (Err m) (Ok t) → ⊥
 no-say m t e = let w : ◌≡◌ {A = ℕ} 0 1 = cc in omega arith
 
 first_of : (a b c d e : Bool) → (a && b && c && d && e) ≡ true → a ≡ true
@@ -59,7 +58,7 @@ unfolding is_neat
 neat-twelve size sign u n e =
     eqb-true size 12 (first_of (eqb size 12) (eqb (length u) (n + 4)) (not (eqb sign 43)) (not (eqb sign 45 && eqb (thousandths u n) 0)) (lean u n) e)
 
-real-twelve : (c : List ℕ) (z : ℤ) → real_of Exact c ≡ Decimal.Is z → length c ≡ 12
+real-twelve : (c : List ℕ) (z : ℤ) → real_of Exact c ≡ Some z → length c ≡ 12
 unfolding real_of real_signed real_at real_is
 real-twelve c z h =
     let sign = sign_of (unled c) in
@@ -67,21 +66,21 @@ real-twelve c z h =
     let n = run digit u in
     let most = is_token sign u n && ended Exact (drop (n + 4) u) in
     let neat = is_neat (length c) sign u n in
-    let w = cond-first (most && neat) (Decimal.Is (signed sign (thousandths u n))) Decimal.Malformed (Decimal.Is z) (no-decimal z) h in
+    let w = cond-first (most && neat) (Some (signed sign (thousandths u n))) None (Some z) (no-decimal z) h in
     neat-twelve (length c) sign u n (and_right most neat w.0)
 
 record Twelve (c : List ℕ) : Type 0 where
   pub size : length c ≡ 12
   pub z : ℤ
-  pub real : real_of Exact c ≡ Decimal.Is z
+  pub real : real_of Exact c ≡ Some z
 
-says-twelve : (c : List ℕ) (t : ℕ) → lex_of Exact Real c ≡ Token.Say t → Twelve c
+says-twelve : (c : List ℕ) (t : ℕ) → lex_of Exact Real c ≡ Ok t → Twelve c
 unfolding lex_of
 says-twelve c t e = go (real_of Exact c) refl e
   where
-    go : (d : Decimal) → real_of Exact c ≡ d → of_decimal d ≡ Token.Say t → Twelve c
-    go (Decimal.Is z) q f = record { size = real-twelve c z q; z = z; real = q }
-    go Decimal.Malformed q f = absurd (no-say malformed t f)
+    go : (d : Option ℤ) → real_of Exact c ≡ d → of_decimal d ≡ Ok t → Twelve c
+    go (Some z) q f = record { size = real-twelve c z q; z = z; real = q }
+    go None q f = absurd (no-say Refusal.Number t f)
 
 -- exact mode's line end
 two_bytes : (e : List ℕ) → LineEnd Exact e → length e ≡ 2
@@ -113,7 +112,7 @@ went-seen s at st st' next t len width w v =
     record {
       long = a;
       wide = b;
-      usual = record { line = rw (not-due st w, a, b) at v.found; z = r.z; real = subst (λ (n : ℕ). real_of Exact (take n (drop at s)) ≡ Decimal.Is r.z) a r.real };
+      usual = record { line = rw (not-due st w, a, b) at v.found; z = r.z; real = subst (λ (n : ℕ). real_of Exact (take n (drop at s)) ≡ Some r.z) a r.real };
       inside = omega (arith, length-drop at s, v.line.within, v.line.some, b);
     }
 
@@ -126,7 +125,7 @@ pub record RealStep (P : State → ℕ → Type 0) (s : List ℕ) (st : State) (
   pub t : ℕ
   pub next : ℕ
   pub to : State
-  pub steps : step_of Exact st t next ≡ Go to
+  pub steps : step_of Exact st t next ≡ Ok (Some to)
   pub then : P to (at + 14)
 
 -- two more in front
@@ -143,7 +142,7 @@ two-more s at n w a b u = record { inside = λ _. omega (arith, u.inside w); eac
 none-there : (s : List ℕ) (at : ℕ) → at ≤ length s → Usual Exact s at 14 (2 * 0)
 none-there s at h = record { inside = λ _. omega arith; each = λ j l. absurd (omega arith) }
 
-go-is : (a b : State) → Go a ≡ Go b → a ≡ b
+go-is : (a b : State) → ◌≡◌ {A = Step} (Ok (Some a)) (Ok (Some b)) → a ≡ b
 go-is a b e = cc
 
 -- a vertex: an x, and the step at its y
@@ -156,7 +155,7 @@ abbrev ring_on : Ring → ℕ → ℕ → Ring
 ring_on r x y = record { closed = r.closed; fresh = false; rings = r.rings; left = r.left - 1; fx = cond r.fresh x r.fx; fy = cond r.fresh y r.fy }
 
 -- one that is not the last of its ring
-vertex-next : (r : Ring) (x y next : ℕ) (to : State) → 1 < r.left → step_of Exact (Y r x) y next ≡ Go to → to ≡ X (ring_on r x y)
+vertex-next : (r : Ring) (x y next : ℕ) (to : State) → 1 < r.left → step_of Exact (Y r x) y next ≡ Ok (Some to) → to ≡ X (ring_on r x y)
 unfolding step_of vertex_of ring_step
 vertex-next r x y next to h e = sym (go-is _ to (rw (lt-leb r.left 1 h) at e))
 
@@ -203,12 +202,12 @@ pub record RealTurn (mode : Mode) (s : List ℕ) (d : ReadStand) : Type 0 where
   pub usual : UsualAt mode s d.at 14
   pub inside : d.at + 14 ≤ length s
   pub t : ℕ
-  pub says : lex_of mode Real (take 12 (drop d.at s)) ≡ Token.Say t
+  pub says : lex_of mode Real (take 12 (drop d.at s)) ≡ Ok t
   pub to : ReadStand
-  pub turn : turn_of mode s d ≡ Turn.On to t 12
+  pub turn : turn_of mode s d ≡ onward to t 12
   pub there : to.at ≡ d.at + 14
   pub next : ℕ
-  pub steps : step_of mode d.state t next ≡ Go to.state
+  pub steps : step_of mode d.state t next ≡ Ok (Some to.state)
 
 module _ (s : List ℕ) (d : ReadStand) (h : Sure Exact s d) (w : want_of d.state ≡ Real) where
   abbrev size : Size
@@ -221,25 +220,25 @@ module _ (s : List ℕ) (d : ReadStand) (h : Sure Exact s d) (w : want_of d.stat
   unfolding turn_of
   real-turn = by (one_of Exact d.state size.n bytes) refl (one-view Exact d.state size.n bytes)
     where
-      by : (x : One) → one_of Exact d.state size.n bytes ≡ x → OneView Exact d.state size.n bytes x → RealTurn Exact s d
-      by (One.Go st t len width) e v =
+      by : (x : Result One Refusal) → one_of Exact d.state size.n bytes ≡ x → OneView Exact d.state size.n bytes x → RealTurn Exact s d
+      by (Ok (One.Go st t len width)) e v =
           let g = went-seen s d.at d.state st size.n t len width w v in
-          let says : lex_of Exact Real (take len bytes) ≡ Token.Say t = subst (λ (x : Want). lex_of Exact x (take len bytes) ≡ Token.Say t) w v.goes.says in
+          let says : lex_of Exact Real (take len bytes) ≡ Ok t = subst (λ (x : Want). lex_of Exact x (take len bytes) ≡ Ok t) w v.goes.says in
           let to : ReadStand = record { state = st; at = d.at + width; nth = d.nth + 1; ring = isl_next d.state d.ring size.width (d.at + width); needs = added d.needs d.state t } in
-          let turn : turn_of Exact s d ≡ Turn.On to t len = rw e in
+          let turn : turn_of Exact s d ≡ onward to t len = rw e in
           record {
             usual = g.usual;
             inside = g.inside;
             t = t;
-            says = subst (λ (n : ℕ). lex_of Exact Real (take n bytes) ≡ Token.Say t) g.long says;
+            says = subst (λ (n : ℕ). lex_of Exact Real (take n bytes) ≡ Ok t) g.long says;
             to = to;
-            turn = subst (λ (n : ℕ). turn_of Exact s d ≡ Turn.On to t n) g.long turn;
+            turn = subst (λ (n : ℕ). turn_of Exact s d ≡ onward to t n) g.long turn;
             there = ap (λ (n : ℕ). d.at + n) g.wide;
             next = size.n;
             steps = v.goes.steps;
           }
-      by (One.No m) e v = absurd (h.never d still m d.nth d.at (rw e))
-      by (One.End width) e v = absurd (true≢false (sym (ap is_due v.due) ∙ not-due d.state w))
+      by (Err m) e v = absurd (h.never d still m d.nth d.at (rw e))
+      by (Ok (One.End width)) e v = absurd (true≢false (sym (ap is_due v.due) ∙ not-due d.state w))
 
 -- a stand at a state and a place
 record Stood (s : List ℕ) (st : State) (at : ℕ) : Type 0 where
@@ -257,7 +256,7 @@ stood-step s st at w p =
       t = r.t;
       next = r.next;
       to = r.to.state;
-      steps = subst (λ (x : State). step_of Exact x r.t r.next ≡ Go r.to.state) p.state-is r.steps;
+      steps = subst (λ (x : State). step_of Exact x r.t r.next ≡ Ok (Some r.to.state)) p.state-is r.steps;
       then = record { d = r.to; state-is = refl; at-is = r.there ∙ ap (λ (n : ℕ). n + 14) p.at-is; sure = sure-on p.sure (on still r.turn) };
     }
 

@@ -5,16 +5,14 @@ use Rattle.record.specs.declared.Mode.{Mode}
 use Rattle.kinds.specs.Kinds.{row_width}
 use Rattle.sheet.specs.Tables.{Tables}
 use Rattle.sheet.specs.Reading.{reading}
-use Rattle.reader.specs.Read.{Rooms, rooms_of, read_of, tables_in, written}
+use Rattle.reader.specs.Read.{Answer, Rooms, rooms_of, read_of, tables_in, written}
 use Rattle.reader.specs.declared.Needs.{Needs}
-use Rattle.reader.specs.declared.Answer.{Answer}
-use Rattle.reader.specs.declared.Outcome.{Outcome}
 
 abbrev pub rooms_in : Tables → Rooms
 rooms_in t = rooms_of (length t.rows) (length t.letters) (length t.islands) (length t.points)
 
 -- the answer to a reading into the tables t
-abbrev pub answer_to : Mode → List ℕ → Tables → Outcome
+abbrev pub answer_to : Mode → List ℕ → Tables → Answer
 answer_to mode bs t = read_of mode bs (rooms_in t)
 
 -- the tables at exit, where o is what was read
@@ -23,7 +21,7 @@ at_exit x o t =
     record { rows = written x o.rows t.rows; letters = written x o.letters t.letters; islands = written x o.islands t.islands; points = written x o.points t.points }
 
 abbrev pub exit_of : Mode → List ℕ → Tables → Tables
-exit_of mode bs t = at_exit (answer_to mode bs t).answer (tables_in (reading mode bs)) t
+exit_of mode bs t = at_exit (answer_to mode bs t) (tables_in (reading mode bs)) t
 
 -- the used part of tables that hold more: 15 numbers a row, two a point
 abbrev pub used_part : Needs → Tables → Tables

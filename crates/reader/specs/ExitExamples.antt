@@ -1,16 +1,14 @@
 -- Readings into small lent tables, computed: what the answer is and what the tables hold at exit. Document 01, "Sheet tables".
 use Rattle.std.specs.Prelude.{◌≡◌, refl, List, [], ◌∷◌, ℕ, replicate, pos, negsuc}
 use Rattle.sheet.specs.Examples.{computed}
-use Rattle.laws.specs.Lists.{same}
 use Rattle.laws.specs.Text.{text}
 use Rattle.record.specs.declared.Mode.{Mode}
 use Rattle.record.specs.declared.Mode.TheVariants.{Loose, Exact}
 use Rattle.sheet.specs.Tables.{Tables}
 use Rattle.column.specs.Examples.{computed_refusal}
 use Rattle.reader.specs.Columns.{due_at, due_from, column_from, reading_column}
-use Rattle.reader.specs.Read.{holds_all, read_of, number_of, record_of, offset_of, counts_of}
+use Rattle.reader.specs.Read.{Answer, holds_all, read_of, number_of, record_of, offset_of, column_of, counts_of}
 use Rattle.reader.specs.Exit.{answer_to, exit_of, used_part}
-use Rattle.reader.specs.declared.Outcome.{Outcome}
 
 -- the column with every definition opened, so that it computes
 unfoldable pub computed_column : Mode → List ℕ → ℕ
@@ -18,7 +16,7 @@ unfolding reading_column column_from due_from due_at computed computed_refusal
 computed_column mode bs = reading_column mode bs
 
 -- with every definition opened, so that it computes
-abbrev opened : Mode → List ℕ → Tables → Outcome
+abbrev opened : Mode → List ℕ → Tables → Answer
 unfolding computed_column holds_all read_of
 opened mode bs t = answer_to mode bs t
 
@@ -42,19 +40,19 @@ unfolding opened written-file lent
 exit-more = refl
 
 -- larger tables hold the same in their used part
-exit-larger : used_part (counts_of (answer_to Loose written-file (lent 30 9)).answer) (exit_of Loose written-file (lent 30 9))
-    ≡ used_part (counts_of (answer_to Loose written-file (lent 16 3)).answer) (exit_of Loose written-file (lent 16 3))
+exit-larger : used_part (counts_of (answer_to Loose written-file (lent 30 9))) (exit_of Loose written-file (lent 30 9))
+    ≡ used_part (counts_of (answer_to Loose written-file (lent 16 3))) (exit_of Loose written-file (lent 16 3))
 unfolding opened written-file lent
 exit-larger = refl
 
 -- one letter short: 14, and nothing is altered
-exit-short : (number_of (answer_to Loose written-file (lent 16 1)).answer ≡ 14) × (exit_of Loose written-file (lent 16 1) ≡ lent 16 1)
+exit-short : (number_of (answer_to Loose written-file (lent 16 1)) ≡ 14) × (exit_of Loose written-file (lent 16 1) ≡ lent 16 1)
 unfolding opened written-file lent
 exit-short = (refl, refl)
 
 -- exact mode demands the CR: 3 at record 1, and nothing is altered
-exit-refused : (number_of (answer_to Exact written-file (lent 16 3)).answer ≡ 3) × (record_of (answer_to Exact written-file (lent 16 3)).answer ≡ 1)
-    × (offset_of (answer_to Exact written-file (lent 16 3)).answer ≡ 0) × (exit_of Exact written-file (lent 16 3) ≡ lent 16 3)
+exit-refused : (number_of (answer_to Exact written-file (lent 16 3)) ≡ 3) × (record_of (answer_to Exact written-file (lent 16 3)) ≡ 1)
+    × (offset_of (answer_to Exact written-file (lent 16 3)) ≡ 0) × (exit_of Exact written-file (lent 16 3) ≡ lent 16 3)
 unfolding opened written-file lent
 exit-refused = (refl, refl, refl, refl)
 
@@ -63,7 +61,7 @@ refusal : Mode → List ℕ → List ℕ
 unfolding opened lent
 refusal mode bs =
     let x = answer_to mode bs (lent 0 0) in
-    number_of x.answer ∷ record_of x.answer ∷ offset_of x.answer ∷ x.column ∷ []
+    number_of x ∷ record_of x ∷ offset_of x ∷ column_of x ∷ []
 
 -- 8 says the column: of a scale, of an integer and of a real in the sections; all others say 0
 refusal-columns : (refusal Loose (text "MAPPA\nZ999_000100\n1000.0000\nEOF") ≡ 8 ∷ 3 ∷ 18 ∷ 9 ∷ [])

@@ -1,18 +1,15 @@
 -- A row from its keyword up to its vertices, at once. For private contracts alone. Assumes nothing: these are definitions.
-use Rattle.std.specs.Prelude.{ℕ, ◌+◌, ◌*◌, ◌/◌, ◌≤◌, ◌≡◌, List, Bool, true, false, cond, length, take, drop, set, eqb, ℤ, pos}
+use Rattle.std.specs.Prelude.{ℕ, ◌+◌, ◌*◌, ◌/◌, ◌≤◌, ◌≡◌, List, Some, Ok, Bool, true, false, cond, length, take, drop, set, eqb, ℤ, pos}
 use Rattle.laws.specs.Lists.{pasted}
 use Rattle.record.specs.declared.Mode.{Mode}
-use Rattle.record.specs.declared.Line.TheVariants.{Got}
 use Rattle.record.specs.Record.{line_of}
 use Rattle.number.specs.Words.{trimmed}
 use Rattle.token.specs.Lex.{lex_of, unlift}
-use Rattle.token.specs.declared.Token.TheVariants.{Say}
 use Rattle.token.specs.declared.Want.TheVariants.{Key, Text}
 use Rattle.kinds.specs.Kinds.{row_width, code_place, vertices_place}
 use Rattle.quick.specs.Seen.{IntegerAt, ValueAt}
 use Rattle.machine.specs.Machine.{fresh_ring, field_of}
 use Rattle.machine.specs.declared.State.{State}
-use Rattle.machine.specs.declared.Step.{Step}
 use Rattle.machine.specs.declared.State.TheVariants.{Due, Island, X}
 use Rattle.sheet.specs.Tables.{new_row}
 use Rattle.reader.specs.Turn.{row_more, FirstAt}
@@ -25,19 +22,19 @@ use Rattle.reader.specs.declared.RowHead.{RowHead}
 -- a keyword stands there, in a record of `width` bytes
 pub record KeySays (mode : Mode) (s : List ℕ) (at width t : ℕ) : Type 0 where
   pub len : ℕ
-  pub line : line_of mode true (drop at s) ≡ Got len width
-  pub says : lex_of mode Key (take len (drop at s)) ≡ Say t
+  pub line : line_of mode true (drop at s) ≡ Ok (record { len = len; width = width })
+  pub says : lex_of mode Key (take len (drop at s)) ≡ Ok t
 
 -- t letters stand there, which are the whole content
 pub record WordSays (mode : Mode) (s : List ℕ) (at width t : ℕ) : Type 0 where
-  pub line : line_of mode false (drop at s) ≡ Got t width
-  pub says : lex_of mode Text (take t (drop at s)) ≡ Say t
+  pub line : line_of mode false (drop at s) ≡ Ok (record { len = t; width = width })
+  pub says : lex_of mode Text (take t (drop at s)) ≡ Ok t
   pub bare : trimmed (take t (drop at s)) ≡ take t (drop at s)
 
 -- some letters, with no blank at an end: they are what is read of them
 pub record IsTrim (c : List ℕ) : Type 0 where
   pub bare : trimmed c ≡ c
-  pub says : (mode : Mode) → lex_of mode Text c ≡ Say (length c)
+  pub says : (mode : Mode) → lex_of mode Text c ≡ Ok (length c)
 
 -- letters and an integer from `at` up to `next`
 pub record LeadAt (mode : Mode) (s : List ℕ) (at t n next : ℕ) : Type 0 where
@@ -58,7 +55,7 @@ pub record CountsAt (mode : Mode) (s : List ℕ) (at n m next : ℕ) : Type 0 wh
 -- a code that the mode takes
 pub record CodeGoes (mode : Mode) (kind n : ℕ) : Type 0 where
   pub st : State
-  pub goes : field_of mode kind code_place 0 n ≡ Step.Go st
+  pub goes : field_of mode kind code_place 0 n ≡ Ok (Some st)
 
 -- the state behind the counts of a row
 unfoldable pub opened_by : ℕ → ℕ → ℕ → State
@@ -67,7 +64,7 @@ opened_by kind islands n =
 
 -- counts that a row of a kind may have
 pub record Countable (kind islands n : ℕ) : Type 0 where
-  pub goes : (mode : Mode) → field_of mode kind vertices_place islands n ≡ Step.Go (opened_by kind islands n)
+  pub goes : (mode : Mode) → field_of mode kind vertices_place islands n ≡ Ok (Some (opened_by kind islands n))
 
 -- ---- the points of a row: their numbers are read where the file was judged
 

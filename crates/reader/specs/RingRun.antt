@@ -1,9 +1,8 @@
 -- A whole ring in its usual form, and island counts, in one go. For contracts of private functions alone. Assumes nothing: these are definitions.
-use Rattle.std.specs.Prelude.{ℕ, zero, suc, ◌+◌, ◌-◌, ◌*◌, ◌≤◌, ◌<◌, ◌≡◌, List, Bool, true, cond, length, take, drop, set, eqb, ℤ}
+use Rattle.std.specs.Prelude.{ℕ, zero, suc, ◌+◌, ◌-◌, ◌*◌, ◌≤◌, ◌≡◌, List, Option, Some, None, Bool, true, cond, length, take, drop, set, eqb, ℤ}
 use Rattle.record.specs.declared.Mode.{Mode}
 use Rattle.record.specs.declared.Mode.TheVariants.{Exact}
 use Rattle.record.specs.Refusals.{file_most}
-use Rattle.number.specs.declared.Decimal.{Decimal}
 use Rattle.number.specs.Number.{real_of}
 use Rattle.token.specs.Lex.{lift, unlift}
 use Rattle.quick.specs.Seen.{UsualAt, Usual}
@@ -20,9 +19,9 @@ use Rattle.reader.specs.declared.ReadStand.{ReadStand}
 
 -- ---- reals in their usual form
 
-abbrev pub of_real : Decimal → ℕ
-of_real (Decimal.Is z) = lift z
-of_real Decimal.Malformed = 0
+abbrev pub of_real : Option ℤ → ℕ
+of_real (Some z) = lift z
+of_real None = 0
 
 -- what the 12 bytes at a place say, lifted
 unfoldable pub real_in : List ℕ → ℕ → ℕ
@@ -71,10 +70,9 @@ behind_ring mode s d r at = past_ring d r at (size_of mode (drop d.ring s))
 pub record RingOver (mode : Mode) (s : List ℕ) (at kind islands n e : ℕ) : Type 0 where
   pub over : (d : ReadStand) → InFile s d → d.state ≡ opened_by kind islands n → d.at ≡ at → Turns mode s d (behind_rings d n e)
 
--- the same in a file that was judged, with the points stored behind `from` points; where the place is 0 none is stored
+-- the same in a file that was judged, with the points stored behind `from` points
 pub record RingInto (mode : Mode) (s : List ℕ) (at islands n from : ℕ) (p : List ℤ) (e : ℕ) (p' : List ℤ) : Type 0 where
-  pub kept : e ≡ 0 → p' ≡ p
-  pub stores : 0 < e → (kind : ℕ) (d : ReadStand) → InFile s d → Sure mode s d → d.state ≡ opened_by kind islands n → d.at ≡ at → d.needs.points ≡ from
+  pub stores : (kind : ℕ) (d : ReadStand) → InFile s d → Sure mode s d → d.state ≡ opened_by kind islands n → d.at ≡ at → d.needs.points ≡ from
       → Stores mode s d p (behind_rings d n e) p'
 
 -- ---- island counts

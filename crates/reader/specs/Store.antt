@@ -10,10 +10,9 @@ use Rattle.machine.specs.declared.State.{State}
 use Rattle.machine.specs.declared.State.TheVariants.{Due, Field, Island, X, Y}
 use Rattle.sheet.specs.Tables.{Tables, empty, Starts, new_row, cell_of}
 use Rattle.sheet.specs.Reading.{Sections, read, stop}
-use Rattle.reader.specs.Turn.{turn_of}
+use Rattle.reader.specs.Turn.{onward, turn_of}
 use Rattle.reader.specs.declared.Needs.{Needs}
 use Rattle.reader.specs.declared.ReadStand.{ReadStand}
-use Rattle.reader.specs.declared.Turn.{Turn}
 
 -- no token is larger: the largest real, lifted
 abbrev pub token_most : ℕ
@@ -95,7 +94,7 @@ AtNumber (Y r x) = ⊥
 -- turns at numbers of a row, and what they leave in the table of rows
 pub data Enters (mode : Mode) (s : List ℕ) (d : ReadStand) (l : List ℤ) : ReadStand → List ℤ → Type 0 where
   at_rest : Enters mode s d l d l
-  entered : {e f : ReadStand} {m : List ℤ} {t len : ℕ} → Enters mode s d l e m → AtNumber e.state → turn_of mode s e ≡ Turn.On f t len
+  entered : {e f : ReadStand} {m : List ℤ} {t len : ℕ} → Enters mode s d l e m → AtNumber e.state → turn_of mode s e ≡ onward f t len
       → Enters mode s d l f (rows_put e.state t e.needs m)
 
 -- ---- a run of vertices
@@ -116,7 +115,7 @@ AtVertex (Y r x) = Unit {0}
 -- turns at vertices, and what they leave in the table of points
 pub data Stores (mode : Mode) (s : List ℕ) (d : ReadStand) (l : List ℤ) : ReadStand → List ℤ → Type 0 where
   still : Stores mode s d l d l
-  on : {e f : ReadStand} {m : List ℤ} {t len : ℕ} → Stores mode s d l e m → AtVertex e.state → turn_of mode s e ≡ Turn.On f t len
+  on : {e f : ReadStand} {m : List ℤ} {t len : ℕ} → Stores mode s d l e m → AtVertex e.state → turn_of mode s e ≡ onward f t len
       → Stores mode s d l f (points_put e.state t e.needs m)
 
 -- ---- any turns
@@ -124,7 +123,7 @@ pub data Stores (mode : Mode) (s : List ℕ) (d : ReadStand) (l : List ℤ) : Re
 -- turns one behind the other, and what they leave in the four tables
 pub data Puts (mode : Mode) (s : List ℕ) (d : ReadStand) (r : List ℤ) (l i : List ℕ) (p : List ℤ) : ReadStand → List ℤ → List ℕ → List ℕ → List ℤ → Type 0 where
   no-turn : Puts mode s d r l i p d r l i p
-  turned : {e f : ReadStand} {r' p' : List ℤ} {l' i' : List ℕ} {t len : ℕ} → Puts mode s d r l i p e r' l' i' p' → turn_of mode s e ≡ Turn.On f t len
+  turned : {e f : ReadStand} {r' p' : List ℤ} {l' i' : List ℕ} {t len : ℕ} → Puts mode s d r l i p e r' l' i' p' → turn_of mode s e ≡ onward f t len
       → Puts mode s d r l i p f (rows_put e.state t e.needs r') (letters_put e.state (take len (drop e.at s)) e.needs l') (islands_put e.state t e.needs i')
       (points_put e.state t e.needs p')
 

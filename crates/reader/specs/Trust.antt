@@ -2,13 +2,13 @@
 use Rattle.std.specs.Prelude.{ℕ, ◌≡◌, List, Bool, true}
 use Rattle.machine.specs.declared.State.TheVariants.{Due}
 use Rattle.record.specs.declared.Mode.{Mode}
-use Rattle.reader.specs.Turn.{turn_of, Turns}
+use Rattle.record.specs.declared.refusal.Refusal.{Refusal}
+use Rattle.reader.specs.Turn.{halted, turn_of, Turns}
 use Rattle.reader.specs.declared.ReadStand.{ReadStand}
-use Rattle.reader.specs.declared.Turn.{Turn}
 
 -- no turn from a stand on is refused
 pub record Sure (mode : Mode) (s : List ℕ) (d : ReadStand) : Type 0 where
-  pub never : (e : ReadStand) → Turns mode s d e → (m k a : ℕ) → turn_of mode s e ≡ Turn.Refused m k a → ⊥
+  pub never : (e : ReadStand) → Turns mode s d e → (m : Refusal) (k a : ℕ) → turn_of mode s e ≡ halted m k a → ⊥
 
 -- a keyword is due at a place, and from there on no turn is refused
 pub record SureAt (mode : Mode) (s : List ℕ) (at : ℕ) : Type 0 where

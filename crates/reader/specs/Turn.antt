@@ -1,18 +1,18 @@
 -- One turn of a walk over the records, as the reader makes it: what is kept is the needs, not the tables. Assumes nothing: these are definitions.
-use Rattle.std.specs.Prelude.{ℕ, ◌+◌, ◌-◌, ◌*◌, ◌≤◌, ◌<◌, ◌≡◌, List, Bool, false, cond, not, ◌&&◌, length, take, drop, leb, eqb}
+use Rattle.std.specs.Prelude.{ℕ, ◌+◌, ◌-◌, ◌*◌, ◌≤◌, ◌<◌, ◌≡◌, List, Option, Some, None, Result, Ok, Err, Bool, false, cond, not, ◌&&◌, length, take, drop, leb, eqb}
 use Rattle.record.specs.declared.Mode.{Mode}
 use Rattle.record.specs.declared.Mode.TheVariants.{Loose, Exact, Former}
 use Rattle.record.specs.declared.Line.{Line}
-use Rattle.record.specs.declared.Line.TheVariants.{Got}
-use Rattle.record.specs.Refusals.{after_eof, file_most}
+use Rattle.record.specs.declared.refusal.Refusal.{Refusal}
+use Rattle.record.specs.declared.refusal.Refusal.TheVariants as Refusal
+use Rattle.record.specs.Refusals.{file_most}
 use Rattle.record.specs.Record.{line_of}
-use Rattle.number.specs.declared.Whole.{Whole}
 use Rattle.number.specs.Number.{integer_of}
 use Rattle.kinds.specs.Kinds.{row_width, letters_place, want_at}
 use Rattle.token.specs.Lex.{lex_of}
-use Rattle.token.specs.declared.Token.TheVariants.{Say}
 use Rattle.token.specs.declared.Want.TheVariants.{Real}
 use Rattle.quick.specs.Seen.{RealAt, Padded}
+use Rattle.header.specs.declared.Stopped.{Stopped}
 use Rattle.machine.specs.Machine.{want_of, one_of}
 use Rattle.machine.specs.declared.Ring.{Ring}
 use Rattle.machine.specs.declared.State.{State}
@@ -28,13 +28,13 @@ use Rattle.reader.specs.declared.Size.{Size}
 abbrev pub no_size : Size
 no_size = record { n = 0; width = 0 }
 
-abbrev pub sized : ℕ → Whole → Size
-sized width (Whole.Is t) = record { n = t; width = width }
-sized width Whole.Malformed = no_size
+abbrev pub sized : ℕ → Option ℕ → Size
+sized width (Some t) = record { n = t; width = width }
+sized width None = no_size
 
-abbrev pub size_line : Mode → List ℕ → Line → Size
-size_line mode bs (Line.Got len width) = sized width (integer_of mode (take len bs))
-size_line mode bs (Line.Bad m) = no_size
+abbrev pub size_line : Mode → List ℕ → Result Line Refusal → Size
+size_line mode bs (Ok l) = sized l.width (integer_of mode (take l.len bs))
+size_line mode bs (Err m) = no_size
 
 -- the number in the first record, and that record's bytes
 unfoldable pub size_of : Mode → List ℕ → Size
@@ -64,9 +64,6 @@ isl_next (Y r x) ring width at = ring + width
 abbrev pub no_needs : Needs
 no_needs = record { rows = 0; letters = 0; islands = 0; points = 0 }
 
-abbrev pub counted_as : ℕ → ℕ → ℕ → ℕ → Needs
-counted_as rows letters islands points = record { rows = rows; letters = letters; islands = islands; points = points }
-
 -- one row more, with so many letters
 abbrev pub row_more : Needs → ℕ → Needs
 row_more a n = record { rows = a.rows + 1; letters = a.letters + n; islands = a.islands; points = a.points }
@@ -83,19 +80,29 @@ added a (Y r x) t = record { rows = a.rows; letters = a.letters; islands = a.isl
 
 -- ---- one turn
 
+-- a turn leads to a stand, by a token and a content's length; or it is refused where it stands; or the file ends
+abbrev pub onward : ReadStand → ℕ → ℕ → Result (Option Turn) Stopped
+onward f t len = Ok (Some (record { stand = f; token = t; len = len }))
+
+abbrev pub halted : Refusal → ℕ → ℕ → Result (Option Turn) Stopped
+halted m k at = Err (record { refusal = m; «record» = k; offset = at })
+
+abbrev pub finished : Result (Option Turn) Stopped
+finished = Ok None
+
 -- the EOF record ends before `next`, where the record `k` would begin
-abbrev pub closing : Mode → ℕ → ℕ → ℕ → Turn
-closing Loose k next size = Turn.Done
-closing Former k next size = Turn.Done
-closing Exact k next size = cond (leb size next) Turn.Done (Turn.Refused after_eof k next)
+abbrev pub closing : Mode → ℕ → ℕ → ℕ → Result (Option Turn) Stopped
+closing Loose k next size = finished
+closing Former k next size = finished
+closing Exact k next size = cond (leb size next) finished (halted Refusal.AfterEof k next)
 
-abbrev pub turned : Mode → ReadStand → ℕ → ℕ → One → Turn
-turned mode s size width (One.Go st t len w) =
-    Turn.On (record { state = st; at = s.at + w; nth = s.nth + 1; ring = isl_next s.state s.ring width (s.at + w); needs = added s.needs s.state t }) t len
-turned mode s size width (One.No m) = Turn.Refused m s.nth s.at
-turned mode s size width (One.End w) = closing mode (s.nth + 1) (s.at + w) size
+abbrev pub turned : Mode → ReadStand → ℕ → ℕ → Result One Refusal → Result (Option Turn) Stopped
+turned mode s size width (Ok (One.Go st t len w)) =
+    onward (record { state = st; at = s.at + w; nth = s.nth + 1; ring = isl_next s.state s.ring width (s.at + w); needs = added s.needs s.state t }) t len
+turned mode s size width (Ok (One.End w)) = closing mode (s.nth + 1) (s.at + w) size
+turned mode s size width (Err m) = halted m s.nth s.at
 
-unfoldable pub turn_of : Mode → List ℕ → ReadStand → Turn
+unfoldable pub turn_of : Mode → List ℕ → ReadStand → Result (Option Turn) Stopped
 turn_of mode bs s =
     turned mode s (length bs) (size_next mode s.state (drop s.ring bs)).width
     (one_of mode s.state (size_next mode s.state (drop s.ring bs)).n (drop s.at bs))
@@ -130,8 +137,8 @@ pub record RealDue (mode : Mode) (s : List ℕ) (at : ℕ) (st : State) (width v
 -- a number of a row stands there, in a record of `width` bytes
 pub record FieldSays (mode : Mode) (s : List ℕ) (at place width t : ℕ) : Type 0 where
   pub len : ℕ
-  pub line : line_of mode false (drop at s) ≡ Got len width
-  pub says : lex_of mode (want_at place) (take len (drop at s)) ≡ Say t
+  pub line : line_of mode false (drop at s) ≡ Ok (record { len = len; width = width })
+  pub says : lex_of mode (want_at place) (take len (drop at s)) ≡ Ok t
   pub apart : eqb place letters_place ≡ false
   pub cell : place < row_width
 
@@ -139,7 +146,7 @@ pub record FieldSays (mode : Mode) (s : List ℕ) (at place width t : ℕ) : Typ
 
 pub data Turns (mode : Mode) (s : List ℕ) (d : ReadStand) : ReadStand → Type 0 where
   still : Turns mode s d d
-  on : {e f : ReadStand} {t len : ℕ} → Turns mode s d e → turn_of mode s e ≡ Turn.On f t len → Turns mode s d f
+  on : {e f : ReadStand} {t len : ℕ} → Turns mode s d e → turn_of mode s e ≡ onward f t len → Turns mode s d f
 
 abbrev pub stand_of : State → ℕ → ℕ → ℕ → Needs → ReadStand
 stand_of st at nth ring needs = record { state = st; at = at; nth = nth; ring = ring; needs = needs }

@@ -10,7 +10,7 @@ ghost use Rattle.reader.specs.Store.{token_most, Counted, starts_behind, IslandT
 use crate::Needs;
 use kinds::{OWN_WIDTH, ROW_WIDTH, fixed_vertices, want_at};
 use machine::State;
-use number::{Word, word_of};
+use number::word_of;
 use record::Mode;
 use token::Want;
 
@@ -22,11 +22,7 @@ pub(crate) fn put_letters(dst: &mut [u8], at: usize, c: &[u8])
     requires { at + length c.now ≤ length dst.old }
     ensures { dst.new ≡ pasted dst.old at c.now }
 {
-    let mut j = 0;
-    while j < c.len() {
-        dst[at + j] = c[j];
-        j += 1;
-    }
+    dst[at..at + c.len()].copy_from_slice(c);
 }
 
 pub(crate) fn put_island(dst: &mut [u16], at: usize, t: usize)
@@ -58,37 +54,29 @@ pub(crate) fn put_field(dst: &mut [i64], at: usize, place: usize, t: usize)
 {
     match want_at(place) {
         Want::Real => put_real(dst, at, t),
-        Want::Key => put_number(dst, at, t),
-        Want::Text => put_number(dst, at, t),
-        Want::Int => put_number(dst, at, t),
+        Want::Key | Want::Text | Want::Int => put_number(dst, at, t),
     }
 }
 
 // What a new row has at a place: its kind, outside, and then what its section has no record for.
+#[tactic(auto, unfolding(kinds::specs::Kinds::unsaid))]
 fn cell(j: usize, t: usize) -> usize
     ensures { result ≡ cond (eqb j 0) (t / 2) (cond (eqb j 1) (t % 2) (unsaid (t / 2) j)) }
 {
-    if j == 0 {
-        return t / 2;
+    match j {
+        0 => t / 2,
+        1 => t % 2,
+        VERTICES_PLACE => fixed_vertices(t / 2),
+        _ => 0,
     }
-    if j == 1 {
-        return t % 2;
-    }
-    if j == VERTICES_PLACE {
-        return fixed_vertices(t / 2);
-    }
-    0
 }
 
 fn put_own(dst: &mut [i64], at: usize, t: usize)
     requires { (at + own_width ≤ length dst.old) × (t ≤ token_most) }
     ensures { dst.new ≡ pasted dst.old at (own_cells t) }
 {
-    let mut j = 0;
-    while j < OWN_WIDTH {
-        let v = cell(j, t);
-        put_number(dst, at + j, v);
-        j += 1;
+    for j in 0..OWN_WIDTH {
+        put_number(dst, at + j, cell(j, t));
     }
 }
 
@@ -97,12 +85,9 @@ fn put_starts(dst: &mut [i64], at: usize, a: Needs)
     requires { (at + 3 ≤ length dst.old) × Counted a }
     ensures { dst.new ≡ pasted dst.old at (start_cells (starts_behind a)) }
 {
-    let letters = a.letters;
-    let islands = a.islands;
-    let points = a.points;
-    put_number(dst, at, letters);
-    put_number(dst, at + 1, islands);
-    put_number(dst, at + 2, points);
+    put_number(dst, at, a.letters);
+    put_number(dst, at + 1, a.islands);
+    put_number(dst, at + 2, a.points);
 }
 
 // A new row, where the tables hold `a` already.
@@ -119,12 +104,8 @@ fn put_word(dst: &mut [u8], at: usize, c: &[u8])
     requires { at + length (trimmed c.now) ≤ length dst.old }
     ensures { dst.new ≡ pasted dst.old at (trimmed c.now) }
 {
-    match word_of(c, Mode::Loose) {
-        Word::Is { start, len } => {
-            let end = start + len;
-            put_letters(dst, at, &c[start..end]);
-        }
-        Word::Padded => {}
+    if let Some(word) = word_of(c, Mode::Loose) {
+        put_letters(dst, at, &c[word.start..word.start + word.len]);
     }
 }
 
@@ -146,25 +127,16 @@ pub(crate) fn store(
     ensures islands_after { islands.new ≡ islands_put st t a islands.old }
     ensures points_after { points.new ≡ points_put st t a points.old }
 {
-    let np = a.points;
     match st {
         State::Due => put_row(rows, ROW_WIDTH * a.rows, t, a),
-        State::Field {
-            kind: _,
-            place,
-            islands: _,
-        } => {
+        State::Field { place, .. } => {
             put_field(rows, ROW_WIDTH * (a.rows - 1) + place, place, t);
             if place == LETTERS_PLACE {
                 put_word(letters, a.letters, c);
             }
         }
-        State::Island {
-            left: _,
-            spare: _,
-            rings: _,
-        } => put_island(islands, a.islands, t),
-        State::X(_) => put_real(points, 2 * np, t),
-        State::Y(_, _) => put_real(points, 2 * np + 1, t),
+        State::Island { .. } => put_island(islands, a.islands, t),
+        State::X(_) => put_real(points, 2 * a.points, t),
+        State::Y(_, _) => put_real(points, 2 * a.points + 1, t),
     }
 }

@@ -7,39 +7,21 @@ ghost use Rattle.reader.specs.Read.{judged_of};
 
 use crate::pieces::skim_rows;
 use crate::turns::{first_stand, turn_at};
-use crate::{Judged, Turn};
-use column::column_at;
+use crate::{Needs, Unread, located};
 use machine::wanted;
 use record::Mode;
 
 // The sections, which begin at `start`, are judged, and what they need is counted.
-pub(crate) fn judge(src: &[u8], mode: Mode, start: usize) -> Judged
+pub(crate) fn judge(src: &[u8], mode: Mode, start: usize) -> Result<Needs, Unread>
     requires { (start ≤ length src.now) × (length src.now ≤ file_most) }
     ensures { result ≡ judged_of (column_from mode src.now start) (walk_from mode src.now start) }
 {
     let mut d = first_stand(start);
     loop {
-        let st = d.state;
-        let needs = d.needs;
         match turn_at(src, mode, d) {
-            Turn::On {
-                stand,
-                token: _,
-                len: _,
-            } => d = skim_rows(src, mode, stand),
-            Turn::Refused {
-                number,
-                record,
-                offset,
-            } => {
-                return Judged::Refused {
-                    number,
-                    record,
-                    offset,
-                    column: column_at(src, offset, mode, wanted(st), number),
-                };
-            }
-            Turn::Done => return Judged::Fine(needs),
+            Ok(Some(turn)) => d = skim_rows(src, mode, turn.stand),
+            Ok(None) => return Ok(d.needs),
+            Err(stopped) => return Err(located(src, mode, wanted(d.state), stopped)),
         }
     }
 }

@@ -1,41 +1,43 @@
 // Runs of the first pass, for speed: the numbers of a row and the vertices of a ring judged at once. A run may stop anywhere; the walk then takes one turn.
-ghost use Rattle.std.specs.Prelude.{◌≡◌, true, ◌+◌, ◌-◌, ◌*◌, ◌<◌, ◌≤◌, length};
+ghost use Rattle.std.specs.Prelude.{◌≡◌, true, ◌+◌, ◌-◌, ◌*◌, ◌<◌, ◌≤◌, length, IfSome};
 ghost use Rattle.machine.specs.declared.State.TheVariants.{X};
 ghost use Rattle.reader.specs.Turn.{InFile, Turns, past_vertices, behind_rings, FieldSays, stand_on, begun, Runs, FirstAt};
 
 use crate::turns::size_of;
-use crate::{First, Needs, ReadStand, Said};
+use crate::{First, Needs, ReadStand, Said, Size};
 use kinds::{ROW_WIDTH, want_at};
-use machine::{Ring, State, Step, field_step, is_shut};
+use machine::{Ring, State, field_step, is_shut};
 use quick::{real_at, vertices};
 use record::Mode;
 use token::Want;
 
-// What the number at a place of a row says, or width 0.
-pub(crate) fn said_at(src: &[u8], at: usize, mode: Mode, place: usize) -> Said
+// What the number at a place of a row says.
+pub(crate) fn said_at(src: &[u8], at: usize, mode: Mode, place: usize) -> Option<Said>
     requires { at ≤ length src.now }
-    ensures { 0 < result.width → FieldSays mode src.now at place result.width result.token }
+    ensures { IfSome result (λ r. FieldSays mode src.now at place r.width r.token) }
 {
     if place >= ROW_WIDTH {
-        return Said { token: 0, width: 0 };
+        return None;
     }
     match want_at(place) {
         Want::Real => {
             let q = real_at(src, at, mode);
-            Said {
+            if q.width == 0 {
+                return None;
+            }
+            Some(Said {
                 token: q.value,
                 width: q.width,
-            }
+            })
         }
         Want::Int => {
-            let size = size_of(&src[at..], mode);
-            Said {
-                token: size.n,
-                width: size.width,
+            let Size { n, width } = size_of(&src[at..], mode);
+            if width == 0 {
+                return None;
             }
+            Some(Said { token: n, width })
         }
-        Want::Text => Said { token: 0, width: 0 },
-        Want::Key => Said { token: 0, width: 0 },
+        Want::Text | Want::Key => None,
     }
 }
 
@@ -44,14 +46,12 @@ pub(crate) fn onward_at(d: ReadStand, state: State, at: usize, ring: usize, k: u
     requires { d.nth + k < 18446744073709551616 }
     ensures { result ≡ stand_on d state at ring k }
 {
-    let nth = d.nth;
-    let needs = d.needs;
     ReadStand {
         state,
         at,
-        nth: nth + k,
+        nth: d.nth + k,
         ring,
-        needs,
+        ..d
     }
 }
 
@@ -73,17 +73,14 @@ pub(crate) fn skim_fields(src: &[u8], mode: Mode, d: ReadStand) -> ReadStand
         else {
             return onward_at(d, st, here, ring, k);
         };
-        let said = said_at(src, here, mode, place);
-        let token = said.token;
-        let width = said.width;
-        if width == 0 {
+        let Some(said) = said_at(src, here, mode, place) else {
             return onward_at(d, st, here, ring, k);
-        }
-        let Step::Go(state) = field_step(mode, kind, place, islands, token) else {
+        };
+        let Ok(Some(state)) = field_step(mode, kind, place, islands, said.token) else {
             return onward_at(d, st, here, ring, k);
         };
         st = state;
-        here = here + width;
+        here += said.width;
         ring = here;
         k += 1;
     }
@@ -94,81 +91,51 @@ pub(crate) fn past_at(d: ReadStand, r: Ring, k: usize, at: usize) -> ReadStand
     requires { (k ≤ r.left) × (d.nth + 2 * k < 18446744073709551616) × (d.needs.points + k < 18446744073709551616) }
     ensures { result ≡ past_vertices d r k at }
 {
-    let nth = d.nth;
-    let ring = d.ring;
-    let needs = d.needs;
-    let left = r.left;
-    let closed = r.closed;
-    let rings = r.rings;
-    let fx = r.fx;
-    let fy = r.fy;
-    let rows = needs.rows;
-    let letters = needs.letters;
-    let islands = needs.islands;
-    let points = needs.points;
     ReadStand {
         state: State::X(Ring {
-            closed,
             fresh: false,
-            rings,
-            left: left - k,
-            fx,
-            fy,
+            left: r.left - k,
+            ..r
         }),
         at,
-        nth: nth + 2 * k,
-        ring,
+        nth: d.nth + 2 * k,
         needs: Needs {
-            rows,
-            letters,
-            islands,
-            points: points + k,
+            points: d.needs.points + k,
+            ..d.needs
         },
+        ..d
     }
 }
 
-// A vertex in the usual form: its numbers, lifted, and the place behind it; or place 0.
-pub(crate) fn first_at(src: &[u8], at: usize, mode: Mode) -> First
-    ensures { 0 < result.next → FirstAt mode src.now at result.x result.y result.next }
+// A vertex in the usual form: its numbers, lifted, and the place behind it.
+pub(crate) fn first_at(src: &[u8], at: usize, mode: Mode) -> Option<First>
+    ensures { IfSome result (λ r. FirstAt mode src.now at r.x r.y r.next) }
 {
     let a = real_at(src, at, mode);
     if a.width == 0 {
-        return First {
-            x: 0,
-            y: 0,
-            next: 0,
-        };
+        return None;
     }
     let mid = at + a.width;
     let b = real_at(src, mid, mode);
     if b.width == 0 {
-        return First {
-            x: 0,
-            y: 0,
-            next: 0,
-        };
+        return None;
     }
-    First {
+    Some(First {
         x: a.value,
         y: b.value,
         next: mid + b.width,
-    }
+    })
 }
 
 // A ring whose first vertex is read.
 pub(crate) fn begun_at(r: Ring, x: usize, y: usize) -> Ring
     ensures { result ≡ begun r x y }
 {
-    let closed = r.closed;
-    let rings = r.rings;
-    let left = r.left;
     Ring {
-        closed,
         fresh: false,
-        rings,
-        left,
         fx: x,
         fy: y,
+        ..r
     }
 }
 
@@ -177,24 +144,15 @@ pub(crate) fn ended_at(d: ReadStand, k: usize, at: usize) -> ReadStand
     requires { (d.nth + 2 * k < 18446744073709551616) × (d.needs.points + k < 18446744073709551616) }
     ensures { result ≡ behind_rings d k at }
 {
-    let nth = d.nth;
-    let ring = d.ring;
-    let needs = d.needs;
-    let rows = needs.rows;
-    let letters = needs.letters;
-    let islands = needs.islands;
-    let points = needs.points;
     ReadStand {
         state: State::Due,
         at,
-        nth: nth + 2 * k,
-        ring,
+        nth: d.nth + 2 * k,
         needs: Needs {
-            rows,
-            letters,
-            islands,
-            points: points + k,
+            points: d.needs.points + k,
+            ..d.needs
         },
+        ..d
     }
 }
 
@@ -203,12 +161,7 @@ pub(crate) fn is_ending(r: Ring, k: usize) -> bool
     requires { k < r.left }
     ensures { result ≡ true → (r.left - k ≤ 1) × (r.rings ≡ 0) }
 {
-    let left = r.left;
-    let rings = r.rings;
-    if left - k > 1 {
-        return false;
-    }
-    if rings == 0 { true } else { false }
+    r.left - k <= 1 && r.rings == 0
 }
 
 // From a ring of which `k` vertices are read over its last vertex, where it is the last ring of its row.
@@ -216,21 +169,14 @@ fn shut_at(src: &[u8], mode: Mode, d: ReadStand, r: Ring, k: usize, at: usize) -
     requires { Runs src.now d r k at }
     ensures { Turns mode src.now (past_vertices d r k at) result }
 {
-    let closed = r.closed;
-    let fx = r.fx;
-    let fy = r.fy;
     if !is_ending(r, k) {
         return past_at(d, r, k, at);
     }
-    let f = first_at(src, at, mode);
-    let x = f.x;
-    let y = f.y;
-    let next = f.next;
-    if next == 0 {
+    let Some(f) = first_at(src, at, mode) else {
         return past_at(d, r, k, at);
-    }
-    if is_shut(closed, fx, fy, x, y) {
-        return ended_at(d, k + 1, next);
+    };
+    if is_shut(r.closed, r.fx, r.fy, f.x, f.y) {
+        return ended_at(d, k + 1, f.next);
     }
     past_at(d, r, k, at)
 }
@@ -241,18 +187,11 @@ fn skim_fresh(src: &[u8], mode: Mode, d: ReadStand, r: Ring) -> ReadStand
     requires state_value { (d.state ≡ X r) × (r.fresh ≡ true) × (2 ≤ r.left) }
     ensures { Turns mode src.now d result }
 {
-    let left = r.left;
-    let f = first_at(src, d.at, mode);
-    let x = f.x;
-    let y = f.y;
-    let next = f.next;
-    if next == 0 {
+    let Some(f) = first_at(src, d.at, mode) else {
         return d;
-    }
-    let run = vertices(src, next, mode, left - 2);
-    let count = run.count;
-    let end = run.next;
-    shut_at(src, mode, d, begun_at(r, x, y), count + 1, end)
+    };
+    let run = vertices(src, f.next, mode, r.left - 2);
+    shut_at(src, mode, d, begun_at(r, f.x, f.y), run.count + 1, run.next)
 }
 
 // Over the vertices of a ring that stand in the usual form, at once.
@@ -260,33 +199,15 @@ pub(crate) fn skim(src: &[u8], mode: Mode, d: ReadStand) -> ReadStand
     requires { InFile src.now d }
     ensures { Turns mode src.now d result }
 {
-    let st = d.state;
-    match st {
-        State::Due => d,
-        State::Field {
-            kind: _,
-            place: _,
-            islands: _,
-        } => d,
-        State::Island {
-            left: _,
-            spare: _,
-            rings: _,
-        } => d,
-        State::Y(_, _) => d,
-        State::X(r) => {
-            let fresh = r.fresh;
-            let left = r.left;
-            if left < 2 {
-                return d;
-            }
-            if fresh {
-                return skim_fresh(src, mode, d, r);
-            }
-            let run = vertices(src, d.at, mode, left - 1);
-            let count = run.count;
-            let next = run.next;
-            shut_at(src, mode, d, r, count, next)
-        }
+    let State::X(r) = d.state else {
+        return d;
+    };
+    if r.left < 2 {
+        return d;
     }
+    if r.fresh {
+        return skim_fresh(src, mode, d, r);
+    }
+    let run = vertices(src, d.at, mode, r.left - 1);
+    shut_at(src, mode, d, r, run.count, run.next)
 }

@@ -1,5 +1,5 @@
 // A row from its keyword up to its vertices in one go, for both passes, for speed. What is not in the usual order is not seen, and the walk takes its turns.
-ghost use Rattle.std.specs.Prelude.{◌≡◌, true, ◌+◌, ◌*◌, ◌/◌, ◌%◌, ◌<◌, ◌≤◌, length, take, drop};
+ghost use Rattle.std.specs.Prelude.{◌≡◌, true, ◌+◌, ◌*◌, ◌/◌, ◌%◌, ◌<◌, ◌≤◌, length, take, drop, IfSome};
 ghost use Rattle.laws.specs.Lists.{pasted};
 ghost use Rattle.record.specs.Record.{is_exact};
 ghost use Rattle.record.specs.Refusals.{file_most};
@@ -14,70 +14,69 @@ use crate::cells::{put_letters, put_number, put_real, put_row};
 use crate::first_runs::first_at;
 use crate::ring_runs::{judged_width, trusted_width};
 use crate::turns::size_of;
-use crate::{First, Needs, RowHead, Said, TwoPoints, TwoSaid};
+use crate::{First, Needs, RowHead, Said, Size, TwoPoints, TwoSaid};
 use kinds::ROW_WIDTH;
-use machine::{Step, field_step};
+use machine::field_step;
 use quick::by_word::usual_value;
 use quick::integers::{integer_at, loose_integer};
 use quick::real_at;
-use record::{Line, Mode, is_exact, is_same, line_at};
-use token::{Token, Want, lex};
+use record::{Mode, is_exact, is_same, line_at};
+use token::{Want, lex};
 
 const CODE_PLACE: usize = 2;
 
-// BORDO's record, the most frequent of all: its bytes, or 0.
-fn border_key(src: &[u8], at: usize, mode: Mode) -> usize
-    ensures { 0 < result → KeySays mode src.now at result 2 }
+// BORDO's record, the most frequent of all: its bytes.
+fn border_key(src: &[u8], at: usize, mode: Mode) -> Option<usize>
+    ensures { IfSome result (λ w. KeySays mode src.now at w 2) }
 {
     let n = src.len();
     if n < 7 {
-        return 0;
+        return None;
     }
     if at > n - 7 {
-        return 0;
+        return None;
     }
     let e = at + 5;
     if !is_same(&src[at..e], b"BORDO") {
-        return 0;
+        return None;
     }
     let b = src[e];
     if b == 13 {
         if src[e + 1] == 10 {
-            return 7;
+            return Some(7);
         }
-        return 0;
+        return None;
     }
     if is_exact(mode) {
-        return 0;
+        return None;
     }
     if b == 10 {
-        return 6;
+        return Some(6);
     }
-    0
+    None
 }
 
-// A keyword's record, or width 0.
-pub(crate) fn key_at(src: &[u8], at: usize, mode: Mode) -> Said
-    ensures { 0 < result.width → KeySays mode src.now at result.width result.token }
+// A keyword's record.
+pub(crate) fn key_at(src: &[u8], at: usize, mode: Mode) -> Option<Said>
+    ensures { IfSome result (λ r. KeySays mode src.now at r.width r.token) }
 {
-    let border = border_key(src, at, mode);
-    if border > 0 {
-        return Said {
-            token: 2,
-            width: border,
-        };
+    if let Some(width) = border_key(src, at, mode) {
+        return Some(Said { token: 2, width });
     }
     if at > src.len() {
-        return Said { token: 0, width: 0 };
+        return None;
     }
     let bs = &src[at..];
-    match line_at(bs, mode, true) {
-        Line::Bad(_) => Said { token: 0, width: 0 },
-        Line::Got { len, width } => match lex(&bs[..len], mode, Want::Key) {
-            Token::Bad(_) => Said { token: 0, width: 0 },
-            Token::Say(token) => Said { token, width },
-        },
-    }
+    let Ok(line) = line_at(bs, mode, true) else {
+        return None;
+    };
+    let Ok(token) = lex(&bs[..line.len], mode, Want::Key) else {
+        return None;
+    };
+    Some(Said {
+        token,
+        width: line.width,
+    })
 }
 
 // Bytes, and no blank at an end of them.
@@ -91,131 +90,100 @@ fn is_trim(c: &[u8]) -> bool
     if c[0] == 32 {
         return false;
     }
-    if c[n - 1] == 32 { false } else { true }
+    c[n - 1] != 32
 }
 
-// Letters with no blank at an end, or width 0.
-pub(crate) fn word_at(src: &[u8], at: usize, mode: Mode) -> Said
-    ensures { 0 < result.width → WordSays mode src.now at result.width result.token }
+// Letters with no blank at an end.
+pub(crate) fn word_at(src: &[u8], at: usize, mode: Mode) -> Option<Said>
+    ensures { IfSome result (λ r. WordSays mode src.now at r.width r.token) }
 {
     if at > src.len() {
-        return Said { token: 0, width: 0 };
+        return None;
     }
     let bs = &src[at..];
-    match line_at(bs, mode, false) {
-        Line::Bad(_) => Said { token: 0, width: 0 },
-        Line::Got { len, width } => {
-            if is_trim(&bs[..len]) {
-                return Said { token: len, width };
-            }
-            Said { token: 0, width: 0 }
-        }
+    let Ok(line) = line_at(bs, mode, false) else {
+        return None;
+    };
+    if !is_trim(&bs[..line.len]) {
+        return None;
     }
+    Some(Said {
+        token: line.len,
+        width: line.width,
+    })
 }
 
-// An integer's record in any form, or width 0.
-fn slow_integer(src: &[u8], at: usize, mode: Mode) -> Said
-    ensures { 0 < result.width → IntegerAt mode src.now at result.width result.token }
+// An integer's record in any form.
+fn slow_integer(src: &[u8], at: usize, mode: Mode) -> Option<Said>
+    ensures { IfSome result (λ r. IntegerAt mode src.now at r.width r.token) }
 {
     if at > src.len() {
-        return Said { token: 0, width: 0 };
+        return None;
     }
-    let size = size_of(&src[at..], mode);
-    Said {
-        token: size.n,
-        width: size.width,
+    let Size { n, width } = size_of(&src[at..], mode);
+    if width == 0 {
+        return None;
     }
+    Some(Said { token: n, width })
 }
 
-// An integer's record, or width 0.
-pub(crate) fn integer_said(src: &[u8], at: usize, mode: Mode) -> Said
-    ensures { 0 < result.width → IntegerAt mode src.now at result.width result.token }
+// An integer's record.
+pub(crate) fn integer_said(src: &[u8], at: usize, mode: Mode) -> Option<Said>
+    ensures { IfSome result (λ r. IntegerAt mode src.now at r.width r.token) }
 {
     let q = integer_at(src, at, mode);
     if q.width > 0 {
-        return Said {
+        return Some(Said {
             token: q.value,
             width: q.width,
-        };
+        });
     }
     if is_exact(mode) {
         return slow_integer(src, at, mode);
     }
     let p = loose_integer(src, at, mode);
     if p.width > 0 {
-        return Said {
+        return Some(Said {
             token: p.value,
             width: p.width,
-        };
+        });
     }
     slow_integer(src, at, mode)
 }
 
-// Letters and an integer, or place 0.
-fn lead_at(src: &[u8], at: usize, mode: Mode) -> TwoSaid
-    ensures { 0 < result.next → LeadAt mode src.now at result.first result.second result.next }
+// Letters and an integer.
+fn lead_at(src: &[u8], at: usize, mode: Mode) -> Option<TwoSaid>
+    ensures { IfSome result (λ r. LeadAt mode src.now at r.first r.second r.next) }
 {
-    let a = word_at(src, at, mode);
-    if a.width == 0 {
-        return TwoSaid {
-            first: 0,
-            second: 0,
-            next: 0,
-        };
-    }
+    let a = word_at(src, at, mode)?;
     let mid = at + a.width;
-    let b = integer_said(src, mid, mode);
-    if b.width == 0 {
-        return TwoSaid {
-            first: 0,
-            second: 0,
-            next: 0,
-        };
-    }
-    TwoSaid {
+    let b = integer_said(src, mid, mode)?;
+    Some(TwoSaid {
         first: a.token,
         second: b.token,
         next: mid + b.width,
-    }
+    })
 }
 
-// Two integers, or place 0.
-fn counts_at(src: &[u8], at: usize, mode: Mode) -> TwoSaid
-    ensures { 0 < result.next → CountsAt mode src.now at result.first result.second result.next }
+// Two integers.
+fn counts_at(src: &[u8], at: usize, mode: Mode) -> Option<TwoSaid>
+    ensures { IfSome result (λ r. CountsAt mode src.now at r.first r.second r.next) }
 {
-    let a = integer_said(src, at, mode);
-    if a.width == 0 {
-        return TwoSaid {
-            first: 0,
-            second: 0,
-            next: 0,
-        };
-    }
+    let a = integer_said(src, at, mode)?;
     let mid = at + a.width;
-    let b = integer_said(src, mid, mode);
-    if b.width == 0 {
-        return TwoSaid {
-            first: 0,
-            second: 0,
-            next: 0,
-        };
-    }
-    TwoSaid {
+    let b = integer_said(src, mid, mode)?;
+    Some(TwoSaid {
         first: a.token,
         second: b.token,
         next: mid + b.width,
-    }
+    })
 }
 
 // The mode takes the code of a kind.
 fn is_taken(mode: Mode, kind: usize, code: usize) -> bool
     ensures { result ≡ true → CodeGoes mode kind code }
 {
-    match field_step(mode, kind, CODE_PLACE, 0, code) {
-        Step::Go(_) => true,
-        Step::No(_) => false,
-        Step::End => false,
-    }
+    matches!(field_step(mode, kind, CODE_PLACE, 0, code), Ok(Some(_)))
 }
 
 // Counts that a row of a kind may have.
@@ -231,10 +199,10 @@ fn is_countable(kind: usize, islands: usize, vertices: usize) -> bool
     (vertices - 4) / 4 >= islands
 }
 
-// The bytes of each record, where `n` reals stand in their usual form; or 0. In a file that exact mode has judged they are trusted.
-fn reals_width(src: &[u8], at: usize, mode: Mode, n: usize, judged: bool) -> usize
+// The bytes of each record, where `n` reals stand in their usual form. In a file that exact mode has judged they are trusted.
+fn reals_width(src: &[u8], at: usize, mode: Mode, n: usize, judged: bool) -> Option<usize>
     requires { judged ≡ true → is_exact mode ≡ true → Usual mode src.now at 14 n }
-    ensures { 0 < result → Usual mode src.now at result n }
+    ensures { IfSome result (λ w. Usual mode src.now at w n) }
 {
     if judged {
         return trusted_width(src, at, mode, n);
@@ -242,29 +210,32 @@ fn reals_width(src: &[u8], at: usize, mode: Mode, n: usize, judged: bool) -> usi
     judged_width(src, at, mode, n)
 }
 
-// The angle of a row, or width 0.
-fn angle_at(src: &[u8], at: usize, mode: Mode, judged: bool) -> Said
+// The angle of a row.
+fn angle_at(src: &[u8], at: usize, mode: Mode, judged: bool) -> Option<Said>
     requires { judged ≡ true → is_exact mode ≡ true → Usual mode src.now at 14 1 }
-    ensures { 0 < result.width → RealAt mode src.now at result.width result.token }
+    ensures { IfSome result (λ r. RealAt mode src.now at r.width r.token) }
 {
     if judged {
         if is_exact(mode) {
-            return Said {
+            return Some(Said {
                 token: usual_value(src, at),
                 width: 14,
-            };
+            });
         }
     }
     let q = real_at(src, at, mode);
-    Said {
+    if q.width == 0 {
+        return None;
+    }
+    Some(Said {
         token: q.value,
         width: q.width,
-    }
+    })
 }
 
 // Two reals of one width, whose numbers are read where the file is judged.
 fn usual_point(src: &[u8], at: usize, width: usize, judged: bool) -> First
-    requires { (at + 2 * width < 18446744073709551616) × (0 < width) }
+    requires { at + 2 * width < 18446744073709551616 }
     ensures { PointIn src.now at width judged result }
 {
     let next = at + 2 * width;
@@ -278,104 +249,61 @@ fn usual_point(src: &[u8], at: usize, width: usize, judged: bool) -> First
     First { x: 0, y: 0, next }
 }
 
-// A point of a row, or place 0. Its numbers are wanted, and read, where the file is judged.
-fn point_at(src: &[u8], at: usize, mode: Mode, judged: bool) -> First
+// A point of a row. Its numbers are wanted, and read, where the file is judged.
+fn point_at(src: &[u8], at: usize, mode: Mode, judged: bool) -> Option<First>
     requires at_in_bounds { (at ≤ length src.now) × (length src.now ≤ file_most) }
     requires usual { judged ≡ true → is_exact mode ≡ true → Usual mode src.now at 14 2 }
-    ensures { 0 < result.next → PointAt mode src.now at judged result.x result.y result.next }
+    ensures { IfSome result (λ r. PointAt mode src.now at judged r.x r.y r.next) }
 {
-    let width = reals_width(src, at, mode, 2, judged);
-    if width > 0 {
-        return usual_point(src, at, width, judged);
+    if let Some(width) = reals_width(src, at, mode, 2, judged) {
+        return Some(usual_point(src, at, width, judged));
     }
     first_at(src, at, mode)
 }
 
-// Two points, or place 0.
-fn points_at(src: &[u8], at: usize, mode: Mode, judged: bool) -> TwoPoints
+// Two points.
+fn points_at(src: &[u8], at: usize, mode: Mode, judged: bool) -> Option<TwoPoints>
     requires at_in_bounds { (at ≤ length src.now) × (length src.now ≤ file_most) }
     requires usual { judged ≡ true → is_exact mode ≡ true → Usual mode src.now at 14 4 }
-    ensures { 0 < result.next → PointsAt mode src.now at judged result }
+    ensures { IfSome result (λ r. PointsAt mode src.now at judged r) }
 {
-    let width = reals_width(src, at, mode, 4, judged);
-    if width > 0 {
+    if let Some(width) = reals_width(src, at, mode, 4, judged) {
         let p = usual_point(src, at, width, judged);
         let q = usual_point(src, p.next, width, judged);
-        return TwoPoints {
+        return Some(TwoPoints {
             x: p.x,
             y: p.y,
             x2: q.x,
             y2: q.y,
             next: q.next,
-        };
+        });
     }
-    let p = first_at(src, at, mode);
-    if p.next == 0 {
-        return TwoPoints {
-            x: 0,
-            y: 0,
-            x2: 0,
-            y2: 0,
-            next: 0,
-        };
-    }
-    let q = first_at(src, p.next, mode);
-    TwoPoints {
+    let p = first_at(src, at, mode)?;
+    let q = first_at(src, p.next, mode)?;
+    Some(TwoPoints {
         x: p.x,
         y: p.y,
         x2: q.x,
         y2: q.y,
         next: q.next,
-    }
-}
-
-fn no_head() -> RowHead
-    ensures { result.next ≡ 0 }
-{
-    RowHead {
-        token: 0,
-        letters: 0,
-        word: 0,
-        number: 0,
-        angle: 0,
-        x: 0,
-        y: 0,
-        x2: 0,
-        y2: 0,
-        islands: 0,
-        vertices: 0,
-        records: 0,
-        next: 0,
-    }
+    })
 }
 
 // BORDO.
-fn border_at(src: &[u8], at: usize, mode: Mode, key: Said, judged: bool) -> RowHead
+fn border_at(src: &[u8], at: usize, mode: Mode, key: Said, judged: bool) -> Option<RowHead>
     requires key_says { KeySays mode src.now at key.width key.token × (key.token / 2 ≡ 1) }
     requires vouched { Vouched mode src.now at judged × (length src.now ≤ file_most) }
-    ensures { 0 < result.next → HeadRead mode src.now at judged result }
+    ensures { IfSome result (λ h. HeadRead mode src.now at judged h) }
 {
     let word = at + key.width;
-    let lead = lead_at(src, word, mode);
-    if lead.next == 0 {
-        return no_head();
-    }
-    let a = angle_at(src, lead.next, mode, judged);
-    if a.width == 0 {
-        return no_head();
-    }
-    let p = points_at(src, lead.next + a.width, mode, judged);
-    if p.next == 0 {
-        return no_head();
-    }
-    let counts = counts_at(src, p.next, mode);
-    if counts.next == 0 {
-        return no_head();
-    }
+    let lead = lead_at(src, word, mode)?;
+    let a = angle_at(src, lead.next, mode, judged)?;
+    let p = points_at(src, lead.next + a.width, mode, judged)?;
+    let counts = counts_at(src, p.next, mode)?;
     if !is_countable(1, counts.first, counts.second) {
-        return no_head();
+        return None;
     }
-    RowHead {
+    Some(RowHead {
         token: key.token,
         letters: lead.first,
         word,
@@ -389,29 +317,20 @@ fn border_at(src: &[u8], at: usize, mode: Mode, key: Said, judged: bool) -> RowH
         vertices: counts.second,
         records: 10,
         next: counts.next,
-    }
+    })
 }
 
 // TESTO.
-fn note_at(src: &[u8], at: usize, mode: Mode, key: Said, judged: bool) -> RowHead
+fn note_at(src: &[u8], at: usize, mode: Mode, key: Said, judged: bool) -> Option<RowHead>
     requires key_says { KeySays mode src.now at key.width key.token × (key.token / 2 ≡ 2) }
     requires vouched { Vouched mode src.now at judged × (length src.now ≤ file_most) }
-    ensures { 0 < result.next → HeadRead mode src.now at judged result }
+    ensures { IfSome result (λ h. HeadRead mode src.now at judged h) }
 {
     let word = at + key.width;
-    let lead = lead_at(src, word, mode);
-    if lead.next == 0 {
-        return no_head();
-    }
-    let a = angle_at(src, lead.next, mode, judged);
-    if a.width == 0 {
-        return no_head();
-    }
-    let p = point_at(src, lead.next + a.width, mode, judged);
-    if p.next == 0 {
-        return no_head();
-    }
-    RowHead {
+    let lead = lead_at(src, word, mode)?;
+    let a = angle_at(src, lead.next, mode, judged)?;
+    let p = point_at(src, lead.next + a.width, mode, judged)?;
+    Some(RowHead {
         token: key.token,
         letters: lead.first,
         word,
@@ -425,33 +344,24 @@ fn note_at(src: &[u8], at: usize, mode: Mode, key: Said, judged: bool) -> RowHea
         vertices: 0,
         records: 6,
         next: p.next,
-    }
+    })
 }
 
 // SIMBOLO.
-fn sign_at(src: &[u8], at: usize, mode: Mode, key: Said, judged: bool) -> RowHead
+fn sign_at(src: &[u8], at: usize, mode: Mode, key: Said, judged: bool) -> Option<RowHead>
     requires key_says { KeySays mode src.now at key.width key.token × (key.token / 2 ≡ 3) }
     requires vouched { Vouched mode src.now at judged × (length src.now ≤ file_most) }
-    ensures { 0 < result.next → HeadRead mode src.now at judged result }
+    ensures { IfSome result (λ h. HeadRead mode src.now at judged h) }
 {
     let code = at + key.width;
-    let n = integer_said(src, code, mode);
-    if n.width == 0 {
-        return no_head();
-    }
+    let n = integer_said(src, code, mode)?;
     if !is_taken(mode, 3, n.token) {
-        return no_head();
+        return None;
     }
     let angle = code + n.width;
-    let a = angle_at(src, angle, mode, judged);
-    if a.width == 0 {
-        return no_head();
-    }
-    let p = point_at(src, angle + a.width, mode, judged);
-    if p.next == 0 {
-        return no_head();
-    }
-    RowHead {
+    let a = angle_at(src, angle, mode, judged)?;
+    let p = point_at(src, angle + a.width, mode, judged)?;
+    Some(RowHead {
         token: key.token,
         letters: 0,
         word: 0,
@@ -465,28 +375,22 @@ fn sign_at(src: &[u8], at: usize, mode: Mode, key: Said, judged: bool) -> RowHea
         vertices: 0,
         records: 5,
         next: p.next,
-    }
+    })
 }
 
 // FIDUCIALE.
-fn mark_at(src: &[u8], at: usize, mode: Mode, key: Said, judged: bool) -> RowHead
+fn mark_at(src: &[u8], at: usize, mode: Mode, key: Said, judged: bool) -> Option<RowHead>
     requires key_says { KeySays mode src.now at key.width key.token × (key.token / 2 ≡ 4) }
     requires vouched { Vouched mode src.now at judged × (length src.now ≤ file_most) }
-    ensures { 0 < result.next → HeadRead mode src.now at judged result }
+    ensures { IfSome result (λ h. HeadRead mode src.now at judged h) }
 {
     let word = at + key.width;
-    let lead = lead_at(src, word, mode);
-    if lead.next == 0 {
-        return no_head();
-    }
+    let lead = lead_at(src, word, mode)?;
     if !is_taken(mode, 4, lead.second) {
-        return no_head();
+        return None;
     }
-    let p = points_at(src, lead.next, mode, judged);
-    if p.next == 0 {
-        return no_head();
-    }
-    RowHead {
+    let p = points_at(src, lead.next, mode, judged)?;
+    Some(RowHead {
         token: key.token,
         letters: lead.first,
         word,
@@ -500,26 +404,23 @@ fn mark_at(src: &[u8], at: usize, mode: Mode, key: Said, judged: bool) -> RowHea
         vertices: 0,
         records: 7,
         next: p.next,
-    }
+    })
 }
 
 // LINEA.
-fn path_at(src: &[u8], at: usize, mode: Mode, key: Said) -> RowHead
+fn path_at(src: &[u8], at: usize, mode: Mode, key: Said) -> Option<RowHead>
     requires { KeySays mode src.now at key.width key.token × (key.token / 2 ≡ 5) }
-    ensures { 0 < result.next → HeadAt mode src.now at result }
+    ensures { IfSome result (λ h. HeadAt mode src.now at h) }
 {
     let code = at + key.width;
-    let counts = counts_at(src, code, mode);
-    if counts.next == 0 {
-        return no_head();
-    }
+    let counts = counts_at(src, code, mode)?;
     if !is_taken(mode, 5, counts.first) {
-        return no_head();
+        return None;
     }
     if !is_countable(5, 0, counts.second) {
-        return no_head();
+        return None;
     }
-    RowHead {
+    Some(RowHead {
         token: key.token,
         letters: 0,
         word: 0,
@@ -533,35 +434,23 @@ fn path_at(src: &[u8], at: usize, mode: Mode, key: Said) -> RowHead
         vertices: counts.second,
         records: 3,
         next: counts.next,
-    }
+    })
 }
 
-// A row's head at a place, where the usual records are read; else its place behind is 0.
-pub(crate) fn head_at(src: &[u8], at: usize, mode: Mode, judged: bool) -> RowHead
+// A row's head at a place, where the usual records are read.
+pub(crate) fn head_at(src: &[u8], at: usize, mode: Mode, judged: bool) -> Option<RowHead>
     requires { Vouched mode src.now at judged × (length src.now ≤ file_most) }
-    ensures { 0 < result.next → HeadRead mode src.now at judged result }
+    ensures { IfSome result (λ h. HeadRead mode src.now at judged h) }
 {
-    let key = key_at(src, at, mode);
-    if key.width == 0 {
-        return no_head();
+    let key = key_at(src, at, mode)?;
+    match key.token / 2 {
+        1 => border_at(src, at, mode, key, judged),
+        2 => note_at(src, at, mode, key, judged),
+        3 => sign_at(src, at, mode, key, judged),
+        4 => mark_at(src, at, mode, key, judged),
+        5 => path_at(src, at, mode, key),
+        _ => None,
     }
-    let kind = key.token / 2;
-    if kind == 1 {
-        return border_at(src, at, mode, key, judged);
-    }
-    if kind == 2 {
-        return note_at(src, at, mode, key, judged);
-    }
-    if kind == 3 {
-        return sign_at(src, at, mode, key, judged);
-    }
-    if kind == 4 {
-        return mark_at(src, at, mode, key, judged);
-    }
-    if kind == 5 {
-        return path_at(src, at, mode, key);
-    }
-    no_head()
 }
 
 // The numbers of a BORDO, in the row that begins at b.
@@ -630,33 +519,20 @@ fn numbers_into(rows: &mut [i64], b: usize, h: RowHead)
     requires { (b + row_width ≤ length rows.old) × HeadFew h }
     ensures { rows.new ≡ rows_head h b rows.old }
 {
-    let kind = h.token / 2;
-    if kind == 1 {
-        return border_into(rows, b, h);
+    match h.token / 2 {
+        1 => border_into(rows, b, h),
+        2 => note_into(rows, b, h),
+        3 => sign_into(rows, b, h),
+        4 => mark_into(rows, b, h),
+        _ => path_into(rows, b, h),
     }
-    if kind == 2 {
-        return note_into(rows, b, h);
-    }
-    if kind == 3 {
-        return sign_into(rows, b, h);
-    }
-    if kind == 4 {
-        return mark_into(rows, b, h);
-    }
-    path_into(rows, b, h)
 }
 
 // A table of `len` numbers holds a row behind `count` rows, and one of `room` letters `n` letters behind `from`.
 pub(crate) fn holds_head(len: usize, count: usize, room: usize, from: usize, n: usize) -> bool
     ensures { result ≡ true → (row_width * count + row_width ≤ len) × (from + n ≤ room) }
 {
-    if len / ROW_WIDTH <= count {
-        return false;
-    }
-    if room < from {
-        return false;
-    }
-    if room - from < n { false } else { true }
+    len / ROW_WIDTH > count && room >= from && room - from >= n
 }
 
 // A row's head and its letters are stored, where the tables hold `a` already.
@@ -667,9 +543,7 @@ pub(crate) fn head_into(src: &[u8], h: RowHead, a: Needs, rows: &mut [i64], lett
     ensures letters_after { letters.new ≡ pasted letters.old a.letters (take h.letters (drop h.word src.now)) }
 {
     let base = ROW_WIDTH * a.rows;
-    let word = h.word;
-    let end = word + h.letters;
     put_row(rows, base, h.token, a);
     numbers_into(rows, base, h);
-    put_letters(letters, a.letters, &src[word..end]);
+    put_letters(letters, a.letters, &src[h.word..h.word + h.letters]);
 }

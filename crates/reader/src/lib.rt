@@ -17,21 +17,22 @@ mod whole_rows;
 ghost use Rattle.std.specs.Prelude.{◌≡◌, length};
 ghost use Rattle.record.specs.declared.Mode.TheVariants.{Exact};
 ghost use Rattle.sheet.specs.Reading.{reading};
-ghost use Rattle.reader.specs.Read.{rooms_of, holds_all, refused_in, read_of, tables_in, written};
+ghost use Rattle.reader.specs.Columns.{located_in};
+ghost use Rattle.reader.specs.Read.{rooms_of, holds_all, read_of, tables_in, written};
 
 use crate::first_pass::judge;
 use crate::second_pass::fill;
 use column::column_at;
-use header::{Ahead, header_at};
+use header::{Headed, Stopped, header_at};
 use heading::Header;
 use kinds::ROW_WIDTH;
 use machine::State;
-use record::refusal::TOO_LONG;
+use record::refusal::Refusal;
 use record::{FILE_MOST, Mode};
 use token::Want;
 
 // How many rows, letters, island counts and points a file needs.
-#[derive(Clone, Copy)]
+#[derive(Clone, Copy, Debug, PartialEq, Eq)]
 pub struct Needs {
     pub rows: usize,
     pub letters: usize,
@@ -50,54 +51,29 @@ struct ReadStand {
     pub needs: Needs,
 }
 
-// One record further, with its token and its content's length; or a refusal; or the end of the file.
+// One record further, with its token and its content's length.
 #[derive(Clone, Copy)]
-enum Turn {
-    On {
-        stand: ReadStand,
-        token: usize,
-        len: usize,
-    },
-    Refused {
-        number: usize,
-        record: usize,
-        offset: usize,
-    },
-    Done,
+struct Turn {
+    pub stand: ReadStand,
+    pub token: usize,
+    pub len: usize,
 }
 
+// A sheet that is read: its header, and what it used of each table.
 #[derive(Clone, Copy)]
-enum Judged {
-    Fine(Needs),
-    Refused {
-        number: usize,
-        record: usize,
-        offset: usize,
-        column: usize,
-    },
-}
-
-// The answer to a reading: read, with what was used; no room (14), with what is needed; or refused, located.
-#[derive(Clone, Copy)]
-pub enum Answer {
-    Read(Needs),
-    NoRoom(Needs),
-    Refused {
-        number: usize,
-        record: usize,
-        offset: usize,
-    },
-}
-
-// The answer and, beside it, the header, all zero where the sheet is not read, and the column: 0 but where a number is malformed (8).
-#[derive(Clone, Copy)]
-pub struct Outcome {
-    pub answer: Answer,
+pub struct Reading {
     pub header: Header,
-    pub column: usize,
+    pub needs: Needs,
 }
 
-// A ring's size, and the bytes of the record that says it.
+// Why a sheet is not read: no room (14), with what is needed; or refused where it stands, with the column: 0 but where a number is malformed (8).
+#[derive(Clone, Copy, Debug, PartialEq, Eq)]
+pub enum Unread {
+    NoRoom(Needs),
+    Refused(Stopped, usize),
+}
+
+// A ring's size, and the bytes of the record that says it. (No Option: where none is said, the machine and the place of the next size go by 0 of each.)
 #[derive(Clone, Copy)]
 struct Size {
     pub n: usize,
@@ -138,7 +114,7 @@ struct TwoPoints {
 }
 
 // A row from its keyword up to its vertices: what its records say, 0 where it has none; where its letters stand; the place behind, and how
-// many records they are. Place 0 where it is not seen.
+// many records they are.
 #[derive(Clone, Copy)]
 struct RowHead {
     pub token: usize,
@@ -157,38 +133,22 @@ struct RowHead {
 }
 
 // Every table is long enough: 15 numbers a row, two a point.
+#[tactic(auto, unfolding(crate::specs::Read::holds_all))]
 fn has_room(a: Needs, rows: usize, letters: usize, islands: usize, points: usize) -> bool
     ensures { result ≡ holds_all a (rooms_of rows letters islands points) }
 {
-    let nr = a.rows;
-    let nl = a.letters;
-    let ni = a.islands;
-    let np = a.points;
-    if nr > rows / ROW_WIDTH {
-        return false;
-    }
-    if nl > letters {
-        return false;
-    }
-    if ni > islands {
-        return false;
-    }
-    if np > points / 2 { false } else { true }
+    a.rows <= rows / ROW_WIDTH
+        && a.letters <= letters
+        && a.islands <= islands
+        && a.points <= points / 2
 }
 
-// An answer with no sheet has no header.
-fn without(answer: Answer, column: usize) -> Outcome
-    ensures { result ≡ refused_in column answer }
+// A refusal with its column, by what its record was to be read as.
+fn located(src: &[u8], mode: Mode, want: Want, stopped: Stopped) -> Unread
+    ensures { result ≡ located_in mode src.now want stopped }
 {
-    Outcome {
-        answer,
-        header: Header {
-            kind: 0,
-            name: [0; 11],
-            scale: 0,
-        },
-        column,
-    }
+    let column = column_at(src, stopped.offset, mode, want, stopped.refusal.number());
+    Unread::Refused(stopped, column)
 }
 
 // Reads a sheet in the mode that is named, into the tables that are lent.
@@ -199,70 +159,37 @@ pub fn read_as(
     letters: &mut [u8],
     islands: &mut [u16],
     points: &mut [i64],
-) -> Outcome
+) -> Result<Reading, Unread>
     ensures value { result ≡ read_of mode src.now (rooms_of (length rows.old) (length letters.old) (length islands.old) (length points.old)) }
-    ensures rows_after { rows.new ≡ written result.answer (tables_in (reading mode src.now)).rows rows.old }
-    ensures letters_after { letters.new ≡ written result.answer (tables_in (reading mode src.now)).letters letters.old }
-    ensures islands_after { islands.new ≡ written result.answer (tables_in (reading mode src.now)).islands islands.old }
-    ensures points_after { points.new ≡ written result.answer (tables_in (reading mode src.now)).points points.old }
+    ensures rows_after { rows.new ≡ written result (tables_in (reading mode src.now)).rows rows.old }
+    ensures letters_after { letters.new ≡ written result (tables_in (reading mode src.now)).letters letters.old }
+    ensures islands_after { islands.new ≡ written result (tables_in (reading mode src.now)).islands islands.old }
+    ensures points_after { points.new ≡ written result (tables_in (reading mode src.now)).points points.old }
 {
     if src.len() > FILE_MOST {
-        let refused = Answer::Refused {
-            number: TOO_LONG,
+        let stopped = Stopped {
+            refusal: Refusal::TooLong,
             record: 0,
             offset: 0,
         };
-        return without(refused, 0);
+        return Err(Unread::Refused(stopped, 0));
     }
-    let headed = header_at(src, mode);
-    let ahead = headed.ahead;
-    let header = headed.header;
-    match ahead {
-        Ahead::Refused {
-            number,
-            record,
-            offset,
-        } => {
-            let refused = Answer::Refused {
-                number,
-                record,
-                offset,
-            };
-            without(refused, column_at(src, offset, mode, Want::Real, number))
-        }
-        Ahead::Sections { at } => match judge(src, mode, at) {
-            Judged::Refused {
-                number,
-                record,
-                offset,
-                column,
-            } => {
-                let refused = Answer::Refused {
-                    number,
-                    record,
-                    offset,
-                };
-                without(refused, column)
-            }
-            Judged::Fine(needs) => {
-                if !has_room(
-                    needs,
-                    rows.len(),
-                    letters.len(),
-                    islands.len(),
-                    points.len(),
-                ) {
-                    return without(Answer::NoRoom(needs), 0);
-                }
-                fill(src, mode, at, rows, letters, islands, points);
-                Outcome {
-                    answer: Answer::Read(needs),
-                    header,
-                    column: 0,
-                }
-            }
-        },
+    let Headed { header, at } = match header_at(src, mode) {
+        Ok(headed) => headed,
+        Err(stopped) => return Err(located(src, mode, Want::Real, stopped)),
+    };
+    let needs = judge(src, mode, at)?;
+    if !has_room(
+        needs,
+        rows.len(),
+        letters.len(),
+        islands.len(),
+        points.len(),
+    ) {
+        return Err(Unread::NoRoom(needs));
     }
+    fill(src, mode, at, rows, letters, islands, points);
+    Ok(Reading { header, needs })
 }
 
 // A reading that names no mode is exact (document 02, T-12).
@@ -272,12 +199,12 @@ pub fn read(
     letters: &mut [u8],
     islands: &mut [u16],
     points: &mut [i64],
-) -> Outcome
+) -> Result<Reading, Unread>
     ensures value { result ≡ read_of Exact src.now (rooms_of (length rows.old) (length letters.old) (length islands.old) (length points.old)) }
-    ensures rows_after { rows.new ≡ written result.answer (tables_in (reading Exact src.now)).rows rows.old }
-    ensures letters_after { letters.new ≡ written result.answer (tables_in (reading Exact src.now)).letters letters.old }
-    ensures islands_after { islands.new ≡ written result.answer (tables_in (reading Exact src.now)).islands islands.old }
-    ensures points_after { points.new ≡ written result.answer (tables_in (reading Exact src.now)).points points.old }
+    ensures rows_after { rows.new ≡ written result (tables_in (reading Exact src.now)).rows rows.old }
+    ensures letters_after { letters.new ≡ written result (tables_in (reading Exact src.now)).letters letters.old }
+    ensures islands_after { islands.new ≡ written result (tables_in (reading Exact src.now)).islands islands.old }
+    ensures points_after { points.new ≡ written result (tables_in (reading Exact src.now)).points points.old }
 {
     read_as(Mode::Exact, src, rows, letters, islands, points)
 }

@@ -29,19 +29,10 @@ fn skim_piece(src: &[u8], mode: Mode, d: ReadStand) -> ReadStand
     requires { InFile src.now d }
     ensures { Turns mode src.now d result }
 {
-    let st = d.state;
-    match st {
+    match d.state {
         State::Due => skim_heads(src, mode, d),
-        State::Field {
-            kind: _,
-            place: _,
-            islands: _,
-        } => skim_fields(src, mode, d),
-        State::Island {
-            left: _,
-            spare: _,
-            rings: _,
-        } => islands_skim(src, mode, d),
+        State::Field { .. } => skim_fields(src, mode, d),
+        State::Island { .. } => islands_skim(src, mode, d),
         State::X(_) => skim_ring(src, mode, d),
         State::Y(_, _) => d,
     }
@@ -88,19 +79,10 @@ fn put_piece(
     requires { InFile src.now d × Sure mode src.now d }
     ensures { Puts mode src.now d rows.old letters.old islands.old points.old result rows.new letters.new islands.new points.new }
 {
-    let st = d.state;
-    match st {
+    match d.state {
         State::Due => put_heads(src, mode, d, rows, letters, points),
-        State::Field {
-            kind: _,
-            place: _,
-            islands: _,
-        } => fields_into(src, mode, d, rows),
-        State::Island {
-            left: _,
-            spare: _,
-            rings: _,
-        } => islands_into(src, mode, d, islands),
+        State::Field { .. } => fields_into(src, mode, d, rows),
+        State::Island { .. } => islands_into(src, mode, d, islands),
         State::X(_) => put_ring(src, mode, d, points),
         State::Y(_, _) => d,
     }

@@ -1,5 +1,5 @@
 // Whole rings in their usual form, and island counts, in one go, for both passes: the second trusts what the first has judged.
-ghost use Rattle.std.specs.Prelude.{◌≡◌, true, ◌+◌, ◌*◌, ◌<◌, ◌≤◌, length, drop};
+ghost use Rattle.std.specs.Prelude.{◌≡◌, true, ◌+◌, ◌*◌, ◌<◌, ◌≤◌, length, drop, IfSome};
 ghost use Rattle.record.specs.Record.{is_exact};
 ghost use Rattle.record.specs.Refusals.{file_most};
 ghost use Rattle.quick.specs.Seen.{Usual};
@@ -12,7 +12,7 @@ use crate::cells::{put_island, put_real};
 use crate::first_runs::ended_at;
 use crate::turns::size_of;
 use crate::{Needs, ReadStand, Size};
-use machine::{Ring, State, Step, step_at};
+use machine::{Ring, State, step_at};
 use quick::by_word::usual_value;
 use quick::integers::integer_at;
 use quick::usual_run;
@@ -37,29 +37,21 @@ fn size_at(src: &[u8], at: usize, mode: Mode) -> Size
 fn is_whole(r: Ring, len: usize) -> bool
     ensures { result ≡ true → (r.fresh ≡ true) × (2 ≤ r.left) × (r.left ≤ len) }
 {
-    let fresh = r.fresh;
-    let left = r.left;
-    if !fresh {
-        return false;
-    }
-    if left < 2 {
-        return false;
-    }
-    if left > len { false } else { true }
+    r.fresh && r.left >= 2 && r.left <= len
 }
 
-// The bytes of each record, where `n` reals stand in their usual form; or 0.
-pub(crate) fn judged_width(src: &[u8], at: usize, mode: Mode, n: usize) -> usize
-    ensures { 0 < result → Usual mode src.now at result n }
+// The bytes of each record, where `n` reals stand in their usual form.
+pub(crate) fn judged_width(src: &[u8], at: usize, mode: Mode, n: usize) -> Option<usize>
+    ensures { IfSome result (λ w. Usual mode src.now at w n) }
 {
     let run = usual_run(src, at, mode, n);
     if run.count < n {
-        return 0;
+        return None;
     }
-    run.width
+    Some(run.width)
 }
 
-// The same real twice, by its bytes: of two in the usual form, equal bytes are one number.
+// The same real twice, by its bytes: of two in the usual form, equal bytes are one number. (Written out: == on slices is a loop, and this is hot.)
 fn is_same_real(a: &[u8], b: &[u8]) -> bool
     requires { (length a.now ≡ 12) × (length b.now ≡ 12) }
     ensures { result ≡ true → a.now ≡ b.now }
@@ -98,38 +90,24 @@ fn past_ring(d: ReadStand, r: Ring, at: usize, size: Size) -> ReadStand
     requires { (d.nth + 2 * r.left < 18446744073709551616) × (d.needs.points + r.left < 18446744073709551616) × (d.ring + size.width < 18446744073709551616) }
     ensures { result ≡ past_ring d r at size }
 {
-    let left = r.left;
-    let rings = r.rings;
-    if rings == 0 {
-        return ended_at(d, left, at);
+    if r.rings == 0 {
+        return ended_at(d, r.left, at);
     }
-    let closed = r.closed;
-    let nth = d.nth;
-    let ring = d.ring;
-    let needs = d.needs;
-    let rows = needs.rows;
-    let letters = needs.letters;
-    let islands = needs.islands;
-    let points = needs.points;
-    let n = size.n;
-    let width = size.width;
     ReadStand {
         state: State::X(Ring {
-            closed,
             fresh: true,
-            rings: rings - 1,
-            left: n,
+            rings: r.rings - 1,
+            left: size.n,
             fx: 0,
             fy: 0,
+            ..r
         }),
         at,
-        nth: nth + 2 * left,
-        ring: ring + width,
+        nth: d.nth + 2 * r.left,
+        ring: d.ring + size.width,
         needs: Needs {
-            rows,
-            letters,
-            islands,
-            points: points + left,
+            points: d.needs.points + r.left,
+            ..d.needs
         },
     }
 }
@@ -139,34 +117,30 @@ pub(crate) fn ring_skim(src: &[u8], mode: Mode, d: ReadStand) -> ReadStand
     requires { InFile src.now d }
     ensures { Turns mode src.now d result }
 {
-    let st = d.state;
-    let at = d.at;
-    let State::X(r) = st else {
+    let State::X(r) = d.state else {
         return d;
     };
     if !is_whole(r, src.len()) {
         return d;
     }
-    let closed = r.closed;
     let n = 2 * r.left;
-    let width = judged_width(src, at, mode, n);
-    if width == 0 {
+    let Some(width) = judged_width(src, d.at, mode, n) else {
+        return d;
+    };
+    let last = d.at + width * (n - 2);
+    if !is_shut_there(src, d.at, width, last, r.closed) {
         return d;
     }
-    let last = at + width * (n - 2);
-    if !is_shut_there(src, at, width, last, closed) {
-        return d;
-    }
-    past_ring(d, r, at + width * n, size_at(src, d.ring, mode))
+    past_ring(d, r, d.at + width * n, size_at(src, d.ring, mode))
 }
 
 // As `judged_width` says; but what exact mode has judged before is trusted.
-pub(crate) fn trusted_width(src: &[u8], at: usize, mode: Mode, n: usize) -> usize
+pub(crate) fn trusted_width(src: &[u8], at: usize, mode: Mode, n: usize) -> Option<usize>
     requires { is_exact mode ≡ true → Usual mode src.now at 14 n }
-    ensures { 0 < result → Usual mode src.now at result n }
+    ensures { IfSome result (λ w. Usual mode src.now at w n) }
 {
     if is_exact(mode) {
-        return 14;
+        return Some(14);
     }
     judged_width(src, at, mode, n)
 }
@@ -175,11 +149,7 @@ pub(crate) fn trusted_width(src: &[u8], at: usize, mode: Mode, n: usize) -> usiz
 pub(crate) fn holds_ring(len: usize, from: usize, n: usize) -> bool
     ensures { result ≡ true → 2 * (from + n) ≤ len }
 {
-    let half = len / 2;
-    if half < from {
-        return false;
-    }
-    if half - from < n { false } else { true }
+    len / 2 >= from && len / 2 - from >= n
 }
 
 // The reals of `n` records, stored from a cell on.
@@ -194,13 +164,10 @@ pub(crate) fn values_into(
     requires { Storable src.now at width n (length table.old) cell }
     ensures { table.new ≡ stored_reals src.now at width cell table.old n }
 {
-    let mut k = 0;
     let mut here = at;
-    while k < n {
-        let v = usual_value(src, here);
-        put_real(table, cell + k, v);
+    for k in 0..n {
+        put_real(table, cell + k, usual_value(src, here));
         here += width;
-        k += 1;
     }
 }
 
@@ -209,27 +176,21 @@ pub(crate) fn ring_into(src: &[u8], mode: Mode, d: ReadStand, points: &mut [i64]
     requires { InFile src.now d × Sure mode src.now d }
     ensures { Stores mode src.now d points.old result points.new }
 {
-    let st = d.state;
-    let at = d.at;
-    let needs = d.needs;
-    let from = needs.points;
-    let State::X(r) = st else {
+    let State::X(r) = d.state else {
         return d;
     };
-    let left = r.left;
     if !is_whole(r, src.len()) {
         return d;
     }
-    if !holds_ring(points.len(), from, left) {
+    if !holds_ring(points.len(), d.needs.points, r.left) {
         return d;
     }
-    let n = 2 * left;
-    let width = trusted_width(src, at, mode, n);
-    if width == 0 {
+    let n = 2 * r.left;
+    let Some(width) = trusted_width(src, d.at, mode, n) else {
         return d;
-    }
-    values_into(src, at, width, n, points, 2 * from);
-    past_ring(d, r, at + width * n, size_at(src, d.ring, mode))
+    };
+    values_into(src, d.at, width, n, points, 2 * d.needs.points);
+    past_ring(d, r, d.at + width * n, size_at(src, d.ring, mode))
 }
 
 // A stand at another state, `k` island counts further.
@@ -237,24 +198,15 @@ fn past_islands(d: ReadStand, state: State, at: usize, k: usize) -> ReadStand
     requires { (d.nth + k < 18446744073709551616) × (d.needs.islands + k < 18446744073709551616) }
     ensures { result ≡ past_islands d state at k }
 {
-    let nth = d.nth;
-    let ring = d.ring;
-    let needs = d.needs;
-    let rows = needs.rows;
-    let letters = needs.letters;
-    let islands = needs.islands;
-    let points = needs.points;
     ReadStand {
         state,
         at,
-        nth: nth + k,
-        ring,
+        nth: d.nth + k,
         needs: Needs {
-            rows,
-            letters,
-            islands: islands + k,
-            points,
+            islands: d.needs.islands + k,
+            ..d.needs
         },
+        ..d
     }
 }
 
@@ -276,7 +228,7 @@ pub(crate) fn islands_skim(src: &[u8], mode: Mode, d: ReadStand) -> ReadStand
         if width == 0 {
             return past_islands(d, st, here, k);
         }
-        let Step::Go(state) = step_at(mode, State::Island { left, spare, rings }, n, 0) else {
+        let Ok(Some(state)) = step_at(mode, State::Island { left, spare, rings }, n, 0) else {
             return past_islands(d, st, here, k);
         };
         st = state;
@@ -305,7 +257,7 @@ pub(crate) fn islands_into(src: &[u8], mode: Mode, d: ReadStand, islands: &mut [
         if width == 0 {
             return past_islands(d, st, here, k);
         }
-        let Step::Go(state) = step_at(mode, State::Island { left, spare, rings }, n, 0) else {
+        let Ok(Some(state)) = step_at(mode, State::Island { left, spare, rings }, n, 0) else {
             return past_islands(d, st, here, k);
         };
         let cell = from + k;

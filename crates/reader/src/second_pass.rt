@@ -5,7 +5,6 @@ ghost use Rattle.record.specs.Refusals.{file_most};
 ghost use Rattle.sheet.specs.Reading.{walk_from};
 ghost use Rattle.reader.specs.Store.{section_tables, Room};
 
-use crate::Turn;
 use crate::cells::store;
 use crate::pieces::put_rows;
 use crate::turns::{first_stand, turn_at};
@@ -30,22 +29,16 @@ pub(crate) fn fill(
 {
     let mut d = first_stand(start);
     loop {
-        let st = d.state;
-        let at = d.at;
-        let needs = d.needs;
         match turn_at(src, mode, d) {
-            Turn::On { stand, token, len } => {
-                let end = at + len;
-                let c = &src[at..end];
-                store(st, token, c, needs, rows, letters, islands, points);
-                d = put_rows(src, mode, stand, rows, letters, islands, points);
+            Ok(Some(turn)) => {
+                let c = &src[d.at..d.at + turn.len];
+                store(
+                    d.state, turn.token, c, d.needs, rows, letters, islands, points,
+                );
+                d = put_rows(src, mode, turn.stand, rows, letters, islands, points);
             }
-            Turn::Refused {
-                number: _,
-                record: _,
-                offset: _,
-            } => return,
-            Turn::Done => return,
+            Ok(None) => return,
+            Err(_) => return,
         }
     }
 }

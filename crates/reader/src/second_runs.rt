@@ -9,7 +9,7 @@ use crate::ReadStand;
 use crate::cells::{put_field, put_real};
 use crate::first_runs::{begun_at, ended_at, first_at, is_ending, onward_at, past_at, said_at};
 use kinds::ROW_WIDTH;
-use machine::{Ring, State, Step, field_step, is_shut};
+use machine::{Ring, State, field_step, is_shut};
 use quick::{Run, real_at};
 use record::Mode;
 
@@ -17,10 +17,7 @@ use record::Mode;
 fn is_begun(len: usize, count: usize) -> bool
     ensures { result ≡ true → (1 ≤ count) × (row_width * count ≤ len) }
 {
-    if count < 1 {
-        return false;
-    }
-    if len / ROW_WIDTH < count { false } else { true }
+    count >= 1 && len / ROW_WIDTH >= count
 }
 
 // As `skim_fields` goes, with the numbers stored in the last row.
@@ -28,12 +25,10 @@ pub(crate) fn fields_into(src: &[u8], mode: Mode, d: ReadStand, rows: &mut [i64]
     requires { InFile src.now d }
     ensures { Enters mode src.now d rows.old result rows.new }
 {
-    let needs = d.needs;
-    let count = needs.rows;
-    if !is_begun(rows.len(), count) {
+    if !is_begun(rows.len(), d.needs.rows) {
         return d;
     }
-    let row = ROW_WIDTH * (count - 1);
+    let row = ROW_WIDTH * (d.needs.rows - 1);
     let mut st = d.state;
     let mut here = d.at;
     let mut ring = d.ring;
@@ -47,18 +42,15 @@ pub(crate) fn fields_into(src: &[u8], mode: Mode, d: ReadStand, rows: &mut [i64]
         else {
             return onward_at(d, st, here, ring, k);
         };
-        let said = said_at(src, here, mode, place);
-        let token = said.token;
-        let width = said.width;
-        if width == 0 {
-            return onward_at(d, st, here, ring, k);
-        }
-        let Step::Go(state) = field_step(mode, kind, place, islands, token) else {
+        let Some(said) = said_at(src, here, mode, place) else {
             return onward_at(d, st, here, ring, k);
         };
-        put_field(rows, row + place, place, token);
+        let Ok(Some(state)) = field_step(mode, kind, place, islands, said.token) else {
+            return onward_at(d, st, here, ring, k);
+        };
+        put_field(rows, row + place, place, said.token);
         st = state;
-        here = here + width;
+        here += said.width;
         ring = here;
         k += 1;
     }
@@ -68,15 +60,7 @@ pub(crate) fn fields_into(src: &[u8], mode: Mode, d: ReadStand, rows: &mut [i64]
 fn room_at(len: usize, from: usize, most: usize) -> usize
     ensures { (result ≤ most) × (0 < result → 2 * (from + result) ≤ len) }
 {
-    let half = len / 2;
-    if half < from {
-        return 0;
-    }
-    let room = half - from;
-    if most < room {
-        return most;
-    }
-    room
+    (len / 2).saturating_sub(from).min(most)
 }
 
 // At most so many vertices from a place on, as many as stand there in the usual form, stored behind `from` points.
@@ -84,9 +68,8 @@ fn store_run(src: &[u8], at: usize, mode: Mode, most: usize, points: &mut [i64],
     ensures { (result.count ≤ most) × VerticesStored mode src.now at from points.old result.count result.next points.new }
 {
     let room = room_at(points.len(), from, most);
-    let mut k = 0;
     let mut here = at;
-    while k < room {
+    for k in 0..room {
         let x = real_at(src, here, mode);
         if x.width == 0 {
             return Run {
@@ -106,10 +89,9 @@ fn store_run(src: &[u8], at: usize, mode: Mode, most: usize, points: &mut [i64],
         put_real(points, p, x.value);
         put_real(points, p + 1, y.value);
         here = mid + y.width;
-        k += 1;
     }
     Run {
-        count: k,
+        count: room,
         next: here,
     }
 }
@@ -127,28 +109,20 @@ fn shut_into(
     requires { Runs src.now d r k at }
     ensures { Stores mode src.now (past_vertices d r k at) points.old result points.new }
 {
-    let closed = r.closed;
-    let fx = r.fx;
-    let fy = r.fy;
-    let needs = d.needs;
-    let p = 2 * (needs.points + k);
+    let p = 2 * (d.needs.points + k);
     if !is_ending(r, k) {
         return past_at(d, r, k, at);
     }
     if p + 1 >= points.len() {
         return past_at(d, r, k, at);
     }
-    let f = first_at(src, at, mode);
-    let x = f.x;
-    let y = f.y;
-    let next = f.next;
-    if next == 0 {
+    let Some(f) = first_at(src, at, mode) else {
         return past_at(d, r, k, at);
-    }
-    if is_shut(closed, fx, fy, x, y) {
-        put_real(points, p, x);
-        put_real(points, p + 1, y);
-        return ended_at(d, k + 1, next);
+    };
+    if is_shut(r.closed, r.fx, r.fy, f.x, f.y) {
+        put_real(points, p, f.x);
+        put_real(points, p + 1, f.y);
+        return ended_at(d, k + 1, f.next);
     }
     past_at(d, r, k, at)
 }
@@ -159,26 +133,26 @@ fn fresh_into(src: &[u8], mode: Mode, d: ReadStand, r: Ring, points: &mut [i64])
     requires state_value { (d.state ≡ X r) × (r.fresh ≡ true) × (2 ≤ r.left) }
     ensures { Stores mode src.now d points.old result points.new }
 {
-    let left = r.left;
-    let needs = d.needs;
-    let from = needs.points;
+    let from = d.needs.points;
     let p = 2 * from;
     if p + 1 >= points.len() {
         return d;
     }
-    let f = first_at(src, d.at, mode);
-    let x = f.x;
-    let y = f.y;
-    let next = f.next;
-    if next == 0 {
+    let Some(f) = first_at(src, d.at, mode) else {
         return d;
-    }
-    put_real(points, p, x);
-    put_real(points, p + 1, y);
-    let run = store_run(src, next, mode, left - 2, points, from + 1);
-    let count = run.count;
-    let end = run.next;
-    shut_into(src, mode, d, begun_at(r, x, y), count + 1, end, points)
+    };
+    put_real(points, p, f.x);
+    put_real(points, p + 1, f.y);
+    let run = store_run(src, f.next, mode, r.left - 2, points, from + 1);
+    shut_into(
+        src,
+        mode,
+        d,
+        begun_at(r, f.x, f.y),
+        run.count + 1,
+        run.next,
+        points,
+    )
 }
 
 // As `skim` goes, with the points stored.
@@ -186,34 +160,15 @@ pub(crate) fn run_into(src: &[u8], mode: Mode, d: ReadStand, points: &mut [i64])
     requires { InFile src.now d }
     ensures { Stores mode src.now d points.old result points.new }
 {
-    let st = d.state;
-    let needs = d.needs;
-    match st {
-        State::Due => d,
-        State::Field {
-            kind: _,
-            place: _,
-            islands: _,
-        } => d,
-        State::Island {
-            left: _,
-            spare: _,
-            rings: _,
-        } => d,
-        State::Y(_, _) => d,
-        State::X(r) => {
-            let fresh = r.fresh;
-            let left = r.left;
-            if left < 2 {
-                return d;
-            }
-            if fresh {
-                return fresh_into(src, mode, d, r, points);
-            }
-            let run = store_run(src, d.at, mode, left - 1, points, needs.points);
-            let count = run.count;
-            let next = run.next;
-            shut_into(src, mode, d, r, count, next, points)
-        }
+    let State::X(r) = d.state else {
+        return d;
+    };
+    if r.left < 2 {
+        return d;
     }
+    if r.fresh {
+        return fresh_into(src, mode, d, r, points);
+    }
+    let run = store_run(src, d.at, mode, r.left - 1, points, d.needs.points);
+    shut_into(src, mode, d, r, run.count, run.next, points)
 }

@@ -2,15 +2,16 @@
 ghost use Rattle.std.specs.Prelude.{◌≡◌, ◌+◌, ◌<◌, ◌≤◌, length};
 ghost use Rattle.laws.specs.Lists.{tail};
 ghost use Rattle.machine.specs.Machine.{step_of, of_step, one_of};
-ghost use Rattle.reader.specs.Turn.{size_of, is_turning, size_next, isl_next, Few, counted_as, added, closing, turn_of, stand_at, InFile, RealDue};
+ghost use Rattle.reader.specs.Turn.{size_of, is_turning, size_next, isl_next, Few, added, closing, turn_of, stand_at, InFile, RealDue};
 
 use crate::cells::LETTERS_PLACE;
 use crate::{Needs, ReadStand, Size, Turn};
-use machine::{One, State, Step, one_at, step_at, wanted};
-use number::{Whole, integer};
+use header::Stopped;
+use machine::{One, State, one_at, step_at, wanted};
+use number::integer;
 use quick::{RealTaken, padded};
-use record::refusal::AFTER_EOF;
-use record::{Line, Mode, line_at};
+use record::refusal::Refusal;
+use record::{Mode, line_at};
 use token::Want;
 
 // The number of the record that a file's sections begin with.
@@ -21,10 +22,13 @@ pub(crate) fn size_of(bs: &[u8], mode: Mode) -> Size
     ensures { result ≡ size_of mode bs.now }
 {
     match line_at(bs, mode, false) {
-        Line::Bad(_) => Size { n: 0, width: 0 },
-        Line::Got { len, width } => match integer(&bs[..len], mode) {
-            Whole::Is(n) => Size { n, width },
-            Whole::Malformed => Size { n: 0, width: 0 },
+        Err(_) => Size { n: 0, width: 0 },
+        Ok(line) => match integer(&bs[..line.len], mode) {
+            None => Size { n: 0, width: 0 },
+            Some(n) => Size {
+                n,
+                width: line.width,
+            },
         },
     }
 }
@@ -34,26 +38,8 @@ fn is_turning(st: State) -> bool
     ensures { result ≡ is_turning st }
 {
     match st {
-        State::Due => false,
-        State::Field {
-            kind: _,
-            place: _,
-            islands: _,
-        } => false,
-        State::Island {
-            left: _,
-            spare: _,
-            rings: _,
-        } => false,
-        State::X(_) => false,
-        State::Y(r, _) => {
-            let left = r.left;
-            if left > 1 {
-                return false;
-            }
-            let rings = r.rings;
-            if rings == 0 { false } else { true }
-        }
+        State::Y(r, _) => r.left <= 1 && r.rings != 0,
+        _ => false,
     }
 }
 
@@ -72,80 +58,59 @@ fn ring_next(st: State, ring: usize, width: usize, at: usize) -> usize
     ensures { result ≡ isl_next st ring width at }
 {
     match st {
-        State::Due => ring,
-        State::Field {
-            kind: _,
-            place: _,
-            islands: _,
-        } => at,
-        State::Island {
-            left: _,
-            spare: _,
-            rings: _,
-        } => ring,
-        State::X(_) => ring,
+        State::Field { .. } => at,
         State::Y(_, _) => ring + width,
-    }
-}
-
-fn counted(rows: usize, letters: usize, islands: usize, points: usize) -> Needs
-    ensures { result ≡ counted_as rows letters islands points }
-{
-    Needs {
-        rows,
-        letters,
-        islands,
-        points,
+        State::Due | State::Island { .. } | State::X(_) => ring,
     }
 }
 
 // What a record with the token `t` adds to the needs.
+#[tactic(auto, unfolding(crate::specs::Turn::added))]
 fn more_needs(a: Needs, st: State, t: usize) -> Needs
     requires { Few (added a st t) }
     ensures { result ≡ added a st t }
 {
-    let rows = a.rows;
-    let letters = a.letters;
-    let islands = a.islands;
-    let points = a.points;
     match st {
-        State::Due => counted(rows + 1, letters, islands, points),
-        State::Field {
-            kind: _,
-            place,
-            islands: _,
-        } => {
+        State::Due => Needs {
+            rows: a.rows + 1,
+            ..a
+        },
+        State::Field { place, .. } => {
             if place == LETTERS_PLACE {
-                return counted(rows, letters + t, islands, points);
+                return Needs {
+                    letters: a.letters + t,
+                    ..a
+                };
             }
             a
         }
-        State::Island {
-            left: _,
-            spare: _,
-            rings: _,
-        } => counted(rows, letters, islands + 1, points),
+        State::Island { .. } => Needs {
+            islands: a.islands + 1,
+            ..a
+        },
         State::X(_) => a,
-        State::Y(_, _) => counted(rows, letters, islands, points + 1),
+        State::Y(_, _) => Needs {
+            points: a.points + 1,
+            ..a
+        },
     }
 }
 
 // The EOF record ends before `next`, where the record `nth` would begin.
-fn closing_at(mode: Mode, nth: usize, next: usize, size: usize) -> Turn
+fn closing_at(mode: Mode, nth: usize, next: usize, size: usize) -> Result<Option<Turn>, Stopped>
     ensures { result ≡ closing mode nth next size }
 {
     match mode {
-        Mode::Loose => Turn::Done,
-        Mode::Former => Turn::Done,
+        Mode::Loose | Mode::Former => Ok(None),
         Mode::Exact => {
             if size <= next {
-                return Turn::Done;
+                return Ok(None);
             }
-            Turn::Refused {
-                number: AFTER_EOF,
+            Err(Stopped {
+                refusal: Refusal::AfterEof,
                 record: nth,
                 offset: next,
-            }
+            })
         }
     }
 }
@@ -156,30 +121,28 @@ fn quick_at(src: &[u8], at: usize, mode: Mode, st: State) -> RealTaken
 {
     match wanted(st) {
         Want::Real => padded(src, at, mode),
-        Want::Key => RealTaken { value: 0, width: 0 },
-        Want::Text => RealTaken { value: 0, width: 0 },
-        Want::Int => RealTaken { value: 0, width: 0 },
+        Want::Key | Want::Text | Want::Int => RealTaken { value: 0, width: 0 },
     }
 }
 
 // Where the token of a record with 12 characters leads.
-fn stepped(mode: Mode, st: State, t: usize, next: usize, width: usize) -> One
+fn stepped(mode: Mode, st: State, t: usize, next: usize, width: usize) -> Result<One, Refusal>
     ensures { result ≡ of_step t 12 width (step_of mode st t next) }
 {
-    match step_at(mode, st, t, next) {
-        Step::Go(state) => One::Go {
+    let one = match step_at(mode, st, t, next)? {
+        Some(state) => One::Go {
             state,
             token: t,
             len: 12,
             width,
         },
-        Step::No(number) => One::No(number),
-        Step::End => One::End(width),
-    }
+        None => One::End(width),
+    };
+    Ok(one)
 }
 
 // One record at a place.
-fn one_of(src: &[u8], at: usize, mode: Mode, st: State, next: usize) -> One
+fn one_of(src: &[u8], at: usize, mode: Mode, st: State, next: usize) -> Result<One, Refusal>
     requires { at ≤ length src.now }
     ensures { result ≡ one_of mode st next (tail src.now at) }
 {
@@ -191,43 +154,35 @@ fn one_of(src: &[u8], at: usize, mode: Mode, st: State, next: usize) -> One
 }
 
 // One record further.
-pub(crate) fn turn_at(src: &[u8], mode: Mode, d: ReadStand) -> Turn
+pub(crate) fn turn_at(src: &[u8], mode: Mode, d: ReadStand) -> Result<Option<Turn>, Stopped>
     requires { InFile src.now d }
     ensures { result ≡ turn_of mode src.now d }
 {
-    let st = d.state;
-    let at = d.at;
-    let nth = d.nth;
-    let ring = d.ring;
-    let needs = d.needs;
-    let size = size_next(&src[ring..], mode, st);
-    let n = size.n;
-    let wide = size.width;
-    match one_of(src, at, mode, st, n) {
-        One::No(number) => Turn::Refused {
-            number,
-            record: nth,
-            offset: at,
-        },
-        One::End(width) => closing_at(mode, nth + 1, at + width, src.len()),
-        One::Go {
-            state,
-            token,
-            len,
-            width,
-        } => {
-            let next = at + width;
-            Turn::On {
-                stand: ReadStand {
-                    state,
-                    at: next,
-                    nth: nth + 1,
-                    ring: ring_next(st, ring, wide, next),
-                    needs: more_needs(needs, st, token),
-                },
+    let size = size_next(&src[d.ring..], mode, d.state);
+    match one_of(src, d.at, mode, d.state, size.n) {
+        Err(refusal) => Err(Stopped {
+            refusal,
+            record: d.nth,
+            offset: d.at,
+        }),
+        Ok(One::End(width)) => closing_at(mode, d.nth + 1, d.at + width, src.len()),
+        Ok(
+            One::Go {
+                state,
                 token,
                 len,
-            }
+                width,
+            },
+        ) => {
+            let next = d.at + width;
+            let stand = ReadStand {
+                state,
+                at: next,
+                nth: d.nth + 1,
+                ring: ring_next(d.state, d.ring, size.width, next),
+                needs: more_needs(d.needs, d.state, token),
+            };
+            Ok(Some(Turn { stand, token, len }))
         }
     }
 }

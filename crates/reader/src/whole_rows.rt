@@ -1,6 +1,6 @@
 // Whole rows for speed: a head, and its vertices where they are one ring in its usual form, row after row, with plain numbers between them.
 // A row of another shape is left behind its head, for the pieces.
-ghost use Rattle.std.specs.Prelude.{◌≡◌, true, ◌+◌, ◌*◌, ◌<◌, ◌≤◌, length};
+ghost use Rattle.std.specs.Prelude.{◌≡◌, true, ◌+◌, ◌*◌, ◌<◌, ◌≤◌, length, IfSome, MatchOption};
 ghost use Rattle.record.specs.Record.{is_exact};
 ghost use Rattle.record.specs.Refusals.{file_most};
 ghost use Rattle.quick.specs.Seen.{Usual};
@@ -44,33 +44,37 @@ fn opened(kind: usize, islands: usize, vertices: usize) -> State
     })
 }
 
-// The place behind the vertices of a row, where they are one ring in its usual form, or none; else 0.
-fn only_ring(src: &[u8], mode: Mode, at: usize, kind: usize, islands: usize, n: usize) -> usize
+// The place behind the vertices of a row, where they are one ring in its usual form, or none.
+fn only_ring(
+    src: &[u8],
+    mode: Mode,
+    at: usize,
+    kind: usize,
+    islands: usize,
+    n: usize,
+) -> Option<usize>
     requires { (at ≤ length src.now) × (length src.now ≤ file_most) }
-    ensures { 0 < result → RingOver mode src.now at kind islands n result }
+    ensures { IfSome result (λ e. RingOver mode src.now at kind islands n e) }
 {
     if n == 0 {
-        return at;
+        return Some(at);
     }
     if islands > 0 {
-        return 0;
+        return None;
     }
     if n > src.len() {
-        return 0;
+        return None;
     }
     if n < 2 {
-        return 0;
+        return None;
     }
     let m = 2 * n;
-    let width = judged_width(src, at, mode, m);
-    if width == 0 {
-        return 0;
-    }
+    let width = judged_width(src, at, mode, m)?;
     let last = at + width * (m - 2);
     if is_shut_there(src, at, width, last, kind == 1) {
-        return at + width * m;
+        return Some(at + width * m);
     }
-    0
+    None
 }
 
 // As `only_ring` goes, with the points stored behind `from` points. That the ring is shut the first pass has judged.
@@ -82,33 +86,30 @@ fn only_into(
     n: usize,
     points: &mut [i64],
     from: usize,
-) -> usize
+) -> Option<usize>
     requires at_in_bounds { (at ≤ length src.now) × (length src.now ≤ file_most) }
     requires usual { 0 < n → islands ≡ 0 → is_exact mode ≡ true → Usual mode src.now at 14 (2 * n) }
-    ensures { RingInto mode src.now at islands n from points.old result points.new }
+    ensures { MatchOption result (points.new ≡ points.old) (λ e. RingInto mode src.now at islands n from points.old e points.new) }
 {
     if n == 0 {
-        return at;
+        return Some(at);
     }
     if islands > 0 {
-        return 0;
+        return None;
     }
     if n > src.len() {
-        return 0;
+        return None;
     }
     if n < 2 {
-        return 0;
+        return None;
     }
     if !holds_ring(points.len(), from, n) {
-        return 0;
+        return None;
     }
     let m = 2 * n;
-    let width = trusted_width(src, at, mode, m);
-    if width == 0 {
-        return 0;
-    }
+    let width = trusted_width(src, at, mode, m)?;
     values_into(src, at, width, m, points, 2 * from);
-    at + width * m
+    Some(at + width * m)
 }
 
 fn stand_of(state: State, at: usize, nth: usize, ring: usize, needs: Needs) -> ReadStand
@@ -128,15 +129,10 @@ fn row_more(a: Needs, n: usize) -> Needs
     requires { (a.rows + 1 < 18446744073709551616) × (a.letters + n < 18446744073709551616) }
     ensures { result ≡ row_more a n }
 {
-    let rows = a.rows;
-    let letters = a.letters;
-    let islands = a.islands;
-    let points = a.points;
     Needs {
-        rows: rows + 1,
-        letters: letters + n,
-        islands,
-        points,
+        rows: a.rows + 1,
+        letters: a.letters + n,
+        ..a
     }
 }
 
@@ -144,15 +140,9 @@ fn points_more(a: Needs, n: usize) -> Needs
     requires { a.points + n < 18446744073709551616 }
     ensures { result ≡ points_more a n }
 {
-    let rows = a.rows;
-    let letters = a.letters;
-    let islands = a.islands;
-    let points = a.points;
     Needs {
-        rows,
-        letters,
-        islands,
-        points: points + n,
+        points: a.points + n,
+        ..a
     }
 }
 
@@ -166,20 +156,18 @@ pub(crate) fn skim_heads(src: &[u8], mode: Mode, d: ReadStand) -> ReadStand
     let mut ring = d.ring;
     let mut needs = d.needs;
     loop {
-        let h = head_at(src, at, mode, false);
-        let next = h.next;
-        if next == 0 {
+        let Some(h) = head_at(src, at, mode, false) else {
             return stand_of(State::Due, at, nth, ring, needs);
-        }
+        };
+        let next = h.next;
         let kind = h.token / 2;
         let islands = h.islands;
         let n = h.vertices;
         let behind = row_more(needs, h.letters);
-        let end = only_ring(src, mode, next, kind, islands, n);
-        if end == 0 {
+        let Some(end) = only_ring(src, mode, next, kind, islands, n) else {
             let state = opened(kind, islands, n);
             return stand_of(state, next, nth + h.records, next, behind);
-        }
+        };
         at = end;
         nth = nth + h.records + 2 * n;
         ring = next;
@@ -204,11 +192,10 @@ pub(crate) fn put_heads(
     let mut ring = d.ring;
     let mut needs = d.needs;
     loop {
-        let h = head_at(src, at, mode, true);
-        let next = h.next;
-        if next == 0 {
+        let Some(h) = head_at(src, at, mode, true) else {
             return stand_of(State::Due, at, nth, ring, needs);
-        }
+        };
+        let next = h.next;
         if !holds_head(
             rows.len(),
             needs.rows,
@@ -222,11 +209,10 @@ pub(crate) fn put_heads(
         let islands = h.islands;
         let n = h.vertices;
         let behind = row_more(needs, h.letters);
-        let end = only_into(src, mode, next, islands, n, points, needs.points);
-        if end == 0 {
+        let Some(end) = only_into(src, mode, next, islands, n, points, needs.points) else {
             let state = opened(h.token / 2, islands, n);
             return stand_of(state, next, nth + h.records, next, behind);
-        }
+        };
         at = end;
         nth = nth + h.records + 2 * n;
         ring = next;

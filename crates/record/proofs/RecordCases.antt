@@ -9,13 +9,14 @@ use lib.ListN.{length, get_or, take, drop, get_or-eq_default}
 use lib.Seq.{take_all, take-take, length-take-le, get_or-take}
 use lib.Dec.{eqb, leb, ltb}
 use borrow.Author.Tests.{eq-eqb, ne_eqb, le-leb, lt-leb, lt-ltb, le-ltb, eqb-true, leb-true, ltb-true, ltb-false, not-false}
+use Rattle.std.specs.Prelude.{Err}
 use Rattle.laws.specs.Lists.{run, all, same}
 use Rattle.laws.proofs.Choice.{and_left, and_right}
 use Rattle.laws.proofs.ListLaws.{run_on, run-stop, run-le, run-fails, run-from, all-run, all-each, all-weaken}
-use Rattle.record.specs.Refusals.{cut, line_end, record_length, bad_byte, record_most}
+use Rattle.record.specs.Refusals.{record_most}
+use Rattle.record.specs.declared.refusal.Refusal.{Refusal}
 use Rattle.record.specs.declared.Mode.{Mode}
-use Rattle.record.specs.declared.Line.TheVariants.{Got, Bad}
-use Rattle.record.specs.Record.{is_exact, plain, not_lf, word_eof, ends_cr, content, content_is, line_is, line_of}
+use Rattle.record.specs.Record.{is_exact, plain, not_lf, word_eof, ends_cr, content, content_is, line_is, got, line_of}
 use Rattle.record.specs.Scan.{crlf_at}
 
 -- ---- tests on a byte
@@ -39,7 +40,7 @@ module _ (b : ℕ) where
   plain-least : plain b ≡ true → 32 ≤ b
   plain-least e = leb-true 32 b (and_left (leb 32 b) (leb b 126) e)
 
-pub ruleset byte-tests = (lf-here, lf-not, plain-low, plain-high, plain-is)
+pub ruleset byte_tests = (lf-here, lf-not, plain-low, plain-high, plain-is)
 
 -- ---- content that is plain
 
@@ -74,7 +75,7 @@ module _ (mode : Mode) (due : Bool) (bs : List ℕ) (r : ℕ) (q : r ≡ run not
   unfolding line_of
   to-LF h = rw (← q, lt-ltb r (length bs) h)
 
-  pub no-LF : length bs ≤ r → line_of mode due bs ≡ cond (not (is_exact mode) && due && same bs word_eof) (Got 3 3) (Bad cut)
+  pub no-LF : length bs ≤ r → line_of mode due bs ≡ cond (not (is_exact mode) && due && same bs word_eof) (got 3 3) (Err Refusal.Cut)
   unfolding line_of
   no-LF h = rw (← q, le-ltb r (length bs) h)
 
@@ -87,37 +88,26 @@ module _ (mode : Mode) (due : Bool) (bs : List ℕ) (r : ℕ) (q : r ≡ run not
       to-LF h ∙ rw (l, eq-eqb (get_or (take r bs) (r - 1) 0) 13 g, take-take (r - 1) r bs (omega arith))
 
   -- none does
-  pub to-bare : r < length bs → ends_cr (take r bs) ≡ false → line_of mode due bs ≡ cond (not (is_exact mode)) (content_is (take r bs) (r + 1)) (Bad line_end)
+  pub to-bare : r < length bs → ends_cr (take r bs) ≡ false → line_of mode due bs ≡ cond (not (is_exact mode)) (content_is (take r bs) (r + 1)) (Err Refusal.LineEnd)
   unfolding line_is content
   to-bare h e = to-LF h ∙ rw (e, length-take-le r bs (omega arith))
 
 module _ (body : List ℕ) (width : ℕ) where
-  content-plain : all plain body ≡ true → content_is body width ≡ cond (leb (length body) record_most) (Got (length body) width) (Bad record_length)
+  content-plain : all plain body ≡ true → content_is body width ≡ cond (leb (length body) record_most) (got (length body) width) (Err Refusal.Length)
   unfolding content_is
   content-plain e = rw e
 
-  pub content-long : record_most < length body → content_is body width ≡ Bad record_length
+  pub content-long : record_most < length body → content_is body width ≡ Err Refusal.Length
   unfolding content_is
   content-long h = rw (lt-leb (length body) record_most h)
 
-  pub content-bad : length body ≤ record_most → all plain body ≡ false → content_is body width ≡ Bad bad_byte
+  pub content-bad : length body ≤ record_most → all plain body ≡ false → content_is body width ≡ Err Refusal.Byte
   unfolding content_is
   content-bad h e = rw (le-leb (length body) record_most h, e)
 
 -- ---- a CR and an LF
 
 module _ (bs : List ℕ) (n : ℕ) where
-  pub crlf-no-CR : (get_or bs n 0 ≡ 13 → ⊥) → false ≡ crlf_at bs n
-  unfolding crlf_at
-  crlf-no-CR h = rw (ne_eqb (get_or bs n 0) 13 h)
-
-  pub crlf-no-LF : get_or bs n 0 ≡ 13 → (get_or bs (n + 1) 0 ≡ 10 → ⊥) → false ≡ crlf_at bs n
-  unfolding crlf_at
-  crlf-no-LF h k = rw (eq-eqb (get_or bs n 0) 13 h, ne_eqb (get_or bs (n + 1) 0) 10 k)
-
-  pub crlf-short : get_or bs n 0 ≡ 13 → length bs ≤ n + 1 → false ≡ crlf_at bs n
-  crlf-short h k = crlf-no-LF h (λ z. omega (arith, get_or-eq_default bs 0 {n = n + 1} k))
-
   pub crlf-yes : get_or bs n 0 ≡ 13 → get_or bs (n + 1) 0 ≡ 10 → true ≡ crlf_at bs n
   unfolding crlf_at
   crlf-yes h k = rw (eq-eqb (get_or bs n 0) 13 h, eq-eqb (get_or bs (n + 1) 0) 10 k)
@@ -137,8 +127,6 @@ module _ (bs : List ℕ) (n : ℕ) where
         go : (x : Bool) → ltb (n + 1) (length bs) ≡ x → n + 1 < length bs
         go true t = ltb-true (n + 1) (length bs) t
         go false t = absurd (omega (arith, crlf-LF, get_or-eq_default bs 0 {n = n + 1} (ltb-false (n + 1) (length bs) t)))
-
-pub ruleset crlf-ways = (crlf-no-CR, crlf-no-LF, crlf-short, crlf-yes)
 
 -- ---- `line_of` behind `n` plain bytes
 
@@ -160,13 +148,13 @@ module _ (bs : List ℕ) (n : ℕ) (q : n ≡ run plain bs) where
 
   module _ (mode : Mode) (due : Bool) where
     pub at-LF : n < length bs → get_or bs n 0 ≡ 10
-        → line_of mode due bs ≡ cond (not (is_exact mode)) (cond (leb n record_most) (Got n (n + 1)) (Bad record_length)) (Bad line_end)
+        → line_of mode due bs ≡ cond (not (is_exact mode)) (cond (leb n record_most) (got n (n + 1)) (Err Refusal.Length)) (Err Refusal.LineEnd)
     at-LF h e =
         let z : n ≡ run not_lf bs = omega (arith, front-LF, run-stop not_lf bs n h (lf-here (get_or bs n 0) e)) in
         to-bare mode due bs n z h (plain-no-CR (take n bs) front-plain)
         ∙ rw (content-plain (take n bs) (n + 1) front-plain, front_length)
 
-    pub at-CRLF : crlf_at bs n ≡ true → line_of mode due bs ≡ cond (leb n record_most) (Got n (n + 2)) (Bad record_length)
+    pub at-CRLF : crlf_at bs n ≡ true → line_of mode due bs ≡ cond (leb n record_most) (got n (n + 2)) (Err Refusal.Length)
     at-CRLF e =
         let h : n + 1 < length bs = crlf-inside bs n e in
         let cr : get_or bs n 0 ≡ 13 = crlf-CR bs n e in

@@ -8,16 +8,17 @@ use lib.ListN.{length, get_or, take, drop, length-append, length-take, length-dr
 use lib.Seq.{length-take-le, get_or-take, get_or-append_seam, get_or-append-add}
 use lib.Dec.{leb, ltb}
 use borrow.Author.Tests.{le-leb, lt-leb, eqb-true, leb-true, ltb-true, ltb-false, not-true}
+use Rattle.std.specs.Prelude.{Result, Ok, Err}
 use Rattle.laws.specs.Lists.{run, all, same}
 use Rattle.laws.proofs.Choice.{and_left, and_right, and-false, cond-elim, false≢true, true≢false}
 use Rattle.laws.proofs.ListLaws.{left, left-none, run_past, same-is}
-use Rattle.record.specs.Refusals.{too_long, cut, file_most, record_most}
+use Rattle.record.specs.Refusals.{file_most, record_most}
+use Rattle.record.specs.declared.refusal.Refusal.{Refusal}
+use Rattle.record.specs.declared.Line.{Line}
+use Rattle.record.specs.declared.Found.{Found}
 use Rattle.record.specs.declared.Mode.{Mode}
 use Rattle.record.specs.declared.Mode.TheVariants.{Loose, Exact, Former}
-use Rattle.record.specs.declared.Line.{Line}
-use Rattle.record.specs.declared.Line.TheVariants.{Got, Bad}
-use Rattle.record.specs.declared.Found.TheVariants.{Record, Refused}
-use Rattle.record.specs.Record.{is_exact, widens, plain, not_lf, word_eof, ends_cr, content_is, line_is, line_of, placed, record_at}
+use Rattle.record.specs.Record.{is_exact, widens, plain, not_lf, word_eof, ends_cr, content_is, line_is, got, found, line_of, placed, record_at}
 use Rattle.record.specs.Scan.{crlf_at}
 use Rattle.record.specs.RecordView.{LineEnd, crlf, lf, Ending, line_ended, bare, IsLine, IsRecord, Lies}
 use Rattle.record.proofs.RecordCases.{LF-at, no-LF, to-CR, to-bare, at-LF, at-CRLF, crlf-yes}
@@ -45,9 +46,9 @@ CR-at bs r h e =
 -- ---- a found record by its bytes
 
 module _ (mode : Mode) (due : Bool) (bs : List ℕ) where
-  abbrev View : Line → Type 0
-  View (Got len width) = IsLine mode due bs len width
-  View (Bad number) = Unit {0}
+  abbrev View : Result Line Refusal → Type 0
+  View (Ok line) = IsLine mode due bs line.len line.width
+  View (Err refusal) = Unit {0}
 
   view-content : (c : List ℕ) (n width : ℕ) → length c ≡ n → (n ≤ record_most → all plain c ≡ true → IsLine mode due bs n width) → View (content_is c width)
   unfolding content_is
@@ -118,14 +119,14 @@ module _ (mode : Mode) (due : Bool) (bs : List ℕ) where
           (cond-elim View (not (is_exact mode) && due && same bs word_eof) _ _ view-EOF (λ _. tt))
 
 -- a record that is found has a content, a line end and a rest, or is the loose `EOF`
-pub line_view : (mode : Mode) (due : Bool) (bs : List ℕ) (len width : ℕ) → line_of mode due bs ≡ Got len width → IsLine mode due bs len width
+pub line_view : (mode : Mode) (due : Bool) (bs : List ℕ) (len width : ℕ) → line_of mode due bs ≡ got len width → IsLine mode due bs len width
 line_view mode due bs len width e = rw e at (view mode due bs)
 
 -- ---- what makes a record
 
 -- plain content of at most 255 bytes and a line end are a record, whatever follows
 pub line-make : (mode : Mode) (due : Bool) (c e rest : List ℕ) → all plain c ≡ true → length c ≤ record_most → LineEnd mode e
-    → line_of mode due (c ++ (e ++ rest)) ≡ Got (length c) (length c + length e)
+    → line_of mode due (c ++ (e ++ rest)) ≡ got (length c) (length c + length e)
 unfolding run
 line-make mode due c e rest p h (crlf q) =
     let bs = c ++ 13 ∷ 10 ∷ rest in
@@ -139,7 +140,7 @@ line-make mode due c e rest p h (lf m q) =
     rw q (at-LF bs (length c) n mode due l (get_or-append_seam c 10 rest 0) ∙ rw (m, le-leb (length c) record_most h))
 
 -- in a mode that is not exact, where a keyword is due, `EOF` alone is a record
-pub eof-make : (mode : Mode) → is_exact mode ≡ false → line_of mode true word_eof ≡ Got 3 3
+pub eof-make : (mode : Mode) → is_exact mode ≡ false → line_of mode true word_eof ≡ got 3 3
 unfolding line_of run same
 eof-make mode m = rw m
 
@@ -188,10 +189,10 @@ module _ (from to : Mode) (wide : widens from to ≡ true) where
   end-widens e (lf m q) = lf (still-loose from to wide m) q
 
   -- what one mode finds, a wider one finds
-  pub line-widens : (due : Bool) (bs : List ℕ) (l w : ℕ) → line_of from due bs ≡ Got l w → line_of to due bs ≡ Got l w
+  pub line-widens : (due : Bool) (bs : List ℕ) (l w : ℕ) → line_of from due bs ≡ got l w → line_of to due bs ≡ got l w
   line-widens due bs l w h = let v = line_view from due bs l w h in go v v.ending
     where
-      go : IsLine from due bs l w → Ending from due bs l w → line_of to due bs ≡ Got l w
+      go : IsLine from due bs l w → Ending from due bs l w → line_of to due bs ≡ got l w
       go v (line_ended e k d r) =
           ap (line_of to due) d
           ∙ line-make to due (take l bs) e (drop w bs) v.all_plain (omega (arith, v.counted, v.most)) (end-widens e k)
@@ -210,7 +211,7 @@ due-matters-for-EOF-alone mode due due' bs n = rw (no (same bs word_eof) refl, a
 -- ---- records of a file
 
 -- no byte is no record
-pub line-none : (mode : Mode) (due : Bool) → line_of mode due [] ≡ Bad cut
+pub line-none : (mode : Mode) (due : Bool) → line_of mode due [] ≡ Err Refusal.Cut
 unfolding line_of run same
 line-none Loose true = refl
 line-none Loose false = refl
@@ -220,7 +221,7 @@ line-none Former false = refl
 
 module _ (s : List ℕ) (at : ℕ) (mode : Mode) (due : Bool) where
   -- a file that is too long is always refused 1
-  pub record-long : file_most < length s → record_at s at mode due ≡ Refused too_long
+  pub record-long : file_most < length s → record_at s at mode due ≡ Err Refusal.TooLong
   unfolding record_at
   record-long h = rw (lt-leb (length s) file_most h)
 
@@ -230,21 +231,27 @@ module _ (s : List ℕ) (at : ℕ) (mode : Mode) (due : Bool) where
   record-line h = rw (le-leb (length s) file_most h)
 
   -- and at or past the end of that it is 2
-  pub record-end : length s ≤ file_most → length s ≤ at → record_at s at mode due ≡ Refused cut
+  pub record-end : length s ≤ file_most → length s ≤ at → record_at s at mode due ≡ Err Refusal.Cut
   record-end h k = record-line h ∙ rw (left-none s at k, line-none mode due)
 
-module _ (s : List ℕ) (at : ℕ) (mode : Mode) (due : Bool) (start len next : ℕ) (e : record_at s at mode due ≡ Record start len next) where
+module _ (s : List ℕ) (at : ℕ) (mode : Mode) (due : Bool) (start len next : ℕ) (e : record_at s at mode due ≡ found start len next) where
   -- a found record is the one at the front of the bytes from its place on
   pub record-view : IsRecord s at mode due start len next
   unfolding record_at
   record-view = go (leb (length s) file_most) refl (line_of mode due (drop at s)) refl e
     where
-      go : (x : Bool) → leb (length s) file_most ≡ x → (l : Line) → line_of mode due (drop at s) ≡ l → cond x (placed at l) (Refused too_long) ≡ Record start len next
+      go : (x : Bool) → leb (length s) file_most ≡ x → (l : Result Line Refusal) → line_of mode due (drop at s) ≡ l → cond x (placed at l) (Err Refusal.TooLong) ≡ found start len next
           → IsRecord s at mode due start len next
-      go true t (Got len₁ width) q z =
-          let n : next ≡ at + width = cc in
-          record { small = leb-true (length s) file_most t; here = (cc); width = width; line = (cc); after = n }
-      go true t (Bad number) q z = absurd (let y : ◌≡◌ {A = ℕ} 0 1 = cc in omega arith)
+      go true t (Ok line) q z =
+          let same : ◌≡◌ {A = Found} (record { start = at; len = line.len; next = at + line.width }) (record { start = start; len = len; next = next }) = cc in
+          record {
+            small = leb-true (length s) file_most t;
+            here = sym (ap (λ (x : Found). x.start) same);
+            width = line.width;
+            line = q ∙ ap (λ n. got n line.width) (ap (λ (x : Found). x.len) same);
+            after = sym (ap (λ (x : Found). x.next) same);
+          }
+      go true t (Err refusal) q z = absurd (let y : ◌≡◌ {A = ℕ} 0 1 = cc in omega arith)
       go false t l q z = absurd (let y : ◌≡◌ {A = ℕ} 0 1 = cc in omega arith)
 
   -- it lies inside the file, and the next place is past it
@@ -256,8 +263,8 @@ module _ (s : List ℕ) (at : ℕ) (mode : Mode) (due : Bool) (start len next : 
       record { here = r.here; most = v.most; past = omega arith; on = omega arith; within = omega arith }
 
 -- what one mode finds in a file, a wider one finds
-pub record-widens : (from to : Mode) → widens from to ≡ true → (s : List ℕ) (at : ℕ) (due : Bool) (start len next : ℕ) → record_at s at from due ≡ Record start len next
-    → record_at s at to due ≡ Record start len next
+pub record-widens : (from to : Mode) → widens from to ≡ true → (s : List ℕ) (at : ℕ) (due : Bool) (start len next : ℕ) → record_at s at from due ≡ found start len next
+    → record_at s at to due ≡ found start len next
 record-widens from to wide s at due start len next e =
     let r = record-view s at from due start len next e in
     record-line s at to due r.small ∙ ap (placed at) (line-widens from to wide due (drop at s) len r.width r.line) ∙ cc (r.here, r.after)

@@ -3,8 +3,7 @@ use Rattle.std.specs.Prelude.{ℕ, ◌+◌, ◌≤◌, ◌<◌, ◌≡◌, List,
 use Rattle.laws.specs.Lists.{all}
 use Rattle.record.specs.Refusals.{file_most, record_most}
 use Rattle.record.specs.declared.Mode.{Mode}
-use Rattle.record.specs.declared.Line.TheVariants.{Got}
-use Rattle.record.specs.Record.{is_exact, plain, word_eof, line_of}
+use Rattle.record.specs.Record.{is_exact, plain, word_eof, got, line_of}
 
 -- a line end: CR LF, or where the mode is not exact an LF alone
 pub data LineEnd (mode : Mode) (e : List ℕ) : Type 0 where
@@ -31,7 +30,7 @@ pub record IsRecord (s : List ℕ) (at : ℕ) (mode : Mode) (due : Bool) (start 
   pub small : length s ≤ file_most
   pub here : start ≡ at
   pub width : ℕ
-  pub line : line_of mode due (drop at s) ≡ Got len width
+  pub line : line_of mode due (drop at s) ≡ got len width
   pub after : next ≡ at + width
 
 -- it lies inside the file, and the next place is past it

@@ -1,5 +1,6 @@
 -- The refusals of document 01 by name, and the limits of a file and of a record. Assumes nothing: these are definitions.
 use Rattle.std.specs.Prelude.{ℕ}
+use Rattle.record.specs.declared.refusal.Refusal.{Refusal}
 
 abbrev pub too_long : ℕ
 too_long = 1
@@ -67,6 +68,31 @@ long_code = 22
 
 abbrev pub wide_figure : ℕ
 wide_figure = 23
+
+-- a refusal's number
+abbrev pub number_of : Refusal → ℕ
+number_of Refusal.TooLong = too_long
+number_of Refusal.Cut = cut
+number_of Refusal.LineEnd = line_end
+number_of Refusal.Length = record_length
+number_of Refusal.Byte = bad_byte
+number_of Refusal.Header = bad_header
+number_of Refusal.Keyword = not_keyword
+number_of Refusal.Number = malformed
+number_of Refusal.Letters = bad_letters
+number_of Refusal.Code = unlisted_code
+number_of Refusal.Count = bad_count
+number_of Refusal.OpenRing = open_ring
+number_of Refusal.AfterEof = after_eof
+number_of Refusal.NoRoom = no_room
+number_of Refusal.NotMade = not_made
+number_of Refusal.TooWide = too_wide
+number_of Refusal.PastLimit = past_limit
+number_of Refusal.NoSuch = no_such
+number_of Refusal.OffTile = off_tile
+number_of Refusal.BadDate = bad_date
+number_of Refusal.LongCode = long_code
+number_of Refusal.WideFigure = wide_figure
 
 -- a file is at most so many bytes
 abbrev pub file_most : ℕ

@@ -4,14 +4,14 @@
 
 pub mod refusal;
 
-ghost use Rattle.std.specs.Prelude.{◌≡◌, true, false, cond, ◌<◌, ◌≤◌, length, take, leb};
+ghost use Rattle.std.specs.Prelude.{◌≡◌, true, false, cond, ◌<◌, ◌≤◌, length, take, leb, Err};
 ghost use Rattle.laws.specs.Lists.{run, all, same};
-ghost use Rattle.record.specs.declared.Line.TheVariants.{Got, Bad};
-ghost use Rattle.record.specs.Refusals.{record_length, record_most};
-ghost use Rattle.record.specs.Record.{is_exact, is_former, plain, not_lf, line_of, record_at};
+ghost use Rattle.record.specs.declared.refusal.Refusal.TheVariants.{Length};
+ghost use Rattle.record.specs.Refusals.{record_most};
+ghost use Rattle.record.specs.Record.{is_exact, is_former, plain, not_lf, got, line_of, record_at};
 ghost use Rattle.record.specs.Scan.{crlf_at, Spoilt};
 
-use refusal::{BYTE, CUT, LENGTH, LINE_END, TOO_LONG};
+use refusal::Refusal;
 
 // How a file is read. Former is the loose mode as it was before T-09, for the conversion of files with notes behind their numbers.
 #[derive(Clone, Copy)]
@@ -21,22 +21,19 @@ pub enum Mode {
     Former,
 }
 
-// The record at the front of some bytes: its content's length and its own with the line end, or the refusal's number.
+// The record at the front of some bytes: its content's length, and its own with the line end.
 #[derive(Clone, Copy)]
-pub enum Line {
-    Got { len: usize, width: usize },
-    Bad(usize),
+pub struct Line {
+    pub len: usize,
+    pub width: usize,
 }
 
-// What stands at a place of a file: a record's content and the place past its line end, or the refusal's number.
+// A record of a file: its content, and the place past its line end.
 #[derive(Clone, Copy)]
-pub enum Found {
-    Record {
-        start: usize,
-        len: usize,
-        next: usize,
-    },
-    Refused(usize),
+pub struct Found {
+    pub start: usize,
+    pub len: usize,
+    pub next: usize,
 }
 
 // A file is at most so long, and a record's content.
@@ -52,154 +49,123 @@ const CR: u8 = 13;
 pub fn is_exact(mode: Mode) -> bool
     ensures { result ≡ is_exact mode }
 {
-    match mode {
-        Mode::Loose => false,
-        Mode::Exact => true,
-        Mode::Former => false,
-    }
+    matches!(mode, Mode::Exact)
 }
 
 // Notes may stand behind numbers.
 pub fn is_former(mode: Mode) -> bool
     ensures { result ≡ is_former mode }
 {
-    match mode {
-        Mode::Loose => false,
-        Mode::Exact => false,
-        Mode::Former => true,
-    }
+    matches!(mode, Mode::Former)
 }
 
 // How many bytes at the front a content may hold.
+#[tactic(auto, using(laws::proofs::ListLaws::runs, crate::proofs::RecordCases::byte_tests))]
 fn plain_run(bs: &[u8]) -> usize
     ensures { result ≡ run plain bs.now }
 {
-    let mut i = 0;
-    while i < bs.len() {
-        let b = bs[i];
-        if b < 32 {
+    for (i, &b) in bs.iter().enumerate() {
+        if b < 32 || b > 126 {
             return i;
         }
-        if b > 126 {
-            return i;
-        }
-        i += 1;
     }
-    i
+    bs.len()
 }
 
 // Every byte is one that a content may hold.
+#[tactic(auto, using(laws::proofs::ListLaws::wholes))]
 pub fn is_plain(bs: &[u8]) -> bool
     ensures { result ≡ all plain bs.now }
 {
-    if plain_run(bs) < bs.len() {
-        return false;
-    }
-    true
+    plain_run(bs) == bs.len()
 }
 
-// Where the first LF stands, or the length where there is none; before `from` there is none.
-fn until_lf(bs: &[u8], from: usize) -> usize
-    requires { (from ≤ length bs.now) × (all not_lf (take from bs.now) ≡ true) }
+// How many bytes stand before the first LF.
+#[tactic(auto, using(laws::proofs::ListLaws::runs, crate::proofs::RecordCases::byte_tests))]
+fn until_lf(bs: &[u8]) -> usize
     ensures { result ≡ run not_lf bs.now }
 {
-    let mut i = from;
-    while i < bs.len() {
-        if bs[i] == LF {
+    for (i, &b) in bs.iter().enumerate() {
+        if b == LF {
             return i;
         }
-        i += 1;
     }
-    i
+    bs.len()
 }
 
 // Two slices hold the same bytes.
+#[tactic(auto, using(laws::proofs::ListLaws::same_bytes))]
 pub fn is_same(a: &[u8], b: &[u8]) -> bool
     ensures { result ≡ same a.now b.now }
 {
-    if a.len() != b.len() {
-        return false;
-    }
-    let mut i = 0;
-    while i < a.len() {
-        if a[i] != b[i] {
-            return false;
-        }
-        i += 1;
-    }
-    true
+    a == b
 }
 
 // A CR and an LF stand at `n`.
+#[tactic(auto, unfolding(crate::specs::Scan::crlf_at))]
 fn is_line_end(bs: &[u8], n: usize) -> bool
     requires { n < length bs.now }
     ensures { result ≡ crlf_at bs.now n }
 {
-    if bs[n] != CR {
-        return false;
-    }
-    if bs.len() <= n + 1 {
-        return false;
-    }
-    if bs[n + 1] != LF {
-        return false;
-    }
-    true
+    bs[n] == CR && n + 1 < bs.len() && bs[n + 1] == LF
 }
 
 // Plain bytes before a line end: a content, if they are not too many.
-fn sized(len: usize, width: usize) -> Line
-    ensures { result ≡ cond (leb len record_most) (Got len width) (Bad record_length) }
+fn sized(len: usize, width: usize) -> Result<Line, Refusal>
+    ensures { result ≡ cond (leb len record_most) (got len width) (Err Length) }
 {
     if len <= RECORD_MOST {
-        return Line::Got { len, width };
+        return Ok(Line { len, width });
     }
-    Line::Bad(LENGTH)
+    Err(Refusal::Length)
 }
 
 // The byte at `n` is none that a content may hold, and no line end: the record is refused, by where its LF stands.
-fn spoilt(bs: &[u8], n: usize, mode: Mode) -> Line
+#[tactic(auto, using(crate::proofs::RecordWays::spoilt_ways))]
+fn spoilt(bs: &[u8], n: usize, mode: Mode) -> Result<Line, Refusal>
     requires { Spoilt bs.now n }
     ensures { result ≡ line_of mode false bs.now }
 {
-    let end = until_lf(bs, n);
+    let end = n + until_lf(&bs[n..]);
     if bs.len() <= end {
-        return Line::Bad(CUT);
+        return Err(Refusal::Cut);
     }
     if bs[end - 1] == CR {
         if end - 1 > RECORD_MOST {
-            return Line::Bad(LENGTH);
+            return Err(Refusal::Length);
         }
-        return Line::Bad(BYTE);
+        return Err(Refusal::Byte);
     }
     if is_exact(mode) {
-        return Line::Bad(LINE_END);
+        return Err(Refusal::LineEnd);
     }
     if end > RECORD_MOST {
-        return Line::Bad(LENGTH);
+        return Err(Refusal::Length);
     }
-    Line::Bad(BYTE)
+    Err(Refusal::Byte)
 }
 
 // No byte is left behind the plain ones, so there is no LF: cut, but for the loose EOF.
-fn unended(bs: &[u8], mode: Mode, due: bool) -> Line
+#[tactic(auto, using(crate::proofs::RecordWays::unended_ways))]
+fn unended(bs: &[u8], mode: Mode, due: bool) -> Result<Line, Refusal>
     requires { all plain bs.now ≡ true }
     ensures { result ≡ line_of mode due bs.now }
 {
     if is_exact(mode) {
-        return Line::Bad(CUT);
+        return Err(Refusal::Cut);
     }
     if !due {
-        return Line::Bad(CUT);
+        return Err(Refusal::Cut);
     }
     if is_same(bs, b"EOF") {
-        return Line::Got { len: 3, width: 3 };
+        return Ok(Line { len: 3, width: 3 });
     }
-    Line::Bad(CUT)
+    Err(Refusal::Cut)
 }
 
 // The record at the front of the bytes, in one pass over them.
-pub fn line_at(bs: &[u8], mode: Mode, due: bool) -> Line
+#[tactic(auto, using(crate::proofs::RecordWays::line_ways))]
+pub fn line_at(bs: &[u8], mode: Mode, due: bool) -> Result<Line, Refusal>
     ensures { result ≡ line_of mode due bs.now }
 {
     let n = plain_run(bs);
@@ -208,7 +174,7 @@ pub fn line_at(bs: &[u8], mode: Mode, due: bool) -> Line
     }
     if bs[n] == LF {
         if is_exact(mode) {
-            return Line::Bad(LINE_END);
+            return Err(Refusal::LineEnd);
         }
         return sized(n, n + 1);
     }
@@ -219,21 +185,20 @@ pub fn line_at(bs: &[u8], mode: Mode, due: bool) -> Line
 }
 
 // The record at a place of a file. A file that is too long is refused before all else.
-pub fn record_at(src: &[u8], at: usize, mode: Mode, due: bool) -> Found
+#[tactic(auto, using(crate::proofs::RecordWays::record_ways), unfolding(crate::specs::Record::record_at))]
+pub fn record_at(src: &[u8], at: usize, mode: Mode, due: bool) -> Result<Found, Refusal>
     ensures { result ≡ record_at src.now at mode due }
 {
     if src.len() > FILE_MOST {
-        return Found::Refused(TOO_LONG);
+        return Err(Refusal::TooLong);
     }
     if src.len() <= at {
-        return Found::Refused(CUT);
+        return Err(Refusal::Cut);
     }
-    match line_at(&src[at..], mode, due) {
-        Line::Got { len, width } => Found::Record {
-            start: at,
-            len,
-            next: at + width,
-        },
-        Line::Bad(number) => Found::Refused(number),
-    }
+    let Line { len, width } = line_at(&src[at..], mode, due)?;
+    Ok(Found {
+        start: at,
+        len,
+        next: at + width,
+    })
 }

@@ -1,44 +1,41 @@
 // The refusals of documents 01 and 02 by name.
-pub const TOO_LONG: usize = 1;
+#![tactic(auto)]
 
-pub const CUT: usize = 2;
+ghost use Rattle.std.specs.Prelude.{◌≡◌};
+ghost use Rattle.record.specs.Refusals.{number_of};
 
-pub const LINE_END: usize = 3;
+// Why a request is refused; the papers' numbers.
+#[derive(Clone, Copy, Debug, PartialEq, Eq)]
+pub enum Refusal {
+    TooLong = 1,
+    Cut = 2,
+    LineEnd = 3,
+    Length = 4,
+    Byte = 5,
+    Header = 6,
+    Keyword = 7,
+    Number = 8,
+    Letters = 9,
+    Code = 10,
+    Count = 11,
+    OpenRing = 12,
+    AfterEof = 13,
+    NoRoom = 14,
+    NotMade = 15,
+    TooWide = 17,
+    PastLimit = 18,
+    NoSuch = 19,
+    OffTile = 20,
+    BadDate = 21,
+    LongCode = 22,
+    WideFigure = 23,
+}
 
-pub const LENGTH: usize = 4;
-
-pub const BYTE: usize = 5;
-
-pub const HEADER: usize = 6;
-
-pub const KEYWORD: usize = 7;
-
-pub const NUMBER: usize = 8;
-
-pub const LETTERS: usize = 9;
-
-pub const CODE: usize = 10;
-
-pub const COUNT: usize = 11;
-
-pub const OPEN_RING: usize = 12;
-
-pub const AFTER_EOF: usize = 13;
-
-pub const NO_ROOM: usize = 14;
-
-pub const NOT_MADE: usize = 15;
-
-pub const TOO_WIDE: usize = 17;
-
-pub const PAST_LIMIT: usize = 18;
-
-pub const NO_SUCH: usize = 19;
-
-pub const OFF_TILE: usize = 20;
-
-pub const BAD_DATE: usize = 21;
-
-pub const LONG_CODE: usize = 22;
-
-pub const WIDE_FIGURE: usize = 23;
+impl Refusal {
+    // The number that C is told.
+    pub fn number(self) -> usize
+        ensures { result ≡ number_of self }
+    {
+        self as usize
+    }
+}

@@ -1,4 +1,3 @@
--- The laws of `ring` and the ways through its code; `pub mod` lets other crates cite a file.
-mod RingWays
+-- The laws of `ring`; `pub mod` lets other crates cite a file.
 pub mod RefusedLaws
 pub mod UsedLaws

@@ -3,8 +3,10 @@ use Prim.Native.Nat.{ℕ}
 use mathlib.Core.Path.{◌≡◌, refl}
 use Rattle.heading.specs.declared.Header.{Header}
 use Rattle.sheet.specs.Tables.{Tables}
-use Rattle.area.specs.declared.RingAnswer.{RingAnswer}
-use Rattle.area.specs.declared.RingAnswer.TheVariants as Found
+use Rattle.std.proofs.Common.{Result, Ok, Err}
+use Rattle.row.specs.declared.Unfound.{Unfound}
+use Rattle.row.specs.declared.Unfound.TheVariants as Unfound
+use Rattle.area.specs.declared.RingPlace.{RingPlace}
 use Rattle.area.specs.Questions.{ring_at, found_number, found_row}
 use Rattle.ring.specs.RingCheck.{check_found, ring_check_at, number_of, row_of}
 
@@ -14,7 +16,7 @@ pub check-refused : (h : Header) (count : ℕ) (t : Tables) (k ring : ℕ) → (
 unfolding ring_check_at
 check-refused h count t k ring refused = by (ring_at h count t k ring) refused
   where
-    by : (a : RingAnswer) → (found_number a ≡ 0 → ⊥) → (number_of (check_found t.points a) ≡ found_number a) × (row_of (check_found t.points a) ≡ found_row a)
-    by (Found.At from n) f = absurd (f refl)
-    by Found.Missing f = (refl, refl)
-    by (Found.Refused v) f = (refl, refl)
+    by : (a : Result RingPlace Unfound) → (found_number a ≡ 0 → ⊥) → (number_of (check_found t.points a) ≡ found_number a) × (row_of (check_found t.points a) ≡ found_row a)
+    by (Ok p) f = absurd (f refl)
+    by (Err Unfound.Missing) f = (refl, refl)
+    by (Err (Unfound.Refused v)) f = (refl, refl)

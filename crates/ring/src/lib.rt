@@ -3,51 +3,22 @@
 #![tactic(auto)]
 
 ghost use Rattle.std.specs.Prelude.{◌≡◌};
-ghost use Rattle.made.specs.Made.{tables_of};
-ghost use Rattle.ring.specs.RingCheck.{checked_of, ring_check_at};
+ghost use Rattle.made.specs.Made.{tables};
+ghost use Rattle.ring.specs.RingCheck.{ring_check_at};
 
-use area::{RingAnswer, ring_at};
-use crossing::{RingVerdict, first_fault};
-use heading::Header;
-use made::Verdict;
+use area::{AreaRefusal, ring_at};
+use crossing::{FaultyPair, first_fault};
+use made::Sheet;
 
-// The ring is simple; or the first faulty pair; 17; no such border or ring (19); or what is wrong with the sheet (6, 15).
-#[derive(Clone, Copy)]
-pub enum Checked {
-    Simple,
-    Faulty(usize, usize),
-    Wide,
-    Missing,
-    Refused(Verdict),
-}
-
-fn checked_of(verdict: RingVerdict) -> Checked
-    ensures { result ≡ checked_of verdict }
-{
-    match verdict {
-        RingVerdict::Simple => Checked::Simple,
-        RingVerdict::Faulty(i, j) => Checked::Faulty(i, j),
-        RingVerdict::Wide => Checked::Wide,
-        RingVerdict::Missing => Checked::Missing,
-    }
-}
-
-// The check of one ring of a border: ring 0 is the outer one, ring i island i.
+// The check of one ring of a border: ring 0 is the outer one, ring i island i. None: the ring is simple.
+#[tactic(auto, unfolding(crate::specs::RingCheck::ring_check_at))]
 pub fn ring_check(
-    header: Header,
-    count: usize,
-    rows: &[i64],
-    letters: &[u8],
-    islands: &[u16],
-    points: &[i64],
+    sheet: &Sheet<'_>,
     row: usize,
     ring: usize,
-) -> Checked
-    ensures { result ≡ ring_check_at header count (tables_of rows.now letters.now islands.now points.now) row ring }
+) -> Result<Option<FaultyPair>, AreaRefusal>
+    ensures { result ≡ ring_check_at sheet.now.header sheet.now.count (tables sheet.now.lent) row ring }
 {
-    match ring_at(header, count, rows, letters, islands, points, row, ring) {
-        RingAnswer::Refused(v) => Checked::Refused(v),
-        RingAnswer::Missing => Checked::Missing,
-        RingAnswer::At { from, count } => checked_of(first_fault(points, from, count)),
-    }
+    let place = ring_at(sheet, row, ring)?;
+    Ok(first_fault(sheet.lent.points, place.from, place.count)?)
 }

@@ -1,5 +1,5 @@
 -- Past the row that a walk stands at: what the code has in hand there, and that no sum wraps in a walk within the tables. Assumes nothing.
-use Rattle.std.proofs.Common.{◌≡◌, ℕ, ◌+◌, ◌*◌, ◌%◌, ◌^◌, ◌<◌, ◌≤◌, List, length, drop, ℤ, ◌∙◌, mod-eq_of_lt, arith, le-leb}
+use Rattle.std.proofs.Common.{◌≡◌, ℕ, ◌+◌, ◌*◌, ◌<◌, ◌≤◌, List, length, drop, ℤ, ◌∙◌, mod-eq_of_lt, arith, le-leb}
 use borrow.Author.Tests.{lt-leb}
 use Rattle.laws.specs.Lists.{tail}
 use Rattle.laws.proofs.ListLaws.{rest-is}

@@ -5,7 +5,7 @@ use Rattle.record.specs.declared.Mode.TheVariants.{Loose}
 use Rattle.heading.specs.declared.Header.{Header}
 use Rattle.kinds.specs.Kinds.{row_width, letters_place, islands_place, vertices_place, first_letter_place, first_island_place, first_point_place}
 use Rattle.sheet.specs.Tables.{Tables}
-use Rattle.made.specs.declared.Verdict.TheVariants.{Fine}
+use Rattle.std.specs.Prelude.{Ok}
 use Rattle.made.specs.Made.{nat_of, letters_of, islands_of, points_of, alone_of, none_before, judge_of}
 use Rattle.made.proofs.UsedLaws.{total}
 use Rattle.made.proofs.StartLaws.{Starting, starts-are, starts-total, past_rows}
@@ -19,7 +19,7 @@ use Rattle.row.proofs.SeekLaws.{fine-rows}
 abbrev pub of_row : Tables → ℕ → ℕ → ℕ
 of_row t k p = nat_of (get_or t.rows (row_width * k + p) (pos 0))
 
-module _ (h : Header) (n : ℕ) (t : Tables) (e : judge_of Loose h n t ≡ Fine) (k : ℕ) (l : k < n) where
+module _ (h : Header) (n : ℕ) (t : Tables) (e : judge_of Loose h n t ≡ Ok tt) (k : ℕ) (l : k < n) where
   starting : Starting (past_rows k none_before t).starts (drop (row_width * k) t.rows)
   starting = starts-are (past_rows k none_before t).starts (drop (row_width * k) t.rows) (starts-total Loose n none_before t (fine-rows h n t e) k l)
 

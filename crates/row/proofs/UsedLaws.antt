@@ -1,6 +1,6 @@
 -- A question on a row is answered by the row's own part of the tables (document 01, "Sheet tables"): so what stands behind the used part never
 -- matters, and the row may be asked about alone. Assumes nothing.
-use Rattle.std.proofs.Common.{◌≡◌, ℕ, zero, suc, ◌+◌, ◌-◌, ◌*◌, ◌<◌, ◌≤◌, Bool, true, false, cond, ltb, leb, length, get_or, take, pos, sym, refl, ap, ◌∙◌, arith, length-append, length-take-le, get_or-take, take-take, get_or-append-add, ltb-true, le-leb}
+use Rattle.std.proofs.Common.{◌≡◌, ℕ, zero, suc, ◌+◌, ◌-◌, ◌*◌, ◌<◌, ◌≤◌, Bool, true, false, cond, ltb, leb, length, get_or, take, pos, sym, refl, ap, ◌∙◌, arith, length-append, length-take-le, get_or-take, take-take, get_or-append-add, ltb-true, le-leb, Result, Ok, Err}
 use native.Mathlib.Nat.{sub-zero}
 use lib.ListN.{get_or-append}
 use lib.Seq.{take-append-le}
@@ -9,16 +9,16 @@ use Rattle.heading.specs.declared.Header.{Header}
 use Rattle.heading.specs.Heading.{is_header}
 use Rattle.kinds.specs.Kinds.{row_width, own_width, letters_place, islands_place, vertices_place}
 use Rattle.sheet.specs.Tables.{Tables, no_starts, start_cells}
-use Rattle.made.specs.declared.Verdict.{Verdict}
-use Rattle.made.specs.declared.Verdict.TheVariants.{Fine, BadHeader, Faulty, Unlisted}
+use Rattle.made.specs.declared.Flaw.{Flaw}
+use Rattle.made.specs.declared.Flaw.TheVariants.{BadHeader}
 use Rattle.made.specs.Made.{cell_at, count_at, first_of, own_of, rest_of, is_made, are_starts, alone_of, none_before, is_coded, judge_rows, judge_of, used_of}
 use Rattle.made.proofs.RowWays.{made_held}
 use Rattle.made.proofs.OwnLaws.{made-same, own_same, cell-alike}
 use Rattle.made.proofs.UsedLaws.{first-used, rest-used, judge-used, fine_before}
 use Rattle.made.proofs.StartLaws.{are-starts}
 use Rattle.row.specs.declared.Stand.{Stand}
-use Rattle.row.specs.declared.Sought.{Sought}
-use Rattle.row.specs.declared.Sought.TheVariants.{At, Missing, Refused}
+use Rattle.row.specs.declared.Unfound.{Unfound}
+use Rattle.row.specs.declared.Unfound.TheVariants.{Missing, Refused}
 use Rattle.row.specs.Walk.{first_stand, next_stand, stand_of, left_at}
 use Rattle.row.specs.Seek.{sought_after, sought_of}
 use Rattle.row.specs.Alone.{row_alone}
@@ -67,27 +67,25 @@ own-used n t k h =
 -- so a row is found there, or refused, alike
 pub sought-used : (h : Header) (n : ℕ) (t : Tables) (k : ℕ) → sought_of h n (used_of n t) k ≡ sought_of h n t k
 unfolding sought_of
-sought-used h n t k = ap (λ (v : Verdict). sought_after v n (used_of n t) k) (judge-used Loose h n t) ∙ by (judge_of Loose h n t)
+sought-used h n t k = ap (λ (v : Result Unit Flaw). sought_after v n (used_of n t) k) (judge-used Loose h n t) ∙ by (judge_of Loose h n t)
   where
-    row : (b : Bool) → ltb k n ≡ b → cond b (At (stand_of k (used_of n t).rows)) Missing ≡ cond b (At (stand_of k t.rows)) Missing
-    row true l = let m = ltb-true k n l in ap At (stand-used n t k (omega arith)).same
+    row : (b : Bool) → ltb k n ≡ b → cond b (Ok (stand_of k (used_of n t).rows)) (Err Missing) ≡ cond b (Ok (stand_of k t.rows)) (Err Missing)
+    row true l = let m = ltb-true k n l in ap Ok (stand-used n t k (omega arith)).same
     row false l = refl
 
-    by : (v : Verdict) → sought_after v n (used_of n t) k ≡ sought_after v n t k
-    by Fine = row (ltb k n) refl
-    by BadHeader = refl
-    by (Faulty i) = refl
-    by (Unlisted i) = refl
+    by : (v : Result Unit Flaw) → sought_after v n (used_of n t) k ≡ sought_after v n t k
+    by (Ok u) = row (ltb k n) refl
+    by (Err f) = refl
 
 -- ---- questions
 
 -- the row of a question is found: its own part answers, without its starts, as a sheet of its own. Elsewhere the tables play no part
-pub record Question {A : Type 0} (f : Tables → Sought → A) : Type 0 where
-  pub own : (t : Tables) (k : ℕ) → is_made (left_at t (stand_of k t.rows)) ≡ true → f t (At (stand_of k t.rows)) ≡ f (own_of (left_at t (stand_of k t.rows))) (At first_stand)
-  pub missing : (t u : Tables) → f t Missing ≡ f u Missing
-  pub refused : (t u : Tables) (v : Verdict) → f t (Refused v) ≡ f u (Refused v)
+pub record Question {A : Type 0} (f : Tables → Result Stand Unfound → A) : Type 0 where
+  pub own : (t : Tables) (k : ℕ) → is_made (left_at t (stand_of k t.rows)) ≡ true → f t (Ok (stand_of k t.rows)) ≡ f (own_of (left_at t (stand_of k t.rows))) (Ok first_stand)
+  pub missing : (t u : Tables) → f t (Err Missing) ≡ f u (Err Missing)
+  pub refused : (t u : Tables) (v : Flaw) → f t (Err (Refused v)) ≡ f u (Err (Refused v))
 
-module _ {A : Type 0} (f : Tables → Sought → A) (q : Question f) (h : Header) (n : ℕ) (t : Tables) (k : ℕ) where
+module _ {A : Type 0} (f : Tables → Result Stand Unfound → A) (q : Question f) (h : Header) (n : ℕ) (t : Tables) (k : ℕ) where
   -- **what stands behind the used part never matters** to a question on a row, of any tables
   pub asked-used : f (used_of n t) (sought_of h n (used_of n t) k) ≡ f t (sought_of h n t k)
   asked-used = ap (f (used_of n t)) same ∙ by (sought_of h n t k) refl
@@ -95,15 +93,15 @@ module _ {A : Type 0} (f : Tables → Sought → A) (q : Question f) (h : Header
       same : sought_of h n (used_of n t) k ≡ sought_of h n t k
       same = sought-used h n t k
 
-      row : (x : Tables) (d : Stand) → Stood h n x k d → f x (At d) ≡ f (own_of (left_at x (stand_of k x.rows))) (At first_stand)
-      row x d w = ap (λ (e : Stand). f x (At e)) w.is ∙ q.own x k (rw (← w.is) w.made)
+      row : (x : Tables) (d : Stand) → Stood h n x k d → f x (Ok d) ≡ f (own_of (left_at x (stand_of k x.rows))) (Ok first_stand)
+      row x d w = ap (λ (e : Stand). f x (Ok e)) w.is ∙ q.own x k (rw (← w.is) w.made)
 
-      by : (s : Sought) → s ≡ sought_of h n t k → f (used_of n t) s ≡ f t s
-      by (At d) e =
-          let w = stood h n t k d (At d) e refl in
-          row (used_of n t) d (stood h n (used_of n t) k d (At d) (e ∙ sym same) refl) ∙ ap (λ (x : Tables). f x (At first_stand)) (own-used n t k w.row) ∙ sym (row t d w)
-      by Missing e = q.missing (used_of n t) t
-      by (Refused v) e = q.refused (used_of n t) t v
+      by : (s : Result Stand Unfound) → s ≡ sought_of h n t k → f (used_of n t) s ≡ f t s
+      by (Ok d) e =
+          let w = stood h n t k d (Ok d) e refl in
+          row (used_of n t) d (stood h n (used_of n t) k d (Ok d) (e ∙ sym same) refl) ∙ ap (λ (x : Tables). f x (Ok first_stand)) (own-used n t k w.row) ∙ sym (row t d w)
+      by (Err Missing) e = q.missing (used_of n t) t
+      by (Err (Refused v)) e = q.refused (used_of n t) t v
 
 -- ---- a row alone
 
@@ -150,7 +148,7 @@ module _ (x : Tables) (m : is_made x ≡ true) where
 
 -- ---- a row of a well made sheet, alone
 
-module _ (h : Header) (n : ℕ) (t : Tables) (k : ℕ) (e : judge_of Loose h n t ≡ Fine) (l : k < n) where
+module _ (h : Header) (n : ℕ) (t : Tables) (k : ℕ) (e : judge_of Loose h n t ≡ Ok tt) (l : k < n) where
   abbrev here : Tables
   here = left_at t (stand_of k t.rows)
 
@@ -158,20 +156,20 @@ module _ (h : Header) (n : ℕ) (t : Tables) (k : ℕ) (e : judge_of Loose h n t
   row_made = walk-left (walk-to Loose t n (fine-rows h n t e) k (omega arith)) l
 
   -- it is a well made sheet of one row
-  pub alone-fine : judge_of Loose h 1 (row_alone k t) ≡ Fine
+  pub alone-fine : judge_of Loose h 1 (row_alone k t) ≡ Ok tt
   unfolding judge_of judge_rows is_coded
   alone-fine = go (is_header h) e
     where
-      go : (b : Bool) → cond b (judge_rows Loose n none_before t) BadHeader ≡ Fine → cond b (judge_rows Loose 1 none_before (row_alone k t)) BadHeader ≡ Fine
+      go : (b : Bool) → cond b (judge_rows Loose n none_before t) (Err BadHeader) ≡ Ok tt → cond b (judge_rows Loose 1 none_before (row_alone k t)) (Err BadHeader) ≡ Ok tt
       go true d = fine_before Loose 0 none_before (row_alone k t) (made-alone here row_made) (starts-alone here row_made) refl refl
       go false d = absurd (let z : ◌≡◌ {A = ℕ} 0 1 = cc in omega arith)
 
   -- **a question on a row is answered by that row alone**
-  pub asked-alone : {A : Type 0} (f : Tables → Sought → A) → Question f → f (row_alone k t) (sought_of h 1 (row_alone k t) 0) ≡ f t (sought_of h n t k)
+  pub asked-alone : {A : Type 0} (f : Tables → Result Stand Unfound → A) → Question f → f (row_alone k t) (sought_of h 1 (row_alone k t) 0) ≡ f t (sought_of h n t k)
   unfolding stand_of
   asked-alone f q =
       ap (f (row_alone k t)) (sym (sought-is h 1 (row_alone k t) 0 alone-fine (omega arith)))
       ∙ q.own (row_alone k t) 0 (made-alone here row_made)
-      ∙ ap (λ (x : Tables). f x (At first_stand)) (own_alone here row_made)
+      ∙ ap (λ (x : Tables). f x (Ok first_stand)) (own_alone here row_made)
       ∙ sym (q.own t k row_made)
       ∙ ap (f t) (sought-is h n t k e l)

@@ -6,7 +6,7 @@ use Rattle.laws.proofs.ListLaws.{rest-is}
 use Rattle.record.specs.declared.Mode.{Mode}
 use Rattle.kinds.specs.Kinds.{row_width, letters_place, islands_place, vertices_place}
 use Rattle.sheet.specs.Tables.{Tables}
-use Rattle.made.specs.declared.Verdict.TheVariants.{Fine}
+use Rattle.std.specs.Prelude.{Ok}
 use Rattle.made.specs.Made.{tables_of, rest_of, is_made, are_starts, Before, none_before, past_row, judge_rows}
 use Rattle.made.proofs.RowWays.{made_held}
 use Rattle.made.proofs.UsedLaws.{fine-on}
@@ -37,9 +37,9 @@ pub record Walk (mode : Mode) (t : Tables) (count : ℕ) (d : Stand) (k : ℕ) :
   pub at : d ≡ stand_at before
   pub within : k ≤ count
   pub stands : Stands (length t.rows) (length t.letters) (length t.islands) (length t.points) d
-  pub fine : judge_rows mode (count - k) before (left_at t d) ≡ Fine
+  pub fine : judge_rows mode (count - k) before (left_at t d) ≡ Ok tt
 
-pub walk_start : (mode : Mode) (t : Tables) (count : ℕ) → judge_rows mode count none_before t ≡ Fine → Walk mode t count first_stand 0
+pub walk_start : (mode : Mode) (t : Tables) (count : ℕ) → judge_rows mode count none_before t ≡ Ok tt → Walk mode t count first_stand 0
 walk_start mode t count e =
     record {
       before = none_before;
@@ -57,10 +57,10 @@ module _ {mode : Mode} {t : Tables} {count : ℕ} {d : Stand} {k : ℕ} (w : Wal
   abbrev next : Stand
   next = next_stand t.rows d
 
-  first : judge_rows mode (suc (count - (k + 1))) w.before (left_at t d) ≡ Fine
+  first : judge_rows mode (suc (count - (k + 1))) w.before (left_at t d) ≡ Ok tt
   first = rw one_more at w.fine
 
-  here : (is_made (left_at t d) ≡ true) × (judge_rows mode (count - (k + 1)) (past_row w.before (left_at t d)) (rest_of (left_at t d)) ≡ Fine)
+  here : (is_made (left_at t d) ≡ true) × (judge_rows mode (count - (k + 1)) (past_row w.before (left_at t d)) (rest_of (left_at t d)) ≡ Ok tt)
   here = let f = fine-on mode (count - (k + 1)) w.before (left_at t d) first in (f.0, f.1)
 
   -- the row says itself where it stands
@@ -128,7 +128,7 @@ walk_step : {mode : Mode} {t : Tables} {count : ℕ} {d : Stand} {k : ℕ} → W
 walk_step {mode} {t} {count} {d} {k} w h = subst (Walk mode t count (next_stand t.rows d)) (add-one k) (walk-on w h (next_stand t.rows d) refl)
 
 -- a walk comes to every row of the sheet
-pub walk-to : (mode : Mode) (t : Tables) (count : ℕ) → judge_rows mode count none_before t ≡ Fine → (k : ℕ) → k ≤ count → Walk mode t count (stand_of k t.rows) k
+pub walk-to : (mode : Mode) (t : Tables) (count : ℕ) → judge_rows mode count none_before t ≡ Ok tt → (k : ℕ) → k ≤ count → Walk mode t count (stand_of k t.rows) k
 unfolding stand_of
 walk-to mode t count e zero h = walk_start mode t count e
 walk-to mode t count e (suc k) h =

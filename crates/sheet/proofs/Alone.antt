@@ -8,14 +8,14 @@ use lib.ListN.{length, take, length-take}
 use lib.Seq.{take-take, take_all, length-take-le}
 use lib.Dec.{leb, ltb}
 use borrow.Author.Tests.{ltb-true, ltb-false, lt-ltb}
+use Rattle.std.specs.Prelude.{Result, Ok, Err}
 use Rattle.laws.specs.Lists.{run, all, same}
 use Rattle.laws.proofs.Choice.{and_right, cond-elim}
 use Rattle.laws.proofs.ListLaws.{same-is}
 use Rattle.record.specs.declared.Mode.{Mode}
 use Rattle.record.specs.declared.Line.{Line}
-use Rattle.record.specs.declared.Line.TheVariants.{Got, Bad}
-use Rattle.record.specs.Record.{is_exact, plain, not_lf, word_eof, ends_cr, content, content_is, line_is, line_of}
-use Rattle.record.specs.Refusals.{cut}
+use Rattle.record.specs.declared.refusal.Refusal.{Refusal}
+use Rattle.record.specs.Record.{is_exact, plain, not_lf, word_eof, ends_cr, content, got, content_is, line_is, line_of}
 use Rattle.record.proofs.RecordLaws.{line_view, line-none}
 use Rattle.number.specs.Number.{real_of}
 use Rattle.token.specs.Lex.{lex_of}
@@ -28,9 +28,9 @@ use Rattle.sheet.proofs.Pass.{OneView, one-view}
 
 -- ---- a record is as wide as the bytes up to its LF
 
-abbrev Wide : List ℕ → Line → Type 0
-Wide bs (Got len width) = width ≡ length (front_of bs)
-Wide bs (Bad m) = Unit {0}
+abbrev Wide : List ℕ → Result Line Refusal → Type 0
+Wide bs (Ok l) = l.width ≡ length (front_of bs)
+Wide bs (Err m) = Unit {0}
 
 wide-content : (bs body : List ℕ) (width : ℕ) → width ≡ length (front_of bs) → Wide bs (content_is body width)
 unfolding content_is
@@ -51,7 +51,7 @@ wide-line mode due bs =
     omega (arith, n, ltb-false r (length bs) t, ap length q))
     (λ _. tt))
 
-pub line-width : (mode : Mode) (due : Bool) (bs : List ℕ) (len width : ℕ) → line_of mode due bs ≡ Got len width → width ≡ length (front_of bs)
+pub line-width : (mode : Mode) (due : Bool) (bs : List ℕ) (len width : ℕ) → line_of mode due bs ≡ got len width → width ≡ length (front_of bs)
 line-width mode due bs len width q = subst (Wide bs) q (wide-line mode due bs)
 
 -- ---- the bytes behind it do not matter
@@ -85,7 +85,7 @@ module _ (mode : Mode) (due : Bool) (bs : List ℕ) where
           ap (line_of mode due) (take_all (run not_lf bs + 1) bs (omega arith))
 
   -- its content lies in it
-  content-alone : (len width : ℕ) → line_of mode due bs ≡ Got len width → take len (front_of bs) ≡ take len bs
+  content-alone : (len width : ℕ) → line_of mode due bs ≡ got len width → take len (front_of bs) ≡ take len bs
   content-alone len width e =
       take-take len (run not_lf bs + 1) bs
       (omega (arith, (line_view mode due bs len width e).past, line-width mode due bs len width e, length-take (run not_lf bs + 1) bs))
@@ -93,26 +93,26 @@ module _ (mode : Mode) (due : Bool) (bs : List ℕ) where
 head-alone : (f : List ℕ → Given) (mode : Mode) (bs : List ℕ) → of_head f (front_of bs) (line_of mode false (front_of bs)) ≡ of_head f bs (line_of mode false bs)
 head-alone f mode bs = ap (of_head f (front_of bs)) (line-alone mode false bs) ∙ by (line_of mode false bs) refl
   where
-    by : (l : Line) → line_of mode false bs ≡ l → of_head f (front_of bs) l ≡ of_head f bs l
-    by (Got len width) e = ap f (content-alone mode false bs len width e)
-    by (Bad m) e = refl
+    by : (l : Result Line Refusal) → line_of mode false bs ≡ l → of_head f (front_of bs) l ≡ of_head f bs l
+    by (Ok l) e = ap f (content-alone mode false bs l.len l.width e)
+    by (Err m) e = refl
 
 -- what the machine makes of a record
 pub one-alone : (mode : Mode) (st : State) (n : ℕ) (bs : List ℕ) → one_of mode st n (front_of bs) ≡ one_of mode st n bs
 unfolding one_of
 one-alone mode st n bs = ap (of_line mode st n (front_of bs)) (line-alone mode (is_due st) bs) ∙ by (line_of mode (is_due st) bs) refl
   where
-    by : (l : Line) → line_of mode (is_due st) bs ≡ l → of_line mode st n (front_of bs) l ≡ of_line mode st n bs l
-    by (Got len width) e = ap (λ (c : List ℕ). of_token mode st n len width (lex_of mode (want_of st) c)) (content-alone mode (is_due st) bs len width e)
-    by (Bad m) e = refl
+    by : (l : Result Line Refusal) → line_of mode (is_due st) bs ≡ l → of_line mode st n (front_of bs) l ≡ of_line mode st n bs l
+    by (Ok l) e = ap (λ (c : List ℕ). of_token mode st n l.len l.width (lex_of mode (want_of st) c)) (content-alone mode (is_due st) bs l.len l.width e)
+    by (Err m) e = refl
 
 part-alone : (mode : Mode) (st : State) (o : Tables) (bs : List ℕ) → of_part st o (front_of bs) (one_of mode st (ring_after st o) bs) ≡ of_part st o bs (one_of mode st (ring_after st o) bs)
 part-alone mode st o bs = by (one_of mode st (ring_after st o) bs) (one-view mode st (ring_after st o) bs)
   where
-    by : (x : One) → OneView mode st (ring_after st o) bs x → of_part st o (front_of bs) x ≡ of_part st o bs x
-    by (One.Go st' t len width) v = ap (λ (c : List ℕ). passed (part st' (put st t c o))) (content-alone mode (is_due st) bs len width v.found)
-    by (One.No m) v = refl
-    by (One.End width) v = refl
+    by : (x : Result One Refusal) → OneView mode st (ring_after st o) bs x → of_part st o (front_of bs) x ≡ of_part st o bs x
+    by (Ok (One.Go st' t len width)) v = ap (λ (c : List ℕ). passed (part st' (put st t c o))) (content-alone mode (is_due st) bs len width v.found)
+    by (Ok (One.End width)) v = refl
+    by (Err m) v = refl
 
 -- **a record alone**: what a record gives is what its own bytes give
 pub given-alone : (mode : Mode) (w : Stage) (bs : List ℕ) → given_by mode w (front_of bs) ≡ given_by mode w bs
@@ -123,7 +123,7 @@ given-alone mode scale bs = head-alone (λ c. scale_is (real_of mode c)) mode bs
 given-alone mode (part st o) bs = ap (of_part st o (front_of bs)) (one-alone mode st (ring_after st o) bs) ∙ part-alone mode st o bs
 
 -- no byte is no record
-pub given-none : (mode : Mode) (w : Stage) → given_by mode w [] ≡ fault cut
+pub given-none : (mode : Mode) (w : Stage) → given_by mode w [] ≡ fault Refusal.Cut
 unfolding given_by one_of
 given-none mode word = rw (line-none mode false)
 given-none mode (name kind) = rw (line-none mode false)

@@ -1,15 +1,15 @@
 -- Two maps in one file: a second map's elements put just before the EOF record of a first are read as the first's
 -- elements followed by the second's. Assumes nothing.
 use mathlib.Core.Path.{◌≡◌, sym, ◌∙◌, ap, ap₂, subst}
-use mathlib.Core.List.{List, [], ◌∷◌, ◌++◌, append_assoc}
-use Prim.Native.Nat.{ℕ, ◌+◌, ◌-◌, ◌%◌, ◌≤◌}
+use mathlib.Core.List.{List, ◌++◌, append_assoc}
+use Prim.Native.Nat.{ℕ, ◌-◌, ◌%◌, ◌≤◌}
 use native.Mathlib.Omega.{arith}
 use lib.ListN.{length, take, drop, length-append}
 use lib.Seq.{take_at, drop_at, take-append_seam}
 use Rattle.record.specs.declared.Mode.{Mode}
 use Rattle.record.specs.Refusals.{file_most}
 use Rattle.heading.specs.declared.Header.{Header}
-use Rattle.sheet.specs.Tables.{Tables, empty, put, ring_after, ◌followed◌}
+use Rattle.sheet.specs.Tables.{Tables, ring_after, ◌followed◌}
 use Rattle.sheet.specs.Reading.{sheet, meaning, reading, sections_at, eof_at, section_bytes, joined}
 use Rattle.machine.specs.declared.State.{State}
 use Rattle.machine.specs.declared.State.TheVariants.{Due}

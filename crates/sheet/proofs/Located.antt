@@ -8,7 +8,7 @@ use Rattle.laws.specs.Lists.{run}
 use Rattle.record.specs.declared.Mode.{Mode}
 use Rattle.record.specs.declared.Mode.TheVariants.{Loose, Exact, Former}
 use Rattle.record.specs.Record.{not_lf}
-use Rattle.record.specs.Refusals.{cut}
+use Rattle.record.specs.declared.refusal.Refusal.{Refusal}
 use Rattle.sheet.specs.Tables.{Tables}
 use Rattle.sheet.specs.Reading.{Sections, read, stop, behind_eof, refused, meaning, records}
 use Rattle.sheet.specs.First.{Stage, Given, passed, fault, last, given_by, front_of, past_front, Answers, refuses, passes, finishes}
@@ -62,21 +62,21 @@ ended_at Loose o eof k a bs = tt
 ended_at Former o eof k a bs = tt
 
 -- a record that is not cut has bytes
-not-cut : (mode : Mode) (w : Stage) (bs : List ℕ) (v : Given) → given_by mode w (front_of bs) ≡ v → (fault cut ≡ v → ⊥) → 0 < length bs
+not-cut : (mode : Mode) (w : Stage) (bs : List ℕ) (v : Given) → given_by mode w (front_of bs) ≡ v → (fault Refusal.Cut ≡ v → ⊥) → 0 < length bs
 not-cut mode w [] v e n = absurd (n (sym (given-none mode w) ∙ sym (given-alone mode w []) ∙ e))
 not-cut mode w (b ∷ bs) v e n = omega arith
 
 answers_at : {mode : Mode} {w : Stage} {k a : ℕ} {bs : List ℕ} {s : Sections} → Answers mode w k a bs s → StopAt k a bs s
 answers_at {k = k} {a} {bs} (refuses e) = here k a bs
 answers_at {mode} {w} {k} {a} {bs} {s} (passes {w' = w'} e x) =
-    stop-on k a bs (not-cut mode w bs (passed w') e (λ q. let z : ◌≡◌ {A = ℕ} 0 1 = cc in omega arith)) s (answers_at x)
+    stop-on k a bs (not-cut mode w bs (passed w') e (λ q. cc)) s (answers_at x)
 answers_at {mode} {w} {k} {a} {bs} (finishes {o = o} e) =
-    stop-on k a bs (not-cut mode w bs (last o) e (λ q. let z : ◌≡◌ {A = ℕ} 0 1 = cc in omega arith))
+    stop-on k a bs (not-cut mode w bs (last o) e (λ q. cc))
     (behind_eof mode o a (k + 1) (a + length (front_of bs)) (past_front bs)) (ended_at mode o a (k + 1) (a + length (front_of bs)) (past_front bs))
 
 -- **refusals are located**: a refusal's offset is where the record of its number begins, and the record before that one
 -- begins inside the file (so the number is that of a record of the file, or one more than the last)
-pub meaning-located : (mode : Mode) (bs : List ℕ) (m k at : ℕ) → meaning mode bs ≡ refused m k at
+pub meaning-located : (mode : Mode) (bs : List ℕ) (m : Refusal) (k at : ℕ) → meaning mode bs ≡ refused m k at
     → (1 ≤ k) × (at ≡ records (k - 1) bs) × (2 ≤ k → records (k - 2) bs < length bs)
 meaning-located mode bs m k at q =
     let b : Behind 1 0 bs k at = answers_at (meaning-first mode bs m k at q) in

@@ -1,22 +1,23 @@
 -- A meaning by its parts: the header, the records of the sections, the end. Assumes nothing.
-use mathlib.Core.Path.{◌≡◌, refl, sym, ◌∙◌, ap, subst}
-use mathlib.Core.List.{List, [], ◌∷◌, ◌++◌, append_assoc}
+use mathlib.Core.Path.{◌≡◌, refl, sym, ◌∙◌, ap}
+use mathlib.Core.List.{List, [], ◌++◌}
 use mathlib.Core.Bool.{Bool, true, false, cond}
-use Prim.Native.Nat.{ℕ, ◌+◌, ◌-◌, ◌≤◌, ◌<◌}
+use Prim.Native.Nat.{ℕ, ◌+◌, ◌≤◌, ◌<◌}
 use native.Mathlib.Omega.{arith}
-use lib.ListN.{length, take, drop, length-append, length-drop, take-append-drop}
+use lib.ListN.{length, take, drop, length-drop, take-append-drop}
 use lib.Dec.{leb}
 use borrow.Author.Tests.{leb-true, le-leb, lt-leb}
+use Rattle.std.specs.Prelude.{Result, Ok, Err}
 use Rattle.record.specs.declared.Mode.{Mode}
+use Rattle.record.specs.declared.refusal.Refusal.{Refusal}
 use Rattle.record.specs.Refusals.{file_most}
 use Rattle.heading.specs.declared.Header.{Header}
 use Rattle.header.specs.declared.Headed.{Headed}
-use Rattle.header.specs.declared.Ahead.{Ahead}
-use Rattle.header.specs.declared.Ahead.TheVariants as Ahead
-use Rattle.header.specs.Header.{headed}
+use Rattle.header.specs.declared.Stopped.{Stopped}
+use Rattle.header.specs.Header.{begins, headed}
 use Rattle.header.proofs.HeadLaws.{head-local}
 use Rattle.sheet.specs.Tables.{Tables, empty}
-use Rattle.sheet.specs.Reading.{Sections, read, stop, walk_from, Reading, sheet, refused, under, beyond, sections_of, meaning, reading, begins, sections_at, ends, eof_at, section_bytes, joined}
+use Rattle.sheet.specs.Reading.{Sections, read, stop, walk_from, sheet, refused, under, beyond, sections_of, meant, meaning, reading, sections_at, eof_at}
 use Rattle.machine.specs.declared.State.TheVariants.{Due}
 use Rattle.sheet.proofs.Pass.{Pass, IsEnd, Accepts, walk-accepts, accepts-walk}
 
@@ -24,28 +25,27 @@ use Rattle.sheet.proofs.Pass.{Pass, IsEnd, Accepts, walk-accepts, accepts-walk}
 pub record File (mode : Mode) (bs : List ℕ) (h : Header) (o : Tables) : Type 0 where
   pub at : ℕ
   pub eof : ℕ
-  pub head : headed mode bs ≡ record { ahead = Ahead.Sections at; header = h }
+  pub head : headed mode bs ≡ begins h at
   pub walked : walk_from mode bs at ≡ read o eof
 
 module _ (mode : Mode) (bs : List ℕ) (h : Header) (o : Tables) where
   pub meaning-file : meaning mode bs ≡ sheet h o → File mode bs h o
-  unfolding meaning sections_of
-  meaning-file q = by (headed mode bs).ahead refl q
+  unfolding meaning
+  meaning-file q = by (headed mode bs) refl q
     where
-      sections : (at : ℕ) → (headed mode bs).ahead ≡ Ahead.Sections at → (s : Sections) → walk_from mode bs at ≡ s
-          → under (headed mode bs).header s ≡ sheet h o → File mode bs h o
-      sections at e (read o₁ eof) w q =
-          let hh : (headed mode bs).header ≡ h = cc in
+      sections : (x : Headed) → headed mode bs ≡ Ok x → (s : Sections) → walk_from mode bs x.at ≡ s → under x.header s ≡ sheet h o → File mode bs h o
+      sections x e (read o₁ eof) w q =
+          let hh : x.header ≡ h = cc in
           let oo : o₁ ≡ o = cc in
-          record { at = at; eof = eof; head = λ i. record { ahead = e i; header = hh i }; walked = w ∙ ap (λ (x : Tables). read x eof) oo }
-      sections at e (stop m k a) w q = absurd (let z : ◌≡◌ {A = ℕ} 0 1 = cc in omega arith)
+          record { at = x.at; eof = eof; head = rw (← hh) e; walked = w ∙ ap (λ (y : Tables). read y eof) oo }
+      sections x e (stop m k a) w q = absurd cc
 
-      by : (a : Ahead) → (headed mode bs).ahead ≡ a → under (headed mode bs).header (beyond mode bs a) ≡ sheet h o → File mode bs h o
-      by (Ahead.Sections at) e q = sections at e (walk_from mode bs at) refl q
-      by (Ahead.Refused m k at) e q = absurd (let z : ◌≡◌ {A = ℕ} 0 1 = cc in omega arith)
+      by : (x : Result Headed Stopped) → headed mode bs ≡ x → meant mode bs x ≡ sheet h o → File mode bs h o
+      by (Ok x) e q = sections x e (walk_from mode bs x.at) refl q
+      by (Err s) e q = absurd cc
 
   pub file-meaning : File mode bs h o → meaning mode bs ≡ sheet h o
-  unfolding meaning sections_of
+  unfolding meaning
   file-meaning f = rw (f.head, f.walked)
 
   -- where the sections begin and where the EOF record stands
@@ -62,16 +62,46 @@ module _ (mode : Mode) (bs : List ℕ) (h : Header) (o : Tables) where
   unfolding reading
   reading-meaning q = go (leb (length bs) file_most) refl q
     where
-      go : (x : Bool) → leb (length bs) file_most ≡ x → cond x (meaning mode bs) (refused 1 0 0) ≡ sheet h o → (length bs ≤ file_most) × (meaning mode bs ≡ sheet h o)
+      go : (x : Bool) → leb (length bs) file_most ≡ x → cond x (meaning mode bs) (refused Refusal.TooLong 0 0) ≡ sheet h o → (length bs ≤ file_most) × (meaning mode bs ≡ sheet h o)
       go true e q = (leb-true (length bs) file_most e, q)
-      go false e q = absurd (let z : ◌≡◌ {A = ℕ} 0 1 = cc in omega arith)
+      go false e q = absurd cc
 
   pub meaning-reading : length bs ≤ file_most → meaning mode bs ≡ sheet h o → reading mode bs ≡ sheet h o
   unfolding reading
   meaning-reading l q = rw (le-leb (length bs) file_most l) q
 
+-- a meaning and what the sections answer
+module _ (mode : Mode) (bs : List ℕ) where
+  pub sections-read : (o : Tables) (eof : ℕ) → sections_of mode bs ≡ read o eof → (h : Header) × (meaning mode bs ≡ sheet h o)
+  unfolding meaning sections_of
+  sections-read o eof q = by (headed mode bs) q
+    where
+      by : (x : Result Headed Stopped) → beyond mode bs x ≡ read o eof → (h : Header) × (meant mode bs x ≡ sheet h o)
+      by (Ok x) q = (x.header, ap (under x.header) q)
+      by (Err s) q = absurd cc
+
+  pub sections-refused : (m : Refusal) (k at : ℕ) → sections_of mode bs ≡ stop m k at → meaning mode bs ≡ refused m k at
+  unfolding meaning sections_of
+  sections-refused m k at q = by (headed mode bs) q
+    where
+      by : (x : Result Headed Stopped) → beyond mode bs x ≡ stop m k at → meant mode bs x ≡ refused m k at
+      by (Ok x) q = ap (under x.header) q
+      by (Err s) q = cc
+
+  pub refused-sections : (m : Refusal) (k at : ℕ) → meaning mode bs ≡ refused m k at → sections_of mode bs ≡ stop m k at
+  unfolding meaning sections_of
+  refused-sections m k at q = by (headed mode bs) q
+    where
+      sections : (h : Header) (s : Sections) → under h s ≡ refused m k at → s ≡ stop m k at
+      sections h (read o eof) q = absurd cc
+      sections h (stop m' k' at') q = cc
+
+      by : (x : Result Headed Stopped) → meant mode bs x ≡ refused m k at → beyond mode bs x ≡ stop m k at
+      by (Ok x) q = sections x.header (walk_from mode bs x.at) q
+      by (Err s) q = cc
+
 -- refusal 1 comes before all
-pub reading-long : (mode : Mode) (bs : List ℕ) → file_most < length bs → reading mode bs ≡ refused 1 0 0
+pub reading-long : (mode : Mode) (bs : List ℕ) → file_most < length bs → reading mode bs ≡ refused Refusal.TooLong 0 0
 unfolding reading
 reading-long mode bs h = rw (lt-leb (length bs) file_most h)
 
@@ -82,7 +112,7 @@ pub record Parts (mode : Mode) (bs : List ℕ) (h : Header) (o : Tables) : Type 
   pub body : List ℕ
   pub rest : List ℕ
   pub split : bs ≡ head ++ (body ++ rest)
-  pub begins : (z : List ℕ) → headed mode (head ++ z) ≡ record { ahead = Ahead.Sections (length head); header = h }
+  pub begins : (z : List ℕ) → headed mode (head ++ z) ≡ begins h (length head)
   pub pass : Pass mode Due empty body Due o
   pub end : IsEnd mode rest
 
@@ -99,7 +129,7 @@ file-parts mode bs h o f =
         body = r.body;
         rest = r.rest;
         split = sym (take-append-drop at bs) ∙ ap (λ (x : List ℕ). take at bs ++ x) r.split;
-        begins = λ z. (head-local mode bs h at f.head z).1 ∙ ap (λ (k : ℕ). record { ahead = Ahead.Sections k; header = h }) (sym n);
+        begins = λ z. rw n (head-local mode bs h at f.head z).1;
         pass = r.pass;
         end = r.end;
       },

@@ -6,9 +6,11 @@ use Prim.Native.Nat.{ℕ}
 use native.Mathlib.Omega.{arith}
 use lib.ListN.{length, take, drop}
 use lib.Dec.{eqb}
+use Rattle.std.specs.Prelude.{Some, Ok, Err}
 use Rattle.laws.proofs.Choice.{true≢false, false≢true}
 use Rattle.record.specs.declared.Mode.{Mode}
 use Rattle.record.specs.declared.Mode.TheVariants.{Loose, Exact, Former}
+use Rattle.record.specs.declared.refusal.Refusal.TheVariants as Refusal
 use Rattle.record.specs.Record.{is_exact, widens}
 use Rattle.record.proofs.RecordLaws.{still-loose, end-widens, line-widens}
 use Rattle.heading.specs.declared.Header.{Header}
@@ -21,23 +23,22 @@ use Rattle.sheet.specs.Reading.{walk_from, sheet, meaning, reading}
 use Rattle.token.specs.declared.Want.TheVariants.{Key}
 use Rattle.machine.specs.declared.State.{State}
 use Rattle.machine.specs.declared.State.TheVariants.{Due, Field, Island, X, Y}
-use Rattle.machine.specs.declared.Step.TheVariants.{Go, No}
 use Rattle.sheet.proofs.Pass.{Pass, done, more, Ended, OneView, one-view, TailOk, IsEnd, Accepts, walk-accepts, accepts-walk}
 use Rattle.sheet.proofs.Meaning.{meaning-file, file-meaning, reading-meaning, meaning-reading}
 
 module _ (from to : Mode) (wide : widens from to ≡ true) where
   -- a step that is no refusal is the same in a wider mode, which lists every code that the first lists
-  pub step-widens : (st st' : State) (t next : ℕ) → step_of from st t next ≡ Go st' → step_of to st t next ≡ Go st'
+  pub step-widens : (st st' : State) (t next : ℕ) → step_of from st t next ≡ Ok (Some st') → step_of to st t next ≡ Ok (Some st')
   unfolding step_of field_of
   step-widens Due st' t next q = q
   step-widens (Field kind p i) st' t next q = go (is_exact from) refl (is_exact to) refl (eqb p 2) (is_listed kind t) q
     where
       go : (f : Bool) → is_exact from ≡ f → (g : Bool) → is_exact to ≡ g → (x y : Bool)
-          → cond (x && f && not y) (No 10) (cond (eqb p 11) (vertices_of kind i t) (cond (eqb (next_of kind p) 0) (fields_end kind) (Go (Field kind (next_of kind p) (cond (eqb p 10) t i))))) ≡ Go st'
-          → cond (x && g && not y) (No 10) (cond (eqb p 11) (vertices_of kind i t) (cond (eqb (next_of kind p) 0) (fields_end kind) (Go (Field kind (next_of kind p) (cond (eqb p 10) t i))))) ≡ Go st'
+          → cond (x && f && not y) (Err Refusal.Code) (cond (eqb p 11) (vertices_of kind i t) (cond (eqb (next_of kind p) 0) (fields_end kind) (Ok (Some (Field kind (next_of kind p) (cond (eqb p 10) t i)))))) ≡ Ok (Some st')
+          → cond (x && g && not y) (Err Refusal.Code) (cond (eqb p 11) (vertices_of kind i t) (cond (eqb (next_of kind p) 0) (fields_end kind) (Ok (Some (Field kind (next_of kind p) (cond (eqb p 10) t i)))))) ≡ Ok (Some st')
       go true ef true eg x y q = q
       go true ef false eg true true q = q
-      go true ef false eg true false q = absurd (let z : ◌≡◌ {A = ℕ} 0 1 = cc in omega arith)
+      go true ef false eg true false q = absurd cc
       go true ef false eg false y q = q
       go false ef true eg x y q = absurd (true≢false (sym eg ∙ still-loose from to wide ef))
       go false ef false eg x y q = q

@@ -6,21 +6,21 @@ use Prim.Native.Nat.{ℕ, ◌≤◌}
 use lib.ListN.{length, take}
 use lib.Dec.{leb}
 use borrow.Author.Tests.{leb-true, leb-false}
+use Rattle.std.specs.Prelude.{Result, Ok, Err}
 use Rattle.laws.specs.Lists.{all}
 use Rattle.laws.proofs.Choice.{false≢true}
 use Rattle.record.specs.declared.Mode.TheVariants.{Loose, Former}
 use Rattle.record.specs.declared.Line.{Line}
-use Rattle.record.specs.declared.Line.TheVariants.{Got, Bad}
-use Rattle.record.specs.Refusals.{malformed, file_most}
+use Rattle.record.specs.declared.refusal.Refusal.{Refusal}
+use Rattle.record.specs.Refusals.{file_most}
 use Rattle.record.specs.Record.{line_of}
 use Rattle.record.proofs.RecordLaws.{line-alike}
 use Rattle.number.specs.Words.{word_of}
 use Rattle.number.specs.Number.{parted, is_note}
 use Rattle.number.proofs.NumberLaws.{real-former, real-noted}
-use Rattle.token.specs.declared.Token.{Token}
 use Rattle.token.proofs.TokenLaws.{lex-former, lex-noted}
 use Rattle.heading.specs.declared.Header.{Header}
-use Rattle.header.specs.Header.{kind_said, is_named, headed}
+use Rattle.header.specs.Header.{kind_said, is_named}
 use Rattle.machine.specs.declared.State.{State}
 use Rattle.machine.specs.declared.State.TheVariants.{Due, Field, Island, X, Y}
 use Rattle.machine.specs.Machine.{is_due, want_of, field_of, step_of, of_token, one_of}
@@ -28,19 +28,19 @@ use Rattle.sheet.specs.Tables.{Tables, ring_after}
 use Rattle.sheet.specs.Reading.{Sections, read, stop, sheet, refused, sections_of, meaning, reading}
 use Rattle.sheet.specs.First.{Stage, word, name, scale, part, fault, given_by, front_of, Answers, refuses, passes, finishes}
 use Rattle.sheet.specs.Notes.{HasNote, FirstNote, here, later, Retired}
-use Rattle.sheet.proofs.Meaning.{reading-long}
+use Rattle.sheet.proofs.Meaning.{sections-read, sections-refused, reading-long}
 use Rattle.sheet.proofs.Modes.{meaning-widens, reading-widens}
 use Rattle.sheet.proofs.First.{answers_one, file-answers, first-refused}
 
 -- ---- one record
 
 -- a note is 8 in loose mode
-note-refused : (w : Stage) (bs : List ℕ) → HasNote w bs → given_by Loose w bs ≡ fault malformed
+note-refused : (w : Stage) (bs : List ℕ) → HasNote w bs → given_by Loose w bs ≡ fault Refusal.Number
 unfolding given_by one_of
 note-refused word bs n = absurd (false≢true (unfold is_note parted all in n.note))
 note-refused (name kind) bs n = absurd (false≢true (unfold is_note parted all in n.note))
-note-refused scale bs n = rw (n.found, real-noted (take n.len bs) n.note)
-note-refused (part st o) bs n = rw (n.found, lex-noted (want_of st) (take n.len bs) n.note)
+note-refused scale bs n = rw (n.found, real-noted (take n.line.len bs) n.note)
+note-refused (part st o) bs n = rw (n.found, lex-noted (want_of st) (take n.line.len bs) n.note)
 
 step-alike : (st : State) (t next : ℕ) → step_of Loose st t next ≡ step_of Former st t next
 unfolding step_of field_of
@@ -50,9 +50,9 @@ step-alike (Island l s r) t next = refl
 step-alike (X r) t next = refl
 step-alike (Y r x) t next = refl
 
-token-alike : (st : State) (next len width : ℕ) (k : Token) → of_token Loose st next len width k ≡ of_token Former st next len width k
-token-alike st next len width (Token.Say t) = rw (step-alike st t next)
-token-alike st next len width (Token.Bad m) = refl
+token-alike : (st : State) (next len width : ℕ) (k : Result ℕ Refusal) → of_token Loose st next len width k ≡ of_token Former st next len width k
+token-alike st next len width (Ok t) = rw (step-alike st t next)
+token-alike st next len width (Err m) = refl
 
 -- a record gives in loose mode what it gives in the former reading, or it has a note
 given-former : (w : Stage) (bs : List ℕ) (P : Type 0) → (given_by Loose w bs ≡ given_by Former w bs → P) → (HasNote w bs → P) → P
@@ -61,22 +61,22 @@ given-former word bs P same note = same (rw (line-alike Former Loose false bs re
 given-former (name kind) bs P same note = same (rw (line-alike Former Loose false bs refl) (unfold is_named word_of in refl))
 given-former scale bs P same note = by (line_of Loose false bs) refl
   where
-    by : (l : Line) → line_of Loose false bs ≡ l → P
-    by (Got len width) e =
-        real-former (take len bs) P (λ r. same (rw (line-alike Former Loose false bs refl, e, r)))
-        (λ n. note (record { len = len; width = width; found = e; note = n }))
-    by (Bad m) e = same (rw (line-alike Former Loose false bs refl, e))
+    by : (l : Result Line Refusal) → line_of Loose false bs ≡ l → P
+    by (Ok l) e =
+        real-former (take l.len bs) P (λ r. same (rw (line-alike Former Loose false bs refl, e, r)))
+        (λ n. note (record { line = l; found = e; note = n }))
+    by (Err m) e = same (rw (line-alike Former Loose false bs refl, e))
 given-former (part st o) bs P same note = by (line_of Loose (is_due st) bs) refl
   where
-    by : (l : Line) → line_of Loose (is_due st) bs ≡ l → P
-    by (Got len width) e =
-        lex-former (want_of st) (take len bs) P (λ r. same (rw (line-alike Former Loose (is_due st) bs refl, e, r, token-alike st (ring_after st o) len width)))
-        (λ n. note (record { len = len; width = width; found = e; note = n }))
-    by (Bad m) e = same (rw (line-alike Former Loose (is_due st) bs refl, e))
+    by : (l : Result Line Refusal) → line_of Loose (is_due st) bs ≡ l → P
+    by (Ok l) e =
+        lex-former (want_of st) (take l.len bs) P (λ r. same (rw (line-alike Former Loose (is_due st) bs refl, e, r, token-alike st (ring_after st o) l.len l.width)))
+        (λ n. note (record { line = l; found = e; note = n }))
+    by (Err m) e = same (rw (line-alike Former Loose (is_due st) bs refl, e))
 
 -- ---- the records one after the other
 
-note-answers : {w : Stage} {k a k' a' : ℕ} {bs : List ℕ} → FirstNote w k a bs k' a' → Answers Loose w k a bs (stop malformed k' a')
+note-answers : {w : Stage} {k a k' a' : ℕ} {bs : List ℕ} → FirstNote w k a bs k' a' → Answers Loose w k a bs (stop Refusal.Number k' a')
 note-answers {w} {bs = bs} (here n) = refuses (note-refused w (front_of bs) n)
 note-answers (later e f) = passes e (note-answers f)
 
@@ -95,13 +95,13 @@ same-meaning bs e = by (sections_of Loose bs) refl
   where
     by : (s : Sections) → sections_of Loose bs ≡ s → meaning Loose bs ≡ meaning Former bs
     by (read o eof) q =
-        let m : meaning Loose bs ≡ sheet (headed Loose bs).header o = (unfold meaning in rw q) in
-        m ∙ sym (meaning-widens Loose Former refl bs (headed Loose bs).header o m)
-    by (stop m k at) q = unfold meaning in rw (← e, q)
+        let (h, m) = sections-read Loose bs o eof q in
+        m ∙ sym (meaning-widens Loose Former refl bs h o m)
+    by (stop m k at) q = sections-refused Loose bs m k at q ∙ sym (sections-refused Former bs m k at (sym e ∙ q))
 
 -- **a file with a note meets 8 at the first record that has one**
-pub note-meets : (bs : List ℕ) (k at : ℕ) → length bs ≤ file_most → FirstNote word 1 0 bs k at → reading Loose bs ≡ refused malformed k at
-note-meets bs k at l f = first-refused Loose bs malformed k at l (note-answers f)
+pub note-meets : (bs : List ℕ) (k at : ℕ) → length bs ≤ file_most → FirstNote word 1 0 bs k at → reading Loose bs ≡ refused Refusal.Number k at
+note-meets bs k at l f = first-refused Loose bs Refusal.Number k at l (note-answers f)
 
 -- **loose mode answers as the former reading does, or it meets a note**
 pub former-agrees : (bs : List ℕ) (P : Type 0) → (reading Loose bs ≡ reading Former bs → P) → (Retired bs → P) → P

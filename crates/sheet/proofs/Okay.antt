@@ -1,25 +1,25 @@
 -- What holds of each state that the machine comes to, and what was read before does not matter. Assumes nothing.
-use mathlib.Core.Path.{◌≡◌, sym, ◌∙◌, ap, subst}
+use mathlib.Core.Path.{◌≡◌, refl, sym, ◌∙◌, ap, subst}
 use mathlib.Core.List.{List, [], ◌∷◌, ◌++◌, append_assoc}
 use mathlib.Core.Bool.{not, ◌&&◌}
-use Prim.Native.Nat.{ℕ, zero, suc, ◌+◌, ◌-◌, ◌*◌, ◌/◌, ◌%◌, ◌≤◌}
+use Prim.Native.Nat.{ℕ, ◌+◌, ◌-◌, ◌*◌, ◌/◌, ◌%◌, ◌≤◌}
 use native.Mathlib.Omega.{arith}
 use lib.ListN.{length, get_or, set, length-append, length-set}
 use lib.Seq.{get_or-append-add}
 use lib.Dec.{leb, eqb}
 use lib.IntN.{ℤ}
 use borrow.Author.Tests.{leb-true, leb-false}
+use Rattle.std.proofs.lemmas.List.{set-append_right}
+use Rattle.std.specs.Prelude.{Some, None, Ok, Err}
 use Rattle.record.specs.declared.Mode.{Mode}
 use Rattle.record.specs.Record.{is_exact}
 use Rattle.laws.proofs.Choice.{cond-elim}
 use Rattle.kinds.specs.Kinds.{row_width, next_of, fixed_vertices, is_listed, want_at}
-use Rattle.machine.specs.Machine.{vertices_of, fields_end, field_of, island_of, is_shut, ring_step, vertex_of, key_step, step_of}
+use Rattle.machine.specs.Machine.{Step, vertices_of, fields_end, field_of, island_of, is_shut, ring_step, vertex_of, key_step, step_of}
 use Rattle.sheet.specs.Tables.{Tables, Starts, starts_of, moved_on, ◌followed◌, new_row, cell_of, set_last, put, ring_after}
 use Rattle.machine.specs.declared.Ring.{Ring}
 use Rattle.machine.specs.declared.State.{State}
 use Rattle.machine.specs.declared.State.TheVariants.{Due, Field, Island, X, Y}
-use Rattle.machine.specs.declared.Step.{Step}
-use Rattle.machine.specs.declared.Step.TheVariants.{Go, No, End}
 use Rattle.kinds.proofs.KindLaws.{next-most}
 use Rattle.sheet.proofs.StartLaws.{length_moved, moved-append, moved-set, moved_new, starts-followed}
 
@@ -32,9 +32,9 @@ Okay (X r) o = r.rings ≤ length o.islands
 Okay (Y r x) o = r.rings ≤ length o.islands
 
 abbrev StepOkay : Tables → Step → Type 0
-StepOkay o (Go st) = Okay st o
-StepOkay o (No m) = Unit {0}
-StepOkay o End = Unit {0}
+StepOkay o (Ok (Some st)) = Okay st o
+StepOkay o (Ok None) = Unit {0}
+StepOkay o (Err m) = Unit {0}
 
 key-okay : (t : ℕ) (o : Tables) → row_width ≤ length o.rows → StepOkay o (key_step t)
 unfolding key_step
@@ -88,19 +88,16 @@ step-okay mode (Island l s r) t next c o h =
 step-okay mode (X r) t next c o h = h
 step-okay mode (Y r x) t next c o h = ring-okay r _ _ x t next (put (Y r x) t c o) h
 
-pub go-okay : (mode : Mode) (st st' : State) (t next : ℕ) (c : List ℕ) (o : Tables) → Okay st o → step_of mode st t next ≡ Go st' → Okay st' (put st t c o)
+pub go-okay : (mode : Mode) (st st' : State) (t next : ℕ) (c : List ℕ) (o : Tables) → Okay st o → step_of mode st t next ≡ Ok (Some st') → Okay st' (put st t c o)
 go-okay mode st st' t next c o h e = subst (StepOkay (put st t c o)) e (step-okay mode st t next c o h)
 
 -- ---- tables put before
 
-set-right {ℓ} : {A : Type ℓ} (xs ys : List A) (i n : ℕ) (v : A) → n ≡ length xs + i → set (xs ++ ys) n v ≡ xs ++ set ys i v
-set-right [] ys i n v e = ap (λ (k : ℕ). set ys k v) (omega arith)
-set-right (x ∷ xs) ys i zero v e = absurd (omega arith)
-set-right (x ∷ xs) ys i (suc n) v e = ap (λ (l : List _). x ∷ l) (set-right xs ys i n v (omega arith))
-
 last-right : (xs ys : List ℤ) (p : ℕ) (v : ℤ) → row_width ≤ length ys → set_last (xs ++ ys) p v ≡ xs ++ set_last ys p v
 unfolding set_last
-last-right xs ys p v h = set-right xs ys (length ys - row_width + p) (length (xs ++ ys) - row_width + p) v (omega (arith, length-append xs ys))
+last-right xs ys p v h =
+    set-append_right xs ys (length xs) (length (xs ++ ys) - row_width + p) v refl (omega (arith, length-append xs ys))
+    ∙ ap (λ (k : ℕ). xs ++ set ys k v) (omega (arith, length-append xs ys))
 
 get_d-right : (xs ys : List ℕ) (r : ℕ) → r ≤ length ys → get_or (xs ++ ys) (length (xs ++ ys) - r) 0 ≡ get_or ys (length ys - r) 0
 get_d-right xs ys r h =

@@ -6,6 +6,7 @@ use Prim.Native.Nat.{ℕ, ◌+◌, ◌*◌, ◌/◌, ◌%◌}
 use native.Mathlib.Omega.{arith}
 use lib.ListN.{length, length-append, length-set}
 use lib.Dec.{leb, eqb}
+use Rattle.std.specs.Prelude.{Some, None, Ok, Err}
 use Rattle.laws.proofs.Choice.{cond-elim}
 use Rattle.record.specs.declared.Mode.{Mode}
 use Rattle.record.specs.Record.{is_exact}
@@ -13,9 +14,7 @@ use Rattle.token.specs.Lex.{unlift}
 use Rattle.kinds.specs.Kinds.{row_width, next_of, fixed_vertices, is_listed}
 use Rattle.machine.specs.declared.State.{State}
 use Rattle.machine.specs.declared.State.TheVariants.{Due, Field, Island, X, Y}
-use Rattle.machine.specs.declared.Step.{Step}
-use Rattle.machine.specs.declared.Step.TheVariants.{Go, No, End}
-use Rattle.machine.specs.Machine.{vertices_of, fields_end, field_of, island_of, is_shut, ring_step, vertex_of, key_step, step_of}
+use Rattle.machine.specs.Machine.{Step, vertices_of, fields_end, field_of, island_of, is_shut, ring_step, vertex_of, key_step, step_of}
 use Rattle.sheet.specs.Tables.{Tables, empty, starts_of, new_row, set_last, put}
 use Rattle.sheet.proofs.Pass.{Pass, done, more}
 
@@ -29,9 +28,9 @@ odd_of (Y r x) = 1
 
 -- after an x a y is wanted, and nowhere else
 abbrev pub StepOdd : ℕ → Step → Type 0
-StepOdd n (Go st) = odd_of st ≡ n
-StepOdd n (No m) = Unit {0}
-StepOdd n End = Unit {0}
+StepOdd n (Ok (Some st)) = odd_of st ≡ n
+StepOdd n (Ok None) = Unit {0}
+StepOdd n (Err m) = Unit {0}
 
 abbrev pub odd_next : State → ℕ
 odd_next Due = 0
@@ -86,7 +85,7 @@ whole_by (Island l s r) st' t c o h e = record { rows = h.rows; points = omega (
 whole_by (X r) st' t c o h e = record { rows = h.rows; points = omega (arith, length-append o.points (unlift t ∷ []), h.points) }
 whole_by (Y r x) st' t c o h e = record { rows = h.rows; points = omega (arith, length-append o.points (unlift t ∷ []), h.points) }
 
-pub go-whole : (mode : Mode) (st st' : State) (t next : ℕ) (c : List ℕ) (o : Tables) → Whole st o → step_of mode st t next ≡ Go st' → Whole st' (put st t c o)
+pub go-whole : (mode : Mode) (st st' : State) (t next : ℕ) (c : List ℕ) (o : Tables) → Whole st o → step_of mode st t next ≡ Ok (Some st') → Whole st' (put st t c o)
 go-whole mode st st' t next c o h g = whole_by st st' t c o h (subst (StepOdd (odd_next st)) g (step-odd mode st t next))
 
 pub pass-whole : {mode : Mode} {st st' : State} {o o' : Tables} {bs : List ℕ} → Whole st o → Pass mode st o bs st' o' → Whole st' o'

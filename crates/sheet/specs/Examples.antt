@@ -1,9 +1,11 @@
 -- Small sheets, computed: the specification's own examples as they are printed in the former reading, and padded in exact mode, the listing example of document 01, an island, and refusals.
-use Rattle.std.specs.Prelude.{ℕ, ◌+◌, ◌≡◌, refl, List, [], ◌∷◌, ◌++◌, take, drop, replicate, pos, negsuc}
+use Rattle.std.specs.Prelude.{ℕ, ◌+◌, ◌≡◌, refl, List, [], ◌∷◌, ◌++◌, map, take, drop, replicate, pos, negsuc}
 use Rattle.laws.specs.Lists.{run, kept, all, same, all_at, holds, place}
 use Rattle.laws.specs.Text.{text}
 use Rattle.record.specs.declared.Mode.{Mode}
 use Rattle.record.specs.declared.Mode.TheVariants.{Loose, Exact, Former}
+use Rattle.record.specs.declared.refusal.Refusal.TheVariants as Refusal
+use Rattle.record.specs.Refusals.{number_of}
 use Rattle.record.specs.Record.{ends_cr, content, content_is, line_is, line_of}
 use Rattle.number.specs.Words.{unled, trimmed, word_of}
 use Rattle.number.specs.Number as Number
@@ -85,7 +87,7 @@ unfolding computed padded specimen
 specimen-loose = refl
 
 -- notes are the former reading's; loose mode refuses the first of them
-specimen-printed : (reading Former printed ≡ specimen) × (reading Loose printed ≡ refused 8 12 88)
+specimen-printed : (reading Former printed ≡ specimen) × (reading Loose printed ≡ refused Refusal.Number 12 88)
 unfolding computed printed specimen
 specimen-printed = (refl, refl)
 
@@ -162,111 +164,116 @@ unfolding computed scanned scanned_tables
 scanned-loose = refl
 
 -- a raster of three points is refused where the fourth's x is due, one of five where a keyword is due
-raster-points : (reading Loose (text "MAPPA\nZ999_000100\n1000.000\nRIFERIMENTO_RASTER\nx\n0.000\n0.000\n0.000\n0.000\n0.000\n0.000\nEOF\n") ≡ refused 8 12 84)
-    × (reading Loose (text "MAPPA\nZ999_000100\n1000.000\nRIFERIMENTO_RASTER\nx\n0.000\n0.000\n0.000\n0.000\n0.000\n0.000\n0.000\n0.000\n0.000\n0.000\nEOF\n") ≡ refused 7 14 96)
+raster-points : (reading Loose (text "MAPPA\nZ999_000100\n1000.000\nRIFERIMENTO_RASTER\nx\n0.000\n0.000\n0.000\n0.000\n0.000\n0.000\nEOF\n") ≡ refused Refusal.Number 12 84)
+    × (reading Loose (text "MAPPA\nZ999_000100\n1000.000\nRIFERIMENTO_RASTER\nx\n0.000\n0.000\n0.000\n0.000\n0.000\n0.000\n0.000\n0.000\n0.000\n0.000\nEOF\n") ≡ refused Refusal.Keyword 14 96)
 unfolding computed
 raster-points = (refl, refl)
 
 -- a survey book's line: exact mode lists type 1 alone; one vertex is too few
-book-refused : (reading Exact (text "MAPPA\r\nZ999_000100\r\n    1000.000\r\nLIBRETTO\r\n0\r\n   2\r\n") ≡ refused 10 6 47)
-    × (reading Loose (text "MAPPA\nZ999_000100\n1000.000\nLIBRETTO\n0\n2\n1\n") ≡ refused 11 7 40)
+book-refused : (reading Exact (text "MAPPA\r\nZ999_000100\r\n    1000.000\r\nLIBRETTO\r\n0\r\n   2\r\n") ≡ refused Refusal.Code 6 47)
+    × (reading Loose (text "MAPPA\nZ999_000100\n1000.000\nLIBRETTO\n0\n2\n1\n") ≡ refused Refusal.Count 7 40)
 unfolding computed
 book-refused = (refl, refl)
 
 -- ---- one refusal of each number but 1 (a file of 16 MiB is not computed: `reading-long`)
 
+-- the numbers by which they are called here
+numbers : map number_of (Refusal.TooLong ∷ Refusal.Cut ∷ Refusal.LineEnd ∷ Refusal.Length ∷ Refusal.Byte ∷ Refusal.Header ∷ Refusal.Keyword ∷ Refusal.Number ∷ Refusal.Letters ∷ Refusal.Code ∷ Refusal.Count ∷ Refusal.OpenRing ∷ Refusal.AfterEof ∷ [])
+    ≡ 1 ∷ 2 ∷ 3 ∷ 4 ∷ 5 ∷ 6 ∷ 7 ∷ 8 ∷ 9 ∷ 10 ∷ 11 ∷ 12 ∷ 13 ∷ []
+numbers = refl
+
 -- the empty file: cut at record 1
-two-empty : reading Loose ([]) ≡ refused 2 1 0
+two-empty : reading Loose ([]) ≡ refused Refusal.Cut 1 0
 unfolding computed
 two-empty = refl
 
 -- EOF stands for itself only where a keyword is due
-two-eof : reading Loose (text "EOF") ≡ refused 2 1 0
+two-eof : reading Loose (text "EOF") ≡ refused Refusal.Cut 1 0
 unfolding computed
 two-eof = refl
 
 -- the record that is wanted is one more than the last, its offset the file's length
-two-end : reading Loose (text "MAPPA\nZ999_000100\n1000.000\n") ≡ refused 2 4 27
+two-end : reading Loose (text "MAPPA\nZ999_000100\n1000.000\n") ≡ refused Refusal.Cut 4 27
 unfolding computed
 two-end = refl
 
 -- exact mode demands the CR
-three : reading Exact (text "MAPPA\n") ≡ refused 3 1 0
+three : reading Exact (text "MAPPA\n") ≡ refused Refusal.LineEnd 1 0
 unfolding computed
 three = refl
 
 -- 256 bytes of content
-four : reading Loose (replicate 256 65 ++ 10 ∷ []) ≡ refused 4 1 0
+four : reading Loose (replicate 256 65 ++ 10 ∷ []) ≡ refused Refusal.Length 1 0
 unfolding computed
 four = refl
 
 -- another CR is a byte of the content
-five : reading Loose (text "MAPPA\r\r\n") ≡ refused 5 1 0
+five : reading Loose (text "MAPPA\r\r\n") ≡ refused Refusal.Byte 1 0
 unfolding computed
 five = refl
 
 -- two blanks in a first word
-six-first : reading Loose (text "MAPPA  FONDIARIO\n") ≡ refused 6 1 0
+six-first : reading Loose (text "MAPPA  FONDIARIO\n") ≡ refused Refusal.Header 1 0
 unfolding computed
 six-first = refl
 
 -- kind 3 without QU
-six-name : reading Loose (text "QUADRO D'UNIONE\nZ999_000100\n") ≡ refused 6 2 16
+six-name : reading Loose (text "QUADRO D'UNIONE\nZ999_000100\n") ≡ refused Refusal.Header 2 16
 unfolding computed
 six-name = refl
 
 -- the scale is not above 0
-six-scale : reading Loose (text "MAPPA\nZ999_000100\n-0.000\n") ≡ refused 6 3 18
+six-scale : reading Loose (text "MAPPA\nZ999_000100\n-0.000\n") ≡ refused Refusal.Header 3 18
 unfolding computed
 six-scale = refl
 
 -- RIFERIMENTO_RASTER takes no backslash
-pub seven : reading Loose (text "MAPPA\nZ999_000100\n1000.000\nRIFERIMENTO_RASTER\\\n") ≡ refused 7 4 27
+pub seven : reading Loose (text "MAPPA\nZ999_000100\n1000.000\nRIFERIMENTO_RASTER\\\n") ≡ refused Refusal.Keyword 4 27
 unfolding computed
 seven = refl
 
 -- BORDO takes no backslash
-seven-mark : reading Loose (text "MAPPA\nZ999_000100\n1000.000\nBORDO\\\n") ≡ refused 7 4 27
+seven-mark : reading Loose (text "MAPPA\nZ999_000100\n1000.000\nBORDO\\\n") ≡ refused Refusal.Keyword 4 27
 unfolding computed
 seven-mark = refl
 
 -- a malformed number
-eight : reading Loose (text "MAPPA\nZ999_000100\n1000.000\nSIMBOLO\n18x\n") ≡ refused 8 5 35
+eight : reading Loose (text "MAPPA\nZ999_000100\n1000.000\nSIMBOLO\n18x\n") ≡ refused Refusal.Number 5 35
 unfolding computed
 eight = refl
 
 -- letters of blanks
-nine : reading Loose (text "MAPPA\nZ999_000100\n1000.000\nTESTO\n  \n") ≡ refused 9 5 33
+nine : reading Loose (text "MAPPA\nZ999_000100\n1000.000\nTESTO\n  \n") ≡ refused Refusal.Letters 5 33
 unfolding computed
 nine = refl
 
 -- a blank at an end, in exact mode
-nine-exact : reading Exact (text "MAPPA\r\nZ999_000100\r\n    1000.000\r\nTESTO\r\n a\r\n") ≡ refused 9 5 41
+nine-exact : reading Exact (text "MAPPA\r\nZ999_000100\r\n    1000.000\r\nTESTO\r\n a\r\n") ≡ refused Refusal.Letters 5 41
 unfolding computed
 nine-exact = refl
 
 -- symbol 12 is not listed
-ten : reading Exact (text "MAPPA\r\nZ999_000100\r\n    1000.000\r\nSIMBOLO\r\n  12\r\n") ≡ refused 10 5 43
+ten : reading Exact (text "MAPPA\r\nZ999_000100\r\n    1000.000\r\nSIMBOLO\r\n  12\r\n") ≡ refused Refusal.Code 5 43
 unfolding computed
 ten = refl
 
 -- one island and seven vertices
-eleven : reading Loose (text "MAPPA\nZ999_000100\n1000.000\nBORDO\n7\n18\n0.000\n1.000\n1.000\n1.000\n1.000\n1\n7\n") ≡ refused 11 13 70
+eleven : reading Loose (text "MAPPA\nZ999_000100\n1000.000\nBORDO\n7\n18\n0.000\n1.000\n1.000\n1.000\n1.000\n1\n7\n") ≡ refused Refusal.Count 13 70
 unfolding computed
 eleven = refl
 
 -- vertices 8, one island: 5 leaves three for the outer ring
-eleven-island : reading Loose (text "MAPPA\nZ999_000100\n1000.000\nBORDO\n7\n18\n0.000\n1.000\n1.000\n1.000\n1.000\n1\n8\n5\n") ≡ refused 11 14 72
+eleven-island : reading Loose (text "MAPPA\nZ999_000100\n1000.000\nBORDO\n7\n18\n0.000\n1.000\n1.000\n1.000\n1.000\n1\n8\n5\n") ≡ refused Refusal.Count 14 72
 unfolding computed
 eleven-island = refl
 
 -- an open island, refused at the record of its last y
-twelve : reading Loose (text "MAPPA\nZ999_000100\n1000.000\nBORDO\n7\n18\n0.000\n1.000\n1.000\n1.000\n1.000\n1\n9\n4\n0.000\n0.000\n9.000\n0.000\n9.000\n9.000\n0.000\n9.000\n0.000\n0.000\n2.000\n2.000\n3.000\n2.000\n3.000\n3.000\n2.000\n4.000\nEOF\n") ≡ refused 12 32 176
+twelve : reading Loose (text "MAPPA\nZ999_000100\n1000.000\nBORDO\n7\n18\n0.000\n1.000\n1.000\n1.000\n1.000\n1\n9\n4\n0.000\n0.000\n9.000\n0.000\n9.000\n9.000\n0.000\n9.000\n0.000\n0.000\n2.000\n2.000\n3.000\n2.000\n3.000\n3.000\n2.000\n4.000\nEOF\n") ≡ refused Refusal.OpenRing 32 176
 unfolding computed
 twelve = refl
 
 -- in exact mode nothing follows the EOF record
-pub thirteen : reading Exact (text "MAPPA\r\nZ999_000100\r\n    1000.000\r\nEOF\r\nx") ≡ refused 13 5 39
+pub thirteen : reading Exact (text "MAPPA\r\nZ999_000100\r\n    1000.000\r\nEOF\r\nx") ≡ refused Refusal.AfterEof 5 39
 unfolding computed
 thirteen = refl
 
@@ -289,19 +296,19 @@ abbrev header : Header
 header = record { kind = 1; name = text "Z999_000100"; scale = pos 1000000 }
 
 -- LIBRETTO takes no backslash
-seven-libretto : reading Loose (text "MAPPA\nZ999_000100\n1000.000\nLIBRETTO\\\n") ≡ refused 7 4 27
+seven-libretto : reading Loose (text "MAPPA\nZ999_000100\n1000.000\nLIBRETTO\\\n") ≡ refused Refusal.Keyword 4 27
 unfolding computed
 seven-libretto = refl
 
 -- a blank at a keyword's end: dropped in loose mode, 7 in exact mode; behind the `\`, not before it
-seven-blank : (reading Exact (text "MAPPA\r\nZ999_000100\r\n    1000.000\r\nTESTO \r\n") ≡ refused 7 4 34)
-    × (reading Exact (text "MAPPA\r\nZ999_000100\r\n    1000.000\r\n EOF\r\n") ≡ refused 7 4 34)
-    × (reading Loose (text "MAPPA\nZ999_000100\n1000.000\nTESTO \\\n") ≡ refused 7 4 27)
+seven-blank : (reading Exact (text "MAPPA\r\nZ999_000100\r\n    1000.000\r\nTESTO \r\n") ≡ refused Refusal.Keyword 4 34)
+    × (reading Exact (text "MAPPA\r\nZ999_000100\r\n    1000.000\r\n EOF\r\n") ≡ refused Refusal.Keyword 4 34)
+    × (reading Loose (text "MAPPA\nZ999_000100\n1000.000\nTESTO \\\n") ≡ refused Refusal.Keyword 4 27)
 unfolding computed
 seven-blank = (refl, refl, refl)
 
 -- `EOF` without a line end where an x is due
-two-x : reading Loose (text "MAPPA\nZ999_000100\n1000.000\nLINEA\n6\n2\nEOF") ≡ refused 2 7 37
+two-x : reading Loose (text "MAPPA\nZ999_000100\n1000.000\nLINEA\n6\n2\nEOF") ≡ refused Refusal.Cut 7 37
 unfolding computed
 two-x = refl
 
@@ -347,18 +354,18 @@ unfolding computed symbol
 thirteen-listed = refl
 
 -- form comes before code and count
-eight-first : (reading Exact (text "MAPPA\r\nZ999_000100\r\n    1000.000\r\nSIMBOLO\r\n 012\r\n") ≡ refused 8 5 43)
-    × (reading Exact (text "MAPPA\r\nZ999_000100\r\n    1000.000\r\nLINEA\r\n   6\r\n1\r\n") ≡ refused 8 6 47)
+eight-first : (reading Exact (text "MAPPA\r\nZ999_000100\r\n    1000.000\r\nSIMBOLO\r\n 012\r\n") ≡ refused Refusal.Number 5 43)
+    × (reading Exact (text "MAPPA\r\nZ999_000100\r\n    1000.000\r\nLINEA\r\n   6\r\n1\r\n") ≡ refused Refusal.Number 6 47)
 unfolding computed
 eight-first = (refl, refl)
 
 -- a line of one vertex
-eleven-line : reading Loose (text "MAPPA\nZ999_000100\n1000.000\nLINEA\n6\n1\n") ≡ refused 11 6 35
+eleven-line : reading Loose (text "MAPPA\nZ999_000100\n1000.000\nLINEA\n6\n1\n") ≡ refused Refusal.Count 6 35
 unfolding computed
 eleven-line = refl
 
 -- an outer ring that is open in x alone, refused at the record of its last y, before its island
-twelve-outer : reading Loose (text "MAPPA\nZ999_000100\n1000.000\nBORDO\n7\n18\n0.000\n1.000\n1.000\n1.000\n1.000\n1\n8\n4\n0.000\n0.000\n9.000\n0.000\n9.000\n9.000\n1.000\n0.000\nx\n") ≡ refused 12 22 116
+twelve-outer : reading Loose (text "MAPPA\nZ999_000100\n1000.000\nBORDO\n7\n18\n0.000\n1.000\n1.000\n1.000\n1.000\n1\n8\n4\n0.000\n0.000\n9.000\n0.000\n9.000\n9.000\n1.000\n0.000\nx\n") ≡ refused Refusal.OpenRing 22 116
 unfolding computed
 twelve-outer = refl
 

@@ -1,15 +1,12 @@
 -- A file record by record: what each gives alone, and the refusal that comes first. Document 01, "Records", "Header and EOF", "Refusal numbers".
 -- Assumes nothing: these are definitions. No count goes down here; sheet/proofs/First ties `reading` to it both ways.
-use Rattle.std.specs.Prelude.{ℕ, ◌+◌, ◌≡◌, List, false, cond, length, take, drop, eqb, pos}
+use Rattle.std.specs.Prelude.{ℕ, ◌+◌, ◌≡◌, List, false, cond, length, take, drop, eqb, ℤ, pos, Option, Some, None, Result, Ok, Err}
 use Rattle.std.specs.Int.Signed.{lt_z}
 use Rattle.laws.specs.Lists.{run}
 use Rattle.record.specs.declared.Mode.{Mode}
 use Rattle.record.specs.declared.Line.{Line}
-use Rattle.record.specs.declared.Line.TheVariants.{Got, Bad}
+use Rattle.record.specs.declared.refusal.Refusal.{Refusal}
 use Rattle.record.specs.Record.{not_lf, line_of}
-use Rattle.record.specs.Refusals.{bad_header, malformed}
-use Rattle.number.specs.declared.Decimal.{Decimal}
-use Rattle.number.specs.declared.Decimal.TheVariants as Decimal
 use Rattle.number.specs.Number.{real_of}
 use Rattle.header.specs.Header.{kind_said, is_named}
 use Rattle.machine.specs.declared.State.{State}
@@ -26,33 +23,33 @@ pub data Stage : Type 0 where
   scale : Stage
   part : State → Tables → Stage
 
--- what a record gives: it is passed, and another is due; it is refused by a number; it is the EOF record
+-- what a record gives: it is passed, and another is due; it is refused; it is the EOF record
 pub data Given : Type 0 where
   passed : Stage → Given
-  fault : ℕ → Given
+  fault : Refusal → Given
   last : Tables → Given
 
 -- record 1 is one of the first words, record 2 a name, record 3 a real above 0: form (8) first, then 6
 abbrev pub word_is : Mode → List ℕ → Given
-word_is mode c = cond (eqb (kind_said mode c) 0) (fault bad_header) (passed (name (kind_said mode c)))
+word_is mode c = cond (eqb (kind_said mode c) 0) (fault Refusal.Header) (passed (name (kind_said mode c)))
 
 abbrev pub name_is : Mode → ℕ → List ℕ → Given
-name_is mode kind c = cond (is_named mode kind c) (passed scale) (fault bad_header)
+name_is mode kind c = cond (is_named mode kind c) (passed scale) (fault Refusal.Header)
 
-abbrev pub scale_is : Decimal → Given
-scale_is (Decimal.Is z) = cond (lt_z (pos 0) z) (passed (part Due empty)) (fault bad_header)
-scale_is Decimal.Malformed = fault malformed
+abbrev pub scale_is : Option ℤ → Given
+scale_is (Some z) = cond (lt_z (pos 0) z) (passed (part Due empty)) (fault Refusal.Header)
+scale_is None = fault Refusal.Number
 
 -- a record of the header, by its content
-abbrev pub of_head : (List ℕ → Given) → List ℕ → Line → Given
-of_head f bs (Got len width) = f (take len bs)
-of_head f bs (Bad m) = fault m
+abbrev pub of_head : (List ℕ → Given) → List ℕ → Result Line Refusal → Given
+of_head f bs (Ok l) = f (take l.len bs)
+of_head f bs (Err m) = fault m
 
 -- a record of the sections, by what the machine makes of it
-abbrev pub of_part : State → Tables → List ℕ → One → Given
-of_part st o bs (One.Go st' t len width) = passed (part st' (put st t (take len bs) o))
-of_part st o bs (One.No m) = fault m
-of_part st o bs (One.End width) = last o
+abbrev pub of_part : State → Tables → List ℕ → Result One Refusal → Given
+of_part st o bs (Ok (One.Go st' t len width)) = passed (part st' (put st t (take len bs) o))
+of_part st o bs (Ok (One.End width)) = last o
+of_part st o bs (Err m) = fault m
 
 -- what the record at the front of the bytes gives
 unfoldable pub given_by : Mode → Stage → List ℕ → Given
@@ -72,7 +69,7 @@ past_front bs = drop (length (front_of bs)) bs
 -- the records one after the other, where record k begins at `a` and `w` is due, answer s: the first that is refused alone is the refusal,
 -- and its place is its own; those before it are passed alone; what follows the EOF record decides there (13)
 pub data Answers (mode : Mode) : Stage → ℕ → ℕ → List ℕ → Sections → Type 0 where
-  refuses : {w : Stage} {k a m : ℕ} {bs : List ℕ} → given_by mode w (front_of bs) ≡ fault m → Answers mode w k a bs (stop m k a)
+  refuses : {w : Stage} {k a : ℕ} {m : Refusal} {bs : List ℕ} → given_by mode w (front_of bs) ≡ fault m → Answers mode w k a bs (stop m k a)
   passes : {w w' : Stage} {k a : ℕ} {bs : List ℕ} {s : Sections} → given_by mode w (front_of bs) ≡ passed w'
       → Answers mode w' (k + 1) (a + length (front_of bs)) (past_front bs) s → Answers mode w k a bs s
   finishes : {w : Stage} {k a : ℕ} {bs : List ℕ} {o : Tables} → given_by mode w (front_of bs) ≡ last o

@@ -1,8 +1,8 @@
 -- Notes behind numbers, which loose mode no longer takes: document 02, T-09. Assumes nothing: these are definitions.
-use Rattle.std.specs.Prelude.{ℕ, ◌+◌, ◌≡◌, List, [], Bool, true, false, length, take}
+use Rattle.std.specs.Prelude.{ℕ, ◌+◌, ◌≡◌, List, [], Bool, true, false, length, take, Ok}
 use Rattle.record.specs.declared.Mode.TheVariants.{Loose}
-use Rattle.record.specs.declared.Line.TheVariants.{Got}
-use Rattle.record.specs.Refusals.{malformed}
+use Rattle.record.specs.declared.Line.{Line}
+use Rattle.record.specs.declared.refusal.Refusal.TheVariants as Refusal
 use Rattle.record.specs.Record.{line_of}
 use Rattle.number.specs.Number.{is_note, behind_real}
 use Rattle.token.specs.Lex.{behind_number}
@@ -25,10 +25,9 @@ behind_due (part st o) c = behind_number (want_of st) c
 
 -- the record at the front of the bytes has a note behind its number
 pub record HasNote (w : Stage) (bs : List ℕ) : Type 0 where
-  pub len : ℕ
-  pub width : ℕ
-  pub found : line_of Loose (keyword_due w) bs ≡ Got len width
-  pub note : is_note (behind_due w (take len bs)) ≡ true
+  pub line : Line
+  pub found : line_of Loose (keyword_due w) bs ≡ Ok line
+  pub note : is_note (behind_due w (take line.len bs)) ≡ true
 
 -- the records one after the other, where record k begins at `a` and `w` is due: record k', which begins at `a'`, is the first that has one
 pub data FirstNote : Stage → ℕ → ℕ → List ℕ → ℕ → ℕ → Type 0 where
@@ -41,4 +40,4 @@ pub record Retired (bs : List ℕ) : Type 0 where
   pub nth : ℕ
   pub offset : ℕ
   pub first : FirstNote word 1 0 bs nth offset
-  pub answer : reading Loose bs ≡ refused malformed nth offset
+  pub answer : reading Loose bs ≡ refused Refusal.Number nth offset

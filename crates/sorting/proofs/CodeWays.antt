@@ -1,67 +1,15 @@
--- The ways through the functions that compare and exchange two lines. Assumes nothing.
-use Prim.Native.Nat.{ℕ, ◌+◌, ◌-◌, ◌*◌, ◌≤◌, ◌<◌}
-use mathlib.Core.Path.{◌≡◌, refl, ap, ◌∙◌}
+-- The way through the function that exchanges two lines. Assumes nothing.
+use Prim.Native.Nat.{ℕ, ◌+◌, ◌*◌}
+use mathlib.Core.Path.{◌≡◌, ap, ◌∙◌}
 use mathlib.Core.List.{List}
-use mathlib.Core.Bool.{true, false}
 use native.Mathlib.Omega.{arith}
-use lib.ListN.{length, get_or, take, drop, set, length-set}
-use lib.Seq.{get_or-take, get_or-drop}
+use lib.ListN.{length}
 use Rattle.laws.specs.Lists.{pasted}
-use Rattle.laws.proofs.ListLaws.{copy_step, copy_done}
 use Rattle.spelling.specs.Stored.{Stored, has_room}
 use borrow.Author.Tests.{le-leb}
-use Rattle.order.specs.declared.Comes.{Comes}
-use Rattle.order.specs.declared.Comes.TheVariants.{Before, Same, After}
-use Rattle.order.specs.Compare.{by_bytes}
-use Rattle.sorting.specs.Lines.{line_at, bytes_before}
+use Rattle.sorting.specs.Lines.{line_at}
 use Rattle.sorting.specs.Exchanges.{Inside, exchanged}
 use Rattle.sorting.proofs.LineLaws.{line-length, stored-length}
-
--- ---- two lines compared, as parts of the table
-
-module _ (s : List ℕ) (i j : ℕ) (x : Comes) (e : x ≡ by_bytes (take (23 * i + 23 - 23 * i) (drop (23 * i) s)) (take (23 * j + 23 - 23 * j) (drop (23 * j) s))) where
-  compared : x ≡ by_bytes (line_at s i) (line_at s j)
-  compared =
-      let a : 23 * i + 23 - 23 * i ≡ 23 = omega arith in
-      let b : 23 * j + 23 - 23 * j ≡ 23 = omega arith in
-      rw (a, b) at e
-
-  pub line_before : x ≡ Before → true ≡ bytes_before (line_at s i) (line_at s j)
-  line_before f = rw (← compared, f)
-
-  pub line_same : x ≡ Same → false ≡ bytes_before (line_at s i) (line_at s j)
-  line_same f = rw (← compared, f)
-
-  pub line_after : x ≡ After → false ≡ bytes_before (line_at s i) (line_at s j)
-  line_after f = rw (← compared, f)
-
-pub ruleset line-ways = (line_before, line_same, line_after)
-
--- ---- a line copied, k bytes of it so far
-
-pub record Copied (s : List ℕ) (i : ℕ) (d : List ℕ) (k : ℕ) : Type 0 where
-  pub inside : Inside s i
-  pub upto : k ≤ 23
-  pub size : length d ≡ 23
-  pub same : take k d ≡ take k (line_at s i)
-
-pub copied-start : (s : List ℕ) (i : ℕ) (d : List ℕ) → Inside s i → length d ≡ 23 → Copied s i d 0
-copied-start s i d h n = record { inside = h; upto = omega arith; size = n; same = refl }
-
-module _ {s : List ℕ} {i : ℕ} {d : List ℕ} {k : ℕ} (g : Copied s i d k) where
-  pub copied_on : k < 23 → Copied s i (set d k (get_or s (23 * i + k) 0)) (k + 1)
-  copied_on h =
-      let n = line-length s i g.inside in
-      let b : get_or (line_at s i) k 0 ≡ get_or s (23 * i + k) 0 = get_or-take 23 (drop (23 * i) s) k 0 h ∙ get_or-drop (23 * i) s k 0 in
-      record {
-        inside = g.inside;
-        upto = omega arith;
-        size = length-set d k (get_or s (23 * i + k) 0) ∙ g.size;
-        same = rw (← b) (copy_step (line_at s i) d k g.same 0 (omega (arith, g.size)) (omega (arith, n)));
-      }
-
-  pub copied-end : 23 ≤ k → d ≡ line_at s i
-  copied-end h = copy_done (line_at s i) d k g.same (omega (arith, g.size)) (omega (arith, line-length s i g.inside))
 
 -- ---- two lines stored
 

@@ -7,8 +7,8 @@ use native.Mathlib.Omega.{arith}
 use native.Mathlib.Nat.{mul-div-le, lt-mul-div-succ, zero-add}
 use lib.ListN.{length, take, drop, take-append-drop}
 use lib.Seq.{length-take-le}
-use Rattle.order.specs.declared.Comes.{Comes}
-use Rattle.order.specs.declared.Comes.TheVariants.{Before, Same, After}
+use Rattle.std.specs.declared.cmp.Ordering.{Ordering}
+use Rattle.std.specs.declared.cmp.Ordering.TheVariants.{Less, Equal, Greater}
 use Rattle.order.specs.Compare.{is_before, by_bytes}
 use Rattle.order.specs.Sorting.{sort_by, EachOf}
 use Rattle.order.proofs.SortLaws.{each-sort, length-sort}
@@ -22,10 +22,10 @@ use Rattle.sorting.proofs.LineLaws.{lines-length, lines-exchanged, lines-sorted,
 bytes-alike : (a b : List ℕ) → bytes_before a b ≡ false → bytes_before b a ≡ false → a ≡ b
 bytes-alike a b e d = go (by_bytes a b) refl
   where
-    go : (x : Comes) → by_bytes a b ≡ x → a ≡ b
-    go Before q = absurd (false≢true (sym e ∙ ap is_before q))
-    go Same q = bytes_eq a b q
-    go After q = absurd (false≢true (sym d ∙ ap is_before (bytes-total.turn a b ∙ ap turned q)))
+    go : (x : Ordering) → by_bytes a b ≡ x → a ≡ b
+    go Less q = absurd (false≢true (sym e ∙ ap is_before q))
+    go Equal q = bytes_eq a b q
+    go Greater q = absurd (false≢true (sym d ∙ ap is_before (bytes-total.turn a b ∙ ap turned q)))
 
 pub bytes-strict : Strict bytes_before
 bytes-strict = record { through = not_through by_bytes bytes-total; turn = not-both by_bytes bytes-total; alike = bytes-alike }

@@ -1,7 +1,7 @@
 -- Lines of 23 bytes that stand one behind the other, put in the order of their bytes: document 02, T-01. Assumes nothing: these are definitions.
 use Rattle.std.specs.Prelude.{ℕ, zero, suc, ◌*◌, ◌/◌, ◌≡◌, refl, List, [], ◌∷◌, ◌++◌, Bool, length, take, drop, replicate}
 use Rattle.laws.specs.Lists.{over}
-use Rattle.order.specs.Compare.{is_before, by_number, by_bytes}
+use Rattle.order.specs.Compare.{is_before, by_bytes}
 use Rattle.order.specs.Sorting.{insert, sort_into, sort_by}
 
 -- a line of a SUP file
@@ -34,5 +34,5 @@ sorted_lines s = over (joined (sort_by bytes_before (lines_in (length s / line_w
 -- three lines that differ in their last byte, and two bytes behind them
 three-lines : sorted_lines (replicate 22 7 ++ (3 ∷ replicate 22 7) ++ (1 ∷ replicate 22 7) ++ (2 ∷ 9 ∷ 8 ∷ []))
     ≡ replicate 22 7 ++ (1 ∷ replicate 22 7) ++ (2 ∷ replicate 22 7) ++ (3 ∷ 9 ∷ 8 ∷ [])
-unfolding sorted_lines joined lines_in sort_into insert by_bytes by_number
+unfolding sorted_lines joined lines_in sort_into insert
 three-lines = refl

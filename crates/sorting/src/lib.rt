@@ -7,39 +7,34 @@ ghost use Rattle.std.specs.Prelude.{◌≡◌, ◌+◌, ◌*◌, ◌≤◌, leng
 ghost use Rattle.sorting.specs.Lines.{line_width, line_at, bytes_before, sorted_lines};
 ghost use Rattle.sorting.specs.Exchanges.{Inside, exchanged, Exchanges, InOrder};
 
-use order::Comes;
 use order::comparing::compare_bytes;
 use spelling::put_bytes;
 
 const LINE_WIDTH: usize = 23;
+
+fn line_of(s: &[u8], i: usize) -> &[u8]
+    requires { Inside s.now i }
+    ensures { result.now ≡ line_at s.now i }
+{
+    let at = LINE_WIDTH * i;
+    &s[at..at + LINE_WIDTH]
+}
 
 // Line i comes before line j.
 fn is_before(s: &[u8], i: usize, j: usize) -> bool
     requires { Inside s.now i × Inside s.now j }
     ensures { result ≡ bytes_before (line_at s.now i) (line_at s.now j) }
 {
-    let a = LINE_WIDTH * i;
-    let b = LINE_WIDTH * j;
-    let a_end = a + LINE_WIDTH;
-    let b_end = b + LINE_WIDTH;
-    match compare_bytes(&s[a..a_end], &s[b..b_end]) {
-        Comes::Before => true,
-        Comes::Same => false,
-        Comes::After => false,
-    }
+    compare_bytes(line_of(s, i), line_of(s, j)).is_lt()
 }
 
+// A copy, since the line is stored over.
 fn line_at(s: &[u8], i: usize) -> [u8; 23]
     requires { Inside s.now i }
     ensures { result ≡ line_at s.now i }
 {
-    let at = LINE_WIDTH * i;
     let mut line = [0u8; 23];
-    let mut k = 0;
-    while k < LINE_WIDTH {
-        line[k] = s[at + k];
-        k += 1;
-    }
+    line.copy_from_slice(line_of(s, i));
     line
 }
 
@@ -76,10 +71,8 @@ fn pass(s: &mut [u8], n: usize, gap: usize)
     ensures exchanges { Exchanges s.old s.new }
     ensures in_order { gap ≡ 1 → InOrder n s.new }
 {
-    let mut i = gap;
-    while i < n {
+    for i in gap..n {
         sink(s, gap, i);
-        i += 1;
     }
 }
 

@@ -11,7 +11,7 @@ use lib.Dec.{leb}
 use lib.IntN.{ℤ, pos, nat_abs}
 use lib.Signed.{lt_z}
 use mir.Syntax.{w64}
-use mir.Val.{SFits, to_z, of_z}
+use mir.Val.{bool_byte, SFits, to_z, of_z}
 use borrow.Author.Tests.{le-leb, leb-true, leb-false}
 use Rattle.laws.specs.Lists.{over, pasted}
 use Rattle.laws.proofs.TableLaws.{pasted-none, pasted-front}
@@ -20,7 +20,7 @@ use Rattle.spelling.specs.Stored.{has_room, Stored}
 use Rattle.spelling.specs.Spelling.{digits, places, minus, decimal, bare_real, real_text}
 use Rattle.spelling.proofs.DigitLaws.{digits-some, digits-most, digits-least, digits-wider, digits-below, digits-alike}
 use Rattle.spelling.proofs.SpellingLaws.{decimal-length, body-length}
-use Rattle.spelling.proofs.Ways.{back, abs-most, sign-long, sign-short, hundredth, stored-tight, blanks, aligned-over}
+use Rattle.spelling.proofs.Ways.{back, abs-most, hundredth, stored-tight, blanks, aligned-over}
 
 -- ---- how many digits
 
@@ -40,16 +40,11 @@ one_further w n = go (leb (10 ^ suc w) n) refl
         )
     go false e = omega (arith, ap length (digits-wider (suc w) (suc (suc w)) n (omega arith) (omega arith) (omega (arith, leb-false (10 ^ suc w) n e))))
 
-pub reach-most : (k n : ℕ) {r : ℕ} → r ≡ cond (leb k n) 1 0 → r ≤ 1
-reach-most k n e = rw e (go (leb k n))
-  where
-    go : (t : Bool) → cond t 1 0 ≤ 1
-    go true = omega arith
-    go false = omega arith
-
-pub digits_sum : (n : ℕ) {a b c d e f g : ℕ} → a ≡ cond (leb 10 n) 1 0 → b ≡ cond (leb 100 n) 1 0 → c ≡ cond (leb 1000 n) 1 0 → d ≡ cond (leb 10000 n) 1 0
-    → e ≡ cond (leb 100000 n) 1 0 → f ≡ cond (leb 1000000 n) 1 0 → g ≡ cond (leb 10000000 n) 1 0 → 1 + a + b + c + d + e + f + g ≡ length (digits 8 n)
-digits_sum n p q r s t u v =
+pub digits_sum : (n : ℕ)
+    → length (digits 8 n)
+    ≡ 1 + cond (leb 10 n) 1 0 + cond (leb 100 n) 1 0 + cond (leb 1000 n) 1 0 + cond (leb 10000 n) 1 0 + cond (leb 100000 n) 1 0 + cond (leb 1000000 n) 1 0
+    + cond (leb 10000000 n) 1 0
+digits_sum n =
     let i : length (digits 2 n) ≡ length (digits 1 n) + cond (leb 10 n) 1 0 = one_further 0 n in
     let j : length (digits 3 n) ≡ length (digits 2 n) + cond (leb 100 n) 1 0 = one_further 1 n in
     let k : length (digits 4 n) ≡ length (digits 3 n) + cond (leb 1000 n) 1 0 = one_further 2 n in
@@ -57,7 +52,13 @@ digits_sum n p q r s t u v =
     let m : length (digits 6 n) ≡ length (digits 5 n) + cond (leb 100000 n) 1 0 = one_further 4 n in
     let o : length (digits 7 n) ≡ length (digits 6 n) + cond (leb 1000000 n) 1 0 = one_further 5 n in
     let w : length (digits 8 n) ≡ length (digits 7 n) + cond (leb 10000000 n) 1 0 = one_further 6 n in
-    omega (arith, p, q, r, s, t, u, v, i, j, k, l, m, o, w, digits-some 1 n (omega arith), digits-most 1 n)
+    omega (arith, i, j, k, l, m, o, w, digits-some 1 n (omega arith), digits-most 1 n)
+
+pub bool_is : (b : Bool) → bool_byte b ≡ cond b 1 0
+bool_is true = refl
+bool_is false = refl
+
+pub ruleset count_ways = (digits_sum, bool_is)
 
 -- ---- its size
 
@@ -78,12 +79,6 @@ unfolding bare_real
 bare-most z h = body-length z h
 
 module _ (z : ℤ) (f : SFits w64 z) where
-  pub sign-one : lt_z (to_z w64 (of_z w64 z)) (pos 0) ≡ true → 1 ≡ length (minus z)
-  sign-one e = rw (sign-long z f e)
-
-  pub sign_zero : lt_z (to_z w64 (of_z w64 z)) (pos 0) ≡ false → 0 ≡ length (minus z)
-  sign_zero e = rw (sign-short z f e)
-
   module _ (r : Bool) (e : r ≡ is_real (to_z w64 (of_z w64 z))) where
     pub is-in : r ≡ true → is_real z ≡ true
     is-in t = ap is_real (sym (back z f)) ∙ sym e ∙ t
@@ -91,12 +86,7 @@ module _ (z : ℤ) (f : SFits w64 z) where
     pub is-out : r ≡ false → is_real z ≡ false
     is-out t = ap is_real (sym (back z f)) ∙ sym e ∙ t
 
-    pub size-bare : r ≡ true → (a m b : ℕ) → a ≡ length (minus (to_z w64 (of_z w64 z))) → m ≡ nat_abs (to_z w64 (of_z w64 z)) → b ≡ length (digits 8 (m / 1000))
-        → a + b + 4 ≡ cond (is_real z) (length (bare_real z)) 0
-    size-bare t a m b p q o = rw (is-in t) (rw (o, p, q, back z f) (sym (bare-length z)))
-
-    pub size_none : r ≡ false → 0 ≡ cond (is_real z) (length (bare_real z)) 0
-    size_none t = rw (is-out t)
+pub ruleset size_ways = (bare-length, digits-most, minus-most)
 
 -- ---- point and places
 
@@ -114,6 +104,8 @@ places-put l at m a b c h k p q r =
     let j : at + 2 ≡ suc (suc at) = omega arith in
     let o : at + 3 ≡ suc (suc (suc at)) = omega arith in
     rw (i, j, o) (sets-eq (46 ∷ a ∷ b ∷ c ∷ []) l at (omega arith) ∙ rw (x, y, z))
+
+pub ruleset places_ways = (places-put)
 
 -- ---- the three parts
 

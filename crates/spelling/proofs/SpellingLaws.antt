@@ -10,13 +10,12 @@ use lib.Seq.{take_all, take-length, drop-length, drop_at, take_at, split_at, len
 use lib.Dec.{leb, eqb}
 use lib.IntN.{ℤ, pos, negsuc, nat_abs}
 use borrow.Author.Tests.{le-ltb, le-leb, leb-true, ne_eqb, eq-eqb, eqb-true, eqb-false, not-true}
+use Rattle.std.specs.Prelude.{Some, None}
 use Rattle.laws.specs.Lists.{run, all}
 use Rattle.laws.proofs.Choice.{and_left, and_right, and_both, false≢true, cond-first}
 use Rattle.laws.proofs.ListLaws.{run-le, run_past, run_none, run-whole, all-run, all-each, all_whole, all-weaken, all_alike, all_append, alike}
 use Rattle.record.specs.declared.Mode.TheVariants.{Exact}
 use Rattle.record.specs.Record.{plain}
-use Rattle.number.specs.declared.Whole.TheVariants as Whole
-use Rattle.number.specs.declared.Decimal.TheVariants as Decimal
 use Rattle.number.specs.Words.{blank, unled}
 use Rattle.number.specs.Number.{digit, value, ended, lean, integer_is, integer_at, integer_of, sign_of, signs, signed, thousandths, is_token, is_neat, real_is, real_at, real_signed, real_of, is_real}
 use Rattle.spelling.specs.Spelling.{integer_most, digits, places, aligned, integer_text, minus, decimal, bare_real, real_text}
@@ -58,7 +57,7 @@ no-blank s e = run_none blank s (ne_eqb (get_or s 0 0) 32 (λ q. omega (arith, d
 
 -- lean digits, aligned, are read as their value
 integer-reads : (s : List ℕ) → all digit s ≡ true → lean s (length s) ≡ true → 1 ≤ length s → length s ≤ 4
-    → integer_of Exact (aligned 4 s) ≡ Whole.Is (value 0 s)
+    → integer_of Exact (aligned 4 s) ≡ Some (value 0 s)
 unfolding integer_of integer_at integer_is ended all
 integer-reads s e l h k =
     rw (
@@ -74,11 +73,11 @@ integer-reads s e l h k =
     )
 
 -- exact mode reads a spelt integer as itself
-pub integer-spelt : (v : ℕ) → v ≤ integer_most → integer_of Exact (integer_text v) ≡ Whole.Is v
+pub integer-spelt : (v : ℕ) → v ≤ integer_most → integer_of Exact (integer_text v) ≡ Some v
 unfolding integer_text
 integer-spelt v h =
     integer-reads (digits 4 v) (digits-all 4 v) (digits-lean 4 v (omega arith)) (digits-some 4 v (omega arith)) (digits-most 4 v)
-    ∙ ap Whole.Is (digits_value 4 v (omega arith))
+    ∙ ap Some (digits_value 4 v (omega arith))
 
 -- what exact mode has of an integer's content: `t` after the blanks, n digits in front of it
 record Taken (size : ℕ) (t : List ℕ) (n v : ℕ) : Type 0 where
@@ -89,18 +88,18 @@ record Taken (size : ℕ) (t : List ℕ) (n v : ℕ) : Type 0 where
   neat : lean t n ≡ true
   is : value 0 (take n t) ≡ v
 
-integer-taken : (size : ℕ) (t : List ℕ) (n v : ℕ) → integer_is Exact size t n ≡ Whole.Is v → Taken size t n v
+integer-taken : (size : ℕ) (t : List ℕ) (n v : ℕ) → integer_is Exact size t n ≡ Some v → Taken size t n v
 unfolding integer_is
 integer-taken size t n v q =
-    let refused : Whole.Malformed ≡ Whole.Is v → ⊥ = λ x. let i : ◌≡◌ {A = ℕ} 0 1 = cc in omega arith in
+    let refused : None ≡ Some v → ⊥ = λ x. let i : ◌≡◌ {A = ℕ} 0 1 = cc in omega arith in
     let row = leb 1 n && leb n 4 && ended Exact (drop n t) in
     let more = eqb size 4 && eqb (length t) n in
-    let r = cond-first (row && (more && lean t n)) (Whole.Is (value 0 (take n t))) Whole.Malformed (Whole.Is v) refused q in
+    let r = cond-first (row && (more && lean t n)) (Some (value 0 (take n t))) None (Some v) refused q in
     let a = and_left row (more && lean t n) r.0 in
     let b = and_right row (more && lean t n) r.0 in
     let c = and_left (leb 1 n && leb n 4) (ended Exact (drop n t)) a in
     let d = and_left more (lean t n) b in
-    let e : Whole.Is (value 0 (take n t)) ≡ Whole.Is v = r.1 in
+    let e : Some (value 0 (take n t)) ≡ Some v = r.1 in
     record {
       some = leb-true 1 n (and_left (leb 1 n) (leb n 4) c);
       few = leb-true n 4 (and_right (leb 1 n) (leb n 4) c);
@@ -111,7 +110,7 @@ integer-taken size t n v q =
     }
 
 -- exact mode takes nothing else for it
-pub integer-only : (c : List ℕ) (v : ℕ) → integer_of Exact c ≡ Whole.Is v → c ≡ integer_text v
+pub integer-only : (c : List ℕ) (v : ℕ) → integer_of Exact c ≡ Some v → c ≡ integer_text v
 unfolding integer_of integer_at integer_text
 integer-only c v q =
     let t = unled c in
@@ -188,7 +187,7 @@ module _ (sign : ℕ) (d p : List ℕ) (digits_in : all digit d ≡ true) (neat 
         neat,
       )
 
-  token-reads : real_at Exact 12 sign (token d p) ≡ Decimal.Is (signed sign (value 0 d * 1000 + value 0 p))
+  token-reads : real_at Exact 12 sign (token d p) ≡ Some (signed sign (value 0 d * 1000 + value 0 p))
   unfolding real_at real_is
   token-reads = rw (token-run d p digits_in, token-is, token-ends, token-neat, token-value d p three)
 
@@ -198,7 +197,7 @@ module _ (m : ℕ) where
   whole_part h = omega (arith, digits_value 8 (m / 1000) (omega arith), places-value 3 (m % 1000) (omega arith))
 
   decimal-reads : (sign : ℕ) → m < 100000000000 → signs sign + length (digits 8 (m / 1000)) ≤ 8 → (sign ≡ 43 → ⊥) → (sign ≡ 45 → m ≡ 0 → ⊥)
-      → real_at Exact 12 sign (decimal m) ≡ Decimal.Is (signed sign m)
+      → real_at Exact 12 sign (decimal m) ≡ Some (signed sign m)
   unfolding decimal
   decimal-reads sign h k plus nought =
       let d = digits 8 (m / 1000) in
@@ -245,7 +244,7 @@ body-length (pos a) h = rw (minus-none a) (omega (arith, decimal-length a, digit
 body-length (negsuc a) h = omega (arith, decimal-length (suc a), seven a h)
 
 -- the body of a real's text, after its blanks
-body_reads : (z : ℤ) → is_real z ≡ true → real_signed Exact 12 (minus z ++ decimal (nat_abs z)) ≡ Decimal.Is z
+body_reads : (z : ℤ) → is_real z ≡ true → real_signed Exact 12 (minus z ++ decimal (nat_abs z)) ≡ Some z
 unfolding real_signed minus signs signed sign_of
 body_reads (pos a) h =
     rw (minus-none a, no_sign (decimal a) (decimal-first a))
@@ -259,7 +258,7 @@ body-blanks (pos a) = rw (minus-none a) (no-blank (decimal a) (decimal-first a))
 body-blanks (negsuc a) = run_none blank (45 ∷ decimal (suc a)) refl
 
 -- exact mode reads a spelt real as itself
-pub real-spelt : (z : ℤ) → is_real z ≡ true → real_of Exact (real_text z) ≡ Decimal.Is z
+pub real-spelt : (z : ℤ) → is_real z ≡ true → real_of Exact (real_text z) ≡ Some z
 unfolding real_of real_text bare_real
 real-spelt z h =
     let s = minus z ++ decimal (nat_abs z) in
@@ -278,10 +277,10 @@ record Read (size sign : ℕ) (u : List ℕ) (n : ℕ) (z : ℤ) : Type 0 where
   neat : lean u n ≡ true
   is : signed sign (thousandths u n) ≡ z
 
-real_read : (size sign : ℕ) (u : List ℕ) (n : ℕ) (z : ℤ) → real_is Exact size sign u n ≡ Decimal.Is z → Read size sign u n z
+real_read : (size sign : ℕ) (u : List ℕ) (n : ℕ) (z : ℤ) → real_is Exact size sign u n ≡ Some z → Read size sign u n z
 unfolding real_is is_token is_neat
 real_read size sign u n z q =
-    let refused : Decimal.Malformed ≡ Decimal.Is z → ⊥ = λ x. let i : ◌≡◌ {A = ℕ} 0 1 = cc in omega arith in
+    let refused : None ≡ Some z → ⊥ = λ x. let i : ◌≡◌ {A = ℕ} 0 1 = cc in omega arith in
     let front = leb 1 n && leb n 8 in
     let point = eqb (get_or u n 0) 46 in
     let three = eqb (run digit (drop (n + 1) u)) 3 in
@@ -293,7 +292,7 @@ real_read size sign u n z q =
     let nought = not (eqb sign 45 && eqb (thousandths u n) 0) in
     let whole = front && point && three && width in
     let rest = size_is && full && plus && nought && lean u n in
-    let r = cond-first (whole && end && rest) (Decimal.Is (signed sign (thousandths u n))) Decimal.Malformed (Decimal.Is z) refused q in
+    let r = cond-first (whole && end && rest) (Some (signed sign (thousandths u n))) None (Some z) refused q in
     let a = and_left (front && point && three) width (and_left whole end (and_left (whole && end) rest r.0)) in
     let b = and_left (front && point) three a in
     let c = and_left front point b in
@@ -301,7 +300,7 @@ real_read size sign u n z q =
     let e = and_left (size_is && full && plus && nought) (lean u n) d in
     let f = and_left (size_is && full && plus) nought e in
     let g = and_left (size_is && full) plus f in
-    let w : Decimal.Is (signed sign (thousandths u n)) ≡ Decimal.Is z = r.1 in
+    let w : Some (signed sign (thousandths u n)) ≡ Some z = r.1 in
     record {
       some = leb-true 1 n (and_left (leb 1 n) (leb n 8) c);
       few = leb-true n 8 (and_right (leb 1 n) (leb n 8) c);
@@ -368,7 +367,7 @@ sign_read m (b ∷ t) f g = go (eqb b 43) refl (eqb b 45) refl f g
     go false e false h f g = sign-none m (b ∷ t)
 
 -- exact mode takes nothing else for it
-pub real-only : (c : List ℕ) (z : ℤ) → real_of Exact c ≡ Decimal.Is z → c ≡ real_text z
+pub real-only : (c : List ℕ) (z : ℤ) → real_of Exact c ≡ Some z → c ≡ real_text z
 unfolding real_of real_signed real_at real_text bare_real
 real-only c z q =
     let t = unled c in

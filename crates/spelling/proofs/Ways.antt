@@ -1,21 +1,20 @@
 -- The ways through the code: the loop that places digits, and a lemma for each answer. Assumes nothing.
-use Prim.Native.Nat.{ℕ, zero, suc, ◌+◌, ◌-◌, ◌*◌, ◌/◌, ◌%◌, ◌^◌, ◌≤◌, ◌<◌, zero-le}
+use Prim.Native.Nat.{ℕ, zero, suc, ◌+◌, ◌-◌, ◌*◌, ◌/◌, ◌%◌, ◌^◌, ◌≤◌, ◌<◌}
 use mathlib.Core.Path.{◌≡◌, refl, sym, ◌∙◌, ap}
 use mathlib.Core.List.{List, [], ◌∷◌, ◌++◌, append_assoc, append-nil}
 use mathlib.Core.Bool.{Bool, true, false, ◌&&◌}
 use native.Mathlib.Omega.{arith}
-use lib.ListN.{length, get_or, take, drop, set, replicate, length-append, length-replicate, replicate-append-replicate}
-use lib.Seq.{take_at, take-append-le, drop-append-add, drop-drop, length-take-le}
-use lib.Dec.{T, leb}
-use lib.IntN.{ℤ, pos, negsuc, neg_ℤ, nat_abs, ◌-ℤ◌, +ℤ_idl}
-use lib.Signed.{lt_z, le_z, non_neg}
+use lib.ListN.{length, take, drop, set, replicate, length-append, length-replicate, replicate-append-replicate}
+use lib.Seq.{take_at, take-append-le, drop-append-add, drop-drop}
+use lib.Dec.{leb}
+use lib.IntN.{ℤ, pos, negsuc, neg_ℤ, nat_abs}
+use lib.Signed.{lt_z, le_z}
 use mir.Syntax.{w64}
 use mir.Val.{SFits, Fits, to_z, of_z}
 use mir.ValLaws.{to_z-of_z}
-use borrow.Author.Tests.{lt-leb, le-leb, ltb-true, ltb-false, leb-true, leb-false}
+use borrow.Author.Tests.{lt-leb, le-leb, leb-true}
 use Rattle.laws.specs.Lists.{tail, over, pasted}
-use Rattle.laws.proofs.Choice.{false≢true}
-use Rattle.laws.proofs.TableLaws.{pasted-none, pasted-front, pasted-before, pasted-one, pasted-part, length-pasted, length_over, over-next, over-whole}
+use Rattle.laws.proofs.TableLaws.{pasted-none, pasted-front, pasted-before, pasted-one, pasted-part, length-pasted, length_over}
 use Rattle.number.specs.Number.{is_real}
 use Rattle.spelling.specs.Stored.{has_room, Stored}
 use Rattle.spelling.specs.Spelling.{digits, count_text, aligned, integer_text, minus}
@@ -86,9 +85,6 @@ module _ (l : List ℕ) (end n : ℕ) (text : List ℕ) (at rest : ℕ) (p : Pla
     pub two-room : 2 ≤ at
     two-room = omega (arith, one_less.room)
 
-    pub two_at : at - 2 < length (set text (at - 1) v)
-    two_at = omega (arith, placing-at l end n (set text (at - 1) v) (at - 1) (rest / 10) one_less, two-room)
-
     two-less : at - 1 - 1 ≡ at - 2
     two-less = omega (arith, two-room)
 
@@ -111,6 +107,8 @@ module _ (l : List ℕ) (end n : ℕ) (text : List ℕ) (at rest : ℕ) (p : Pla
 
   pub placing-size : length text ≡ length l
   placing-size = placing-length l end n text at rest p
+
+pub ruleset placing_ways = (placing-start, placing-end, placing-both, placing-two, placing-lead, placing-size)
 
 -- ---- point and places
 
@@ -148,68 +146,13 @@ module _ (z : ℤ) (f : SFits w64 z) where
     pub sign-left : lt_z (to_z w64 (of_z w64 z)) (pos 0) ≡ false → text ≡ pasted text (at - length (minus z)) (minus z)
     sign-left e = rw (sign-short e) (pasted-none text (at - 0))
 
--- ---- the range
-
-range-low : (z : ℤ) → lt_z z (negsuc 9999999998) ≡ true → is_real z ≡ false
-unfolding is_real
-range-low (pos a) e = absurd (false≢true e)
-range-low (negsuc a) e = rw (lt-leb a 9999999998 (ltb-true 9999999998 a e))
-
-range-high : (z : ℤ) → lt_z (pos 99999999999) z ≡ true → is_real z ≡ false
-unfolding is_real
-range-high (pos a) e = rw (lt-leb a 99999999999 (ltb-true 99999999999 a e))
-range-high (negsuc a) e = absurd (false≢true e)
-
-range-in : (z : ℤ) → lt_z z (negsuc 9999999998) ≡ false → lt_z (pos 99999999999) z ≡ false → is_real z ≡ true
-unfolding is_real
-range-in (pos a) e f = le-leb a 99999999999 (ltb-false 99999999999 a f)
-range-in (negsuc a) e f = rw (le-leb a 9999999998 (ltb-false 9999999998 a e))
-
-module _ (z : ℤ) (f : SFits w64 z) where
-  pub real-low : lt_z (to_z w64 (of_z w64 z)) (negsuc 9999999998) ≡ true → false ≡ is_real z
-  real-low e = sym (range-low z (rw (back z f) at e))
-
-  pub real-high : lt_z (pos 99999999999) (to_z w64 (of_z w64 z)) ≡ true → false ≡ is_real z
-  real-high e = sym (range-high z (rw (back z f) at e))
-
-  pub real-in : lt_z (to_z w64 (of_z w64 z)) (negsuc 9999999998) ≡ false → lt_z (pos 99999999999) (to_z w64 (of_z w64 z)) ≡ false → true ≡ is_real z
-  real-in e g = sym (range-in z (rw (back z f) at e) (rw (back z f) at g))
+pub ruleset sign_ways = (sign-put, sign_at, sign-left)
 
 -- ---- a number without its sign
 
 pub abs-most : (z : ℤ) → is_real z ≡ true → nat_abs z ≤ 99999999999
 abs-most (pos a) h = in-plus a h
 abs-most (negsuc a) h = omega (arith, in-minus a h)
-
--- below zero, and in range: its opposite
-module _ (z : ℤ) (f : SFits w64 z) (h : is_real z ≡ true) (e : le_z (pos 0) (to_z w64 (of_z w64 z)) ≡ false) where
-  opposite : pos 0 -ℤ to_z w64 (of_z w64 z) ≡ pos (nat_abs z)
-  opposite = rw (back z f) (+ℤ_idl (neg_ℤ z) ∙ go z (rw (back z f) at e))
-    where
-      go : (z : ℤ) → le_z (pos 0) z ≡ false → neg_ℤ z ≡ pos (nat_abs z)
-      go (pos a) e = absurd (let k : a < 0 = leb-false 0 a e in omega arith)
-      go (negsuc a) e = refl
-
-  pub opposite-fits : SFits w64 (pos 0 -ℤ to_z w64 (of_z w64 z))
-  opposite-fits = rw opposite (record { sfits = omega (arith, abs-most z h) })
-
-  opposite-back : to_z w64 (of_z w64 (pos 0 -ℤ to_z w64 (of_z w64 z))) ≡ pos (nat_abs z)
-  opposite-back = to_z-of_z w64 (pos 0 -ℤ to_z w64 (of_z w64 z)) opposite-fits ∙ opposite
-
-  pub opposite_asks : T (non_neg (to_z w64 (of_z w64 (pos 0 -ℤ to_z w64 (of_z w64 z))))) × Fits w64 (nat_abs (to_z w64 (of_z w64 (pos 0 -ℤ to_z w64 (of_z w64 z)))))
-  opposite_asks = rw opposite-back (tt, omega (arith, abs-most z h))
-
-  pub opposite-is : nat_abs (to_z w64 (of_z w64 (pos 0 -ℤ to_z w64 (of_z w64 z)))) ≡ nat_abs z
-  opposite-is = ap nat_abs opposite-back
-
--- not below zero: itself
-pub itself-asks : (z : ℤ) → SFits w64 z → is_real z ≡ true → le_z (pos 0) (to_z w64 (of_z w64 z)) ≡ true
-    → T (non_neg (to_z w64 (of_z w64 z))) × Fits w64 (nat_abs (to_z w64 (of_z w64 z)))
-itself-asks z f h e = rw (back z f) (go z (rw (back z f) at e), omega (arith, abs-most z h))
-  where
-    go : (z : ℤ) → le_z (pos 0) z ≡ true → T (non_neg z)
-    go (pos a) e = tt
-    go (negsuc a) e = absurd (false≢true e)
 
 -- ---- the whole text
 
@@ -240,27 +183,13 @@ integer-made v r l d e = e.1 ∙ aligned-over 4 4 r (digits 4 v) l e.0 (omega (a
 
 -- ---- a figure
 
-narrow_below : (z : ℤ) → lt_z z (negsuc 999999998) ≡ true → is_narrow z ≡ false
-narrow_below (pos a) e = absurd (false≢true e)
-narrow_below (negsuc a) e = narrow-minus a ∙ lt-leb a 999999998 (ltb-true 999999998 a e)
-
-narrow-above : (z : ℤ) → lt_z (pos 9999999999) z ≡ true → is_narrow z ≡ false
-narrow-above (pos a) e = narrow-plus a ∙ lt-leb a 9999999999 (ltb-true 9999999999 a e)
-narrow-above (negsuc a) e = absurd (false≢true e)
-
-narrow-between : (z : ℤ) → lt_z z (negsuc 999999998) ≡ false → lt_z (pos 9999999999) z ≡ false → is_narrow z ≡ true
-narrow-between (pos a) e g = narrow-plus a ∙ le-leb a 9999999999 (ltb-false 9999999999 a g)
-narrow-between (negsuc a) e g = narrow-minus a ∙ le-leb a 999999998 (ltb-false 999999998 a e)
-
-module _ (z : ℤ) (f : SFits w64 z) where
-  pub figure-low : lt_z (to_z w64 (of_z w64 z)) (negsuc 999999998) ≡ true → false ≡ is_narrow z
-  figure-low e = sym (narrow_below z (rw (back z f) at e))
-
-  pub figure-high : lt_z (pos 9999999999) (to_z w64 (of_z w64 z)) ≡ true → false ≡ is_narrow z
-  figure-high e = sym (narrow-above z (rw (back z f) at e))
-
-  pub figure-in : lt_z (to_z w64 (of_z w64 z)) (negsuc 999999998) ≡ false → lt_z (pos 9999999999) (to_z w64 (of_z w64 z)) ≡ false → true ≡ is_narrow z
-  figure-in e g = sym (narrow-between z (rw (back z f) at e) (rw (back z f) at g))
+pub narrow_is : (z : ℤ) → is_narrow z ≡ (le_z (neg_ℤ (pos 999999999)) z && le_z z (pos 9999999999))
+narrow_is (pos a) = narrow-plus a
+narrow_is (negsuc a) = narrow-minus a ∙ go (leb a 999999998)
+  where
+    go : (x : Bool) → x ≡ (x && true)
+    go true = refl
+    go false = refl
 
 -- a figure is within the range of a real, below ten digits, and its sign finds room before them
 record Narrow (z : ℤ) : Type 0 where
@@ -268,16 +197,16 @@ record Narrow (z : ℤ) : Type 0 where
   pub few : nat_abs z < 10000000000
   pub room : length (minus z) + length (digits 10 (nat_abs z)) ≤ 10
 
-narrow-is : (z : ℤ) → is_narrow z ≡ true → Narrow z
+narrow_has : (z : ℤ) → is_narrow z ≡ true → Narrow z
 unfolding is_real minus
-narrow-is (pos a) e =
+narrow_has (pos a) e =
     let k : a ≤ 9999999999 = leb-true a 9999999999 (sym (narrow-plus a) ∙ e) in
     record {
       real = le-leb a 99999999999 (omega arith);
       few = omega arith;
       room = rw (minus-none a) (omega (arith, digits-most 10 a));
     }
-narrow-is (negsuc a) e =
+narrow_has (negsuc a) e =
     let k : a ≤ 999999998 = leb-true a 999999998 (sym (narrow-minus a) ∙ e) in
     record {
       real = rw (le-leb a 9999999998 (omega arith));
@@ -287,19 +216,19 @@ narrow-is (negsuc a) e =
 
 module _ (z : ℤ) (f : SFits w64 z) (h : is_narrow z ≡ true) where
   pub figure-real : is_real (to_z w64 (of_z w64 z)) ≡ true
-  figure-real = ap is_real (back z f) ∙ (narrow-is z h).real
+  figure-real = ap is_real (back z f) ∙ (narrow_has z h).real
 
   module _ (m : ℕ) (e : m ≡ nat_abs (to_z w64 (of_z w64 z))) where
     figure-abs : m ≡ nat_abs z
     figure-abs = e ∙ ap nat_abs (back z f)
 
     pub figure-few : m < 10000000000
-    figure-few = omega (arith, (narrow-is z h).few, figure-abs)
+    figure-few = omega (arith, (narrow_has z h).few, figure-abs)
 
     pub figure-sign : (r : ℕ) → r + length (digits 10 m) ≡ 10 → length (minus (to_z w64 (of_z w64 z))) ≤ r
     figure-sign r q =
         let w : r + length (digits 10 (nat_abs z)) ≡ 10 = rw figure-abs at q in
-        rw (back z f) (omega (arith, (narrow-is z h).room))
+        rw (back z f) (omega (arith, (narrow_has z h).room))
 
     -- digits and sign over blanks
     pub figure-made : (r : ℕ) (l b d : List ℕ) → 10 ≤ length l
@@ -308,10 +237,10 @@ module _ (z : ℤ) (f : SFits w64 z) (h : is_narrow z ≡ true) where
     unfolding figure_text whole_text count_text
     figure-made r l b d room q e =
         let n = nat_abs z in
-        let few : n < 10000000000 = (narrow-is z h).few in
+        let few : n < 10000000000 = (narrow_has z h).few in
         let base : List ℕ = over (blanks 10) l in
         let o : length base ≡ length l = length_over (blanks 10) l (omega arith) in
-        let g : length (minus z) + length (digits 10 n) ≤ 10 = (narrow-is z h).room in
+        let g : length (minus z) + length (digits 10 n) ≤ 10 = (narrow_has z h).room in
         let w : r + length (digits 10 n) ≡ 10 = rw figure-abs at q.0 in
         let x : b ≡ pasted base r (digits 10 n) = q.1 ∙ rw figure-abs in
         let k : r - length (minus z) + length (minus z) ≡ r = omega arith in
@@ -319,51 +248,7 @@ module _ (z : ℤ) (f : SFits w64 z) (h : is_narrow z ≡ true) where
         (pasted-front base (r - length (minus z)) r (minus z) (digits 10 n) k (omega arith)
         ∙ aligned-over 10 10 (r - length (minus z)) (minus z ++ digits 10 n) l (omega (arith, length-append (minus z) (digits 10 n))) (omega arith) (omega arith))
 
--- ---- the copy: the first `i` characters stand over what was there
-
-pub record Copying (text l out : List ℕ) (i : ℕ) : Type 0 where
-  pub within : i ≤ length text
-  pub room : length text ≤ length l
-  pub is : out ≡ over (take i text) l
-
-pub copying-start : (text l : List ℕ) → length text ≤ length l → Copying text l l 0
-copying-start text l h = record { within = zero-le; room = h; is = refl }
-
-module _ (text l out : List ℕ) (i : ℕ) (p : Copying text l out i) where
-  pub copying-length : length out ≡ length l
-  copying-length = ap length p.is ∙ length_over (take i text) l (omega (arith, length-take-le i text p.within, p.within, p.room))
-
-  pub copying-step : i < length text → Copying text l (set out i (get_or text i 0)) (i + 1)
-  copying-step h = record { within = omega arith; room = p.room; is = rw p.is (over-next text l i 0 h p.room) }
-
-  pub copying-end : length text ≤ i → out ≡ over text l
-  copying-end h = p.is ∙ over-whole text l i h
-
--- ---- the answers
-
-module _ (v n : ℕ) where
-  pub integer-high : 9999 < v → false ≡ (leb v 9999 && leb 4 n)
-  integer-high h = rw (lt-leb v 9999 h)
-
-  pub integer-tight : v ≤ 9999 → n < 4 → false ≡ (leb v 9999 && leb 4 n)
-  integer-tight h k = rw (le-leb v 9999 h, lt-leb 4 n k)
-
-  pub integer-done : v ≤ 9999 → 4 ≤ n → true ≡ (leb v 9999 && leb 4 n)
-  integer-done h k = rw (le-leb v 9999 h, le-leb 4 n k)
-
--- a signed number that passes its test p, in w characters
-module _ (p : ℤ → Bool) (w : ℕ) (z : ℤ) (n : ℕ) (f : SFits w64 z) (r : Bool) (e : r ≡ p (to_z w64 (of_z w64 z))) where
-  test-is : r ≡ p z
-  test-is = e ∙ ap p (back z f)
-
-  pub signed-out : r ≡ false → false ≡ (p z && leb w n)
-  signed-out x = rw (← test-is, x)
-
-  pub signed-tight : r ≡ true → n < w → false ≡ (p z && leb w n)
-  signed-tight x k = rw (← test-is, x, lt-leb w n k)
-
-  pub signed-done : r ≡ true → w ≤ n → true ≡ (p z && leb w n)
-  signed-done x k = rw (← test-is, x, le-leb w n k)
+-- ---- the digits of a listed number
 
 -- the digits of a listed number are counted as they are taken off, the last first: `rest` has those to come, fewer than `left`
 pub record Counting (v size rest : ℕ) : Type 0 where
@@ -397,6 +282,8 @@ module _ (v size rest : ℕ) (p : Counting v size rest) where
       go : (w : ℕ) → 1 ≤ w → length (count_text v) + 1 ≡ size + length (digits w rest) → size ≡ length (count_text v)
       go zero s c = absurd (omega arith)
       go (suc w) s c = omega (arith, ap length (digits-few w rest h))
+
+pub ruleset counting_ways = (counting-start, counting-fits, counting-step, counting-end)
 
 -- ---- bytes at a place
 

@@ -61,6 +61,7 @@ fn ones(n: usize) -> u8
 }
 
 // Places the one or two digits of a number below 100 before `end`; the answer is where they start.
+#[tactic(auto, using(crate::proofs::Ways::placing_ways))]
 fn put_lead(text: &mut [u8], end: usize, n: usize) -> usize
     requires { (1 ≤ end) × (end ≤ length text.old) × (n < 10 ^ end) × (n < 100) }
     ensures { (result + length (digits end n) ≡ end) × (text.new ≡ pasted text.old result (digits end n)) }
@@ -75,6 +76,7 @@ fn put_lead(text: &mut [u8], end: usize, n: usize) -> usize
 }
 
 // Places the digits of a number before `end`, the last two first; the answer is where they start.
+#[tactic(auto, using(crate::proofs::Ways::placing_ways))]
 fn put_digits(text: &mut [u8], end: usize, n: usize) -> usize
     requires { (1 ≤ end) × (end ≤ length text.old) × (n < 10 ^ end) }
     ensures { (result + length (digits end n) ≡ end) × (text.new ≡ pasted text.old result (digits end n)) }
@@ -91,6 +93,7 @@ fn put_digits(text: &mut [u8], end: usize, n: usize) -> usize
 }
 
 // Places a point and the three digits of a number below 1000 at a place. 41 / 4096 is a little more than a hundredth.
+#[tactic(auto, using(crate::proofs::BareWays::places_ways))]
 fn put_places(text: &mut [u8], at: usize, m: usize)
     requires { (at + 4 ≤ length text.old) × (m < 1000) }
     ensures { text.new ≡ pasted text.old at (46 ∷ places 3 m) }
@@ -104,6 +107,7 @@ fn put_places(text: &mut [u8], at: usize, m: usize)
 }
 
 // Places the sign of a number, if it has one, before `at`.
+#[tactic(auto, using(crate::proofs::Ways::sign_ways), unfolding(crate::specs::Spelling::minus))]
 fn put_sign(text: &mut [u8], at: usize, value: i64)
     requires { (length (minus value) ≤ at) × (at ≤ length text.old) }
     ensures { text.new ≡ pasted text.old (at - length (minus value)) (minus value) }
@@ -118,23 +122,15 @@ fn magnitude(value: i64) -> usize
     requires { is_real value ≡ true }
     ensures { result ≡ nat_abs value }
 {
-    if value >= 0 {
-        return value as usize;
-    }
-    (-value) as usize
+    value.unsigned_abs() as usize
 }
 
 // A value within the range of a real.
+#[tactic(auto, unfolding(number::specs::Number::is_real))]
 pub fn is_real(value: i64) -> bool
     ensures { result ≡ is_real value }
 {
-    if value < REAL_LEAST {
-        return false;
-    }
-    if value > REAL_MOST {
-        return false;
-    }
-    true
+    (REAL_LEAST..=REAL_MOST).contains(&value)
 }
 
 // Copies a text to the start of `out`.
@@ -142,21 +138,14 @@ fn copy(text: &[u8], out: &mut [u8])
     requires { length text.now ≤ length out.old }
     ensures { out.new ≡ over text.now out.old }
 {
-    let mut i = 0;
-    while i < text.len() {
-        out[i] = text[i];
-        i += 1;
-    }
+    out[..text.len()].copy_from_slice(text);
 }
 
 // Copies bytes to a place; the answer is the place behind them. Where they find no room `out` is as it was, and the answer is the place.
 pub fn put_bytes(out: &mut [u8], at: usize, s: &[u8]) -> usize
     ensures { Stored out.old at s.now out.new result }
 {
-    if at > out.len() {
-        return at;
-    }
-    if s.len() > out.len() - at {
+    if at > out.len() || s.len() > out.len() - at {
         return at;
     }
     copy(s, &mut out[at..]);
@@ -198,10 +187,7 @@ pub fn spell_integer(value: usize, out: &mut [u8]) -> bool
     ensures value { result ≡ (leb value integer_most && leb integer_width (length out.old)) }
     ensures out_after { out.new ≡ cond result (over (integer_text value) out.old) out.old }
 {
-    if value > INTEGER_MOST {
-        return false;
-    }
-    if out.len() < INTEGER_WIDTH {
+    if value > INTEGER_MOST || out.len() < INTEGER_WIDTH {
         return false;
     }
     put_integer(value, out);
@@ -214,17 +200,15 @@ pub fn spell_real(value: i64, out: &mut [u8]) -> bool
     ensures value { result ≡ (is_real value && leb real_width (length out.old)) }
     ensures out_after { out.new ≡ cond result (over (real_text value) out.old) out.old }
 {
-    if is_real(value) {
-        if out.len() < REAL_WIDTH {
-            return false;
-        }
-        put_real(value, out);
-        return true;
+    if !is_real(value) || out.len() < REAL_WIDTH {
+        return false;
     }
-    false
+    put_real(value, out);
+    true
 }
 
 // How many digits a number has, with no zero in front except for 0 itself.
+#[tactic(auto, using(crate::proofs::Ways::counting_ways))]
 fn count_size(value: usize) -> usize
     ensures { result ≡ length (count_text value) }
 {
@@ -253,51 +237,37 @@ pub fn put_count(out: &mut [u8], at: usize, value: usize) -> usize
     at + size
 }
 
-// 1 where a number is at least another, else 0: summed up, it spares a jump for each digit.
-fn reaches(n: usize, least: usize) -> usize
-    ensures { result ≡ cond (leb least n) 1 0 }
-{
-    if n >= least {
-        return 1;
-    }
-    0
-}
-
-// How many digits a number has; 8 where it has more.
+// How many digits a number has; 8 where it has more. A sum of tests spares a jump for each digit.
+#[tactic(auto, using(crate::proofs::BareWays::count_ways))]
 pub fn digit_count(n: usize) -> usize
     ensures { result ≡ length (digits 8 n) }
 {
-    let tens = reaches(n, 10);
-    let hundreds = reaches(n, 100);
-    let thousands = reaches(n, 1000);
-    let four = 1 + tens + hundreds + thousands;
-    let fifth = reaches(n, 10000);
-    let sixth = reaches(n, 100000);
-    let seventh = reaches(n, 1000000);
-    let eighth = reaches(n, 10000000);
-    four + fifth + sixth + seventh + eighth
+    1 + usize::from(n >= 10)
+        + usize::from(n >= 100)
+        + usize::from(n >= 1000)
+        + usize::from(n >= 10000)
+        + usize::from(n >= 100000)
+        + usize::from(n >= 1000000)
+        + usize::from(n >= 10000000)
 }
 
 // How many characters the sign of a number takes.
+#[tactic(auto, unfolding(crate::specs::Spelling::minus))]
 fn sign_size(value: i64) -> usize
     ensures { result ≡ length (minus value) }
 {
-    if value < 0 {
-        return 1;
-    }
-    0
+    usize::from(value < 0)
 }
 
 // How many characters a real takes with no blank in front; 0 where the value is out of range.
+#[tactic(auto, using(crate::proofs::BareWays::size_ways))]
 pub fn bare_size(value: i64) -> usize
     ensures { result ≡ cond (is_real value) (length (bare_real value)) 0 }
 {
-    if is_real(value) {
-        let sign = sign_size(value);
-        let whole = digit_count(magnitude(value) / 1000);
-        return sign + whole + 4;
+    if !is_real(value) {
+        return 0;
     }
-    0
+    sign_size(value) + digit_count(magnitude(value) / 1000) + 4
 }
 
 // Stores a real with no blank in front at a place; the answer is the place behind it.
@@ -305,31 +275,23 @@ pub fn bare_size(value: i64) -> usize
 pub fn put_bare(out: &mut [u8], at: usize, value: i64) -> usize
     ensures { Stored out.old at (cond (is_real value) (bare_real value) []) out.new result }
 {
-    if is_real(value) {
-        if at > out.len() {
-            return at;
-        }
-        let size = bare_size(value);
-        if size > out.len() - at {
-            return at;
-        }
-        put_round(out, at + size - 4, value);
-        return at + size;
+    if !is_real(value) || at > out.len() {
+        return at;
     }
-    at
+    let size = bare_size(value);
+    if size > out.len() - at {
+        return at;
+    }
+    put_round(out, at + size - 4, value);
+    at + size
 }
 
 // A figure finds room in its 10 characters.
+#[tactic(auto, using(crate::proofs::Ways::narrow_is))]
 pub fn is_narrow(value: i64) -> bool
     ensures { result ≡ is_narrow value }
 {
-    if value < FIGURE_LEAST {
-        return false;
-    }
-    if value > FIGURE_MOST {
-        return false;
-    }
-    true
+    (FIGURE_LEAST..=FIGURE_MOST).contains(&value)
 }
 
 // The characters of a figure, straight at the start of `out`: blanks, and over them digits and sign.
@@ -343,18 +305,16 @@ fn put_figure(value: i64, out: &mut [u8])
     put_sign(out, at, value);
 }
 
+// As `spell_real`, with its own test, width and text: one function for both would take these three, and be no plainer.
 // True where the 10 characters of a figure now stand at the start of `out`;
 // false, and `out` as it was, where the figure has more characters or `out` is shorter.
 pub fn spell_figure(value: i64, out: &mut [u8]) -> bool
     ensures value { result ≡ (is_narrow value && leb figure_width (length out.old)) }
     ensures out_after { out.new ≡ cond result (over (figure_text value) out.old) out.old }
 {
-    if is_narrow(value) {
-        if out.len() < FIGURE_WIDTH {
-            return false;
-        }
-        put_figure(value, out);
-        return true;
+    if !is_narrow(value) || out.len() < FIGURE_WIDTH {
+        return false;
     }
-    false
+    put_figure(value, out);
+    true
 }

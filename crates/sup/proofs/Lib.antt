@@ -7,7 +7,7 @@ pub mod FormLaws
 mod RoundWays
 pub mod LineWays
 mod TotalWays
-mod DateWays
+pub mod DateWays
 pub mod ListedWays
 mod RawOrder
 mod RawWays

@@ -12,6 +12,7 @@ use lib.Signed.{mag}
 use mir.Syntax.{w64}
 use mir.Val.{to_z, of_z}
 use borrow.Author.Tests.{not-true, not-false}
+use Rattle.std.specs.Prelude.{Some, None, Ok}
 use Rattle.laws.proofs.Bits.{back}
 use Rattle.laws.proofs.Choice.{false≢true}
 use Rattle.laws.proofs.ListLaws.{left as from_at, left-none}
@@ -19,60 +20,34 @@ use Rattle.kinds.specs.Kinds.{row_width}
 use Rattle.heading.specs.declared.Header.{Header}
 use Rattle.record.specs.declared.Mode.TheVariants.{Loose}
 use Rattle.sheet.specs.Tables.{Tables}
-use Rattle.made.specs.declared.Verdict.TheVariants.{Fine}
 use Rattle.made.specs.Made.{tables_of, none_before, judge_rows}
 use Rattle.made.proofs.UsedLaws.{fine-long}
 use Rattle.row.specs.declared.Stand.{Stand}
 use Rattle.row.specs.Walk.{first_stand, stand_after, left_at}
-use Rattle.area.specs.Questions.{net_area_of}
 use Rattle.border.specs.Borders.{border_of}
 use Rattle.spelling.specs.Figures.{is_narrow}
-use Rattle.order.specs.declared.Since.TheVariants.{First, Past}
 use Rattle.order.specs.declared.Window.{Window}
 use Rattle.order.specs.Sorting.{EachOf, EachOf.each_nil, EachOf.each_on}
 use Rattle.order.specs.SupBorders.{is_in_sup, with_if, sup_borders, sup_borders_from}
-use Rattle.order.specs.SupOrder.{net_left, sup_in_order}
-use Rattle.order.specs.Windows.{window_width, Shows, window_of}
-use Rattle.order.proofs.OrderLaws.{Small, in-order-each, in-order-length}
+use Rattle.order.specs.SupOrder.{sup_in_order}
+use Rattle.order.specs.Windows.{window_width, Shows, window_of, Small}
+use Rattle.order.proofs.OrderLaws.{in-order-each, in-order-length}
 use Rattle.order.proofs.TurnLaws.{Turning, turning-start, turning-end, turning-more, turning-item, turning-on, turning-next}
-use Rattle.sup.specs.Metres.{metres_of}
 use Rattle.sup.specs.Sup.{listed_lines, figures_in, wide_from}
 use Rattle.sup.specs.Answer.{code_nets, codes_in_order}
 use Rattle.sup.specs.Printing.{metres_left, is_wide_listed, is_any_wide_from}
 
 -- ---- one border
 
-pub metres-left : (t : Tables) (n : ℤ) → n ≡ net_left t → mag n < 2 ^ 63 → (r : ℤ) → r ≡ metres_of (to_z w64 (of_z w64 n)) → mag r < 2 ^ 63
-    → to_z w64 (of_z w64 r) ≡ metres_left t
-unfolding metres_left
-metres-left t n e m r f k = back r k ∙ f ∙ ap metres_of (back n m ∙ e)
-
--- which tables its figure and its being listed depend on
-module _ (h : Header) (rows : List ℤ) (letters islands : List ℕ) (points : List ℤ) (d : Stand) where
-  pub figure-own : metres_left (left_at (tables_of rows [] islands points) d) ≡ metres_left (left_at (tables_of rows letters islands points) d)
-  unfolding metres_left net_left net_area_of
-  figure-own = refl
-
-  pub listed-own : is_in_sup h (left_at (tables_of rows letters [] []) d) ≡ is_in_sup h (left_at (tables_of rows letters islands points) d)
-  unfolding is_in_sup border_of
-  listed-own = refl
-
-  module _ (b : Bool) (e : b ≡ is_in_sup h (left_at (tables_of rows letters [] []) d)) where
-    pub wide-unlisted : not b ≡ true → false ≡ is_wide_listed h (left_at (tables_of rows letters islands points) d)
-    unfolding is_wide_listed
-    wide-unlisted f = rw (← listed-own, ← e, not-true b f)
-
-    pub wide-listed : not b ≡ false → (z : ℤ) → z ≡ metres_left (left_at (tables_of rows [] islands points) d) → mag z < 2 ^ 63 → (n : Bool) → n ≡ is_narrow (to_z w64 (of_z w64 z))
-        → not n ≡ is_wide_listed h (left_at (tables_of rows letters islands points) d)
-    unfolding is_wide_listed
-    wide-listed f z q m n g = ap not (g ∙ ap is_narrow (back z m ∙ q ∙ figure-own)) ∙ rw (← listed-own, ← e, not-false b f)
+-- which tables its being listed depends on
+pub listed-own : (h : Header) (rows : List ℤ) (letters islands : List ℕ) (points : List ℤ) (d : Stand)
+    → is_in_sup h (left_at (tables_of rows letters [] []) d) ≡ is_in_sup h (left_at (tables_of rows letters islands points) d)
+unfolding is_in_sup border_of
+listed-own h rows letters islands points d = refl
 
 -- whether it is narrow
-pub narrow-known : (rows : List ℤ) (letters islands : List ℕ) (points : List ℤ) (d : Stand)
-    (z : ℤ) → z ≡ metres_left (left_at (tables_of rows [] islands points) d) → mag z < 2 ^ 63 → (b : Bool) → b ≡ is_narrow (to_z w64 (of_z w64 z))
-    → b ≡ is_narrow (metres_left (left_at (tables_of rows letters islands points) d))
-unfolding metres_left net_left net_area_of
-narrow-known rows letters islands points d z q m b g = g ∙ ap is_narrow (back z m ∙ q)
+pub narrow-known : (t : Tables) (z : ℤ) → z ≡ metres_left t → mag z < 2 ^ 63 → (b : Bool) → b ≡ is_narrow (to_z w64 (of_z w64 z)) → b ≡ is_narrow (metres_left t)
+narrow-known t z q m b g = g ∙ ap is_narrow (back z m ∙ q)
 
 -- ---- the walk that looks for a wide figure: none of the k rows behind it has one
 
@@ -146,7 +121,7 @@ listed-few h t (suc n) d = go (is_in_sup h (left_at t d)) (listed-few h t n (sta
     go true k = omega arith
     go false k = omega arith
 
-pub listed-held : (h : Header) (count : ℕ) (t : Tables) → judge_rows Loose count none_before t ≡ Fine → row_width * length (sup_borders h count t) ≤ length t.rows
+pub listed-held : (h : Header) (count : ℕ) (t : Tables) → judge_rows Loose count none_before t ≡ Ok tt → row_width * length (sup_borders h count t) ≤ length t.rows
 listed-held h count t f = omega (arith, listed-few h t count first_stand, (fine-long Loose count none_before t f).rows_in)
 
 -- ---- the loop over windows that looks for a wide figure
@@ -155,7 +130,7 @@ pub record Widening (h : Header) (count : ℕ) (t : Tables) (w : Window) (i j : 
   pub turns : Turning h count t w i j
   pub rest : wide_from 8 (figures_from h count t 0) ≡ wide_from (8 + i) (figures_from h count t i)
 
-pub widening-start : (h : Header) (count : ℕ) (t : Tables) → Small t → judge_rows Loose count none_before t ≡ Fine → (w : Window) → Shows w (window_of h count t First) → Widening h count t w 0 0
+pub widening-start : (h : Header) (count : ℕ) (t : Tables) → Small t → judge_rows Loose count none_before t ≡ Ok tt → (w : Window) → Shows w (window_of h count t None) → Widening h count t w 0 0
 widening-start h count t m f w s = record { turns = turning-start h count t m f w s; rest = refl }
 
 module _ {h : Header} {count : ℕ} {t : Tables} {w : Window} {i j : ℕ} (g : Widening h count t w i j) where
@@ -182,5 +157,5 @@ module _ {h : Header} {count : ℕ} {t : Tables} {w : Window} {i j : ℕ} (g : W
     pub widening-on : not b ≡ false → (j + 1 ≡ window_width → ⊥) → Widening h count t w (i + 1) (j + 1)
     widening-on f k = record { turns = turning-on g.turns e k; rest = rest-on f }
 
-    pub widening-next : not b ≡ false → (u : Window) → Shows u (window_of h count t (Past (get_or w.items j z))) → Widening h count t u (i + 1) 0
+    pub widening-next : not b ≡ false → (u : Window) → Shows u (window_of h count t (Some (get_or w.items j z))) → Widening h count t u (i + 1) 0
     widening-next f u s = record { turns = turning-next g.turns e z u s; rest = rest-on f }

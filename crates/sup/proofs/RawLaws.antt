@@ -9,12 +9,12 @@ use lib.ListN.{length}
 use lib.Dec.{ltb}
 use lib.IntN.{ℤ, pos, negsuc, ◌+ℤ◌, ◌-ℤ◌, ◌*ℤ◌}
 use lib.Signed.{lt_z}
-use borrow.Author.Tests.{lt-ltb, le-ltb, ltb-true, ltb-false, leb-true}
+use borrow.Author.Tests.{eq-eqb, ne_eqb, lt-ltb, le-ltb, ltb-true, ltb-false, leb-true}
 use Rattle.laws.proofs.Parts.{P, N, one-part, abs-parts, add_parts, sub-parts-ℤ, neg-P, neg-N, eq-parts, lt-true, lt-false, lt_no, le_yes, lt_yes}
 use Rattle.spelling.specs.Figures.{is_narrow}
 use Rattle.spelling.proofs.FigureLaws.{narrow-plus, narrow-minus}
-use Rattle.order.specs.declared.Comes.{Comes}
-use Rattle.order.specs.declared.Comes.TheVariants.{Before, Same, After}
+use Rattle.std.specs.declared.cmp.Ordering.{Ordering}
+use Rattle.std.specs.declared.cmp.Ordering.TheVariants.{Less, Equal, Greater}
 use Rattle.order.specs.Compare.{or_else, by_number, by_whole, by_bytes}
 use Rattle.sup.specs.Metres.{metres_of}
 use Rattle.sup.specs.Raw.{raw_lift, raw_number, raw_bytes, raw_field, number_from}
@@ -22,15 +22,15 @@ use Rattle.sup.proofs.SupLaws.{metres-low, metres-high}
 
 -- ---- questions one behind the other
 
-pub or_assoc : (x y z : Comes) → or_else x (or_else y z) ≡ or_else (or_else x y) z
-or_assoc Before y z = refl
-or_assoc Same y z = refl
-or_assoc After y z = refl
+pub or_assoc : (x y z : Ordering) → or_else x (or_else y z) ≡ or_else (or_else x y) z
+or_assoc Less y z = refl
+or_assoc Equal y z = refl
+or_assoc Greater y z = refl
 
-pub or-none : (x : Comes) → or_else x Same ≡ x
-or-none Before = refl
-or-none Same = refl
-or-none After = refl
+pub or-none : (x : Ordering) → or_else x Equal ≡ x
+or-none Less = refl
+or-none Equal = refl
+or-none Greater = refl
 
 three : {Q : Type 0} (a b : ℕ) → (a < b → Q) → (a ≡ b → Q) → (b < a → Q) → Q
 three {Q} a b f g h = go (ltb a b) (ltb b a) refl refl
@@ -40,17 +40,14 @@ three {Q} a b f g h = go (ltb a b) (ltb b a) refl refl
     go false true e d = h (ltb-true b a d)
     go false false e d = g (let k = ltb-false a b e in let l = ltb-false b a d in omega arith)
 
-pub number-before : (a b : ℕ) → a < b → by_number a b ≡ Before
-unfolding by_number
+pub number-before : (a b : ℕ) → a < b → by_number a b ≡ Less
 number-before a b h = rw (lt-ltb a b h)
 
-number-after : (a b : ℕ) → b < a → by_number a b ≡ After
-unfolding by_number
-number-after a b h = let g : b ≤ a = omega arith in rw (le-ltb a b g, lt-ltb b a h)
+number-after : (a b : ℕ) → b < a → by_number a b ≡ Greater
+number-after a b h = let g : b ≤ a = omega arith in rw (le-ltb a b g, ne_eqb a b (λ e. omega arith))
 
-pub number_same : (a : ℕ) → by_number a a ≡ Same
-unfolding by_number
-number_same a = let g : a ≤ a = omega arith in rw (le-ltb a a g)
+pub number_same : (a : ℕ) → by_number a a ≡ Equal
+number_same a = let g : a ≤ a = omega arith in rw (le-ltb a a g, eq-eqb a a refl)
 
 -- ---- numbers by their bytes
 
@@ -70,7 +67,6 @@ byte-parts m n =
 
 five-bytes : (a b c d e p q r s t : ℕ) → by_bytes (a ∷ b ∷ c ∷ d ∷ e ∷ []) (p ∷ q ∷ r ∷ s ∷ t ∷ [])
     ≡ or_else (or_else (or_else (or_else (by_number a p) (by_number b q)) (by_number c r)) (by_number d s)) (by_number e t)
-unfolding by_bytes
 five-bytes a b c d e p q r s t =
     rw (
       or-none (by_number e t),
@@ -83,8 +79,7 @@ five-bytes a b c d e p q r s t =
     )
 
 none_first : (s t : List ℕ) → by_bytes (0 ∷ s) (0 ∷ t) ≡ by_bytes s t
-unfolding by_bytes
-none_first s t = rw (number_same 0)
+none_first s t = refl
 
 raw-order : (m n : ℕ) → by_bytes (raw_bytes m) (raw_bytes n) ≡ by_number m n
 unfolding raw_bytes
@@ -125,7 +120,7 @@ module _ (z : ℤ) (h : is_narrow z ≡ true) where
   raw-back = eq-parts (pos (raw_number z) -ℤ pos raw_lift) z (omega (arith, raw-parts, sub-parts-ℤ (pos (raw_number z)) (pos raw_lift)))
 
 pub field-order : (a b : ℤ) → is_narrow a ≡ true → is_narrow b ≡ true → by_bytes (raw_field a) (raw_field b) ≡ by_whole a b
-unfolding raw_field by_whole
+unfolding raw_field
 field-order a b f g =
     let p = raw-parts a f in
     let q = raw-parts b g in

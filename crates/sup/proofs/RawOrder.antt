@@ -10,6 +10,7 @@ use lib.Dec.{ltb, leb}
 use lib.IntN.{ℤ, pos, ◌-ℤ◌}
 use lib.Signed.{lt_z}
 use borrow.Author.Tests.{ltb-true, ltb-false, eqb-false, leb-true, not-true}
+use Rattle.std.specs.Prelude.{Ok}
 use Rattle.laws.specs.Lists.{all}
 use Rattle.laws.proofs.Choice.{and_left, and_right, false≢true}
 use Rattle.record.specs.Record.{plain}
@@ -17,21 +18,21 @@ use Rattle.record.specs.declared.Mode.TheVariants.{Loose}
 use Rattle.number.specs.Words.{blank}
 use Rattle.heading.specs.declared.Header.{Header}
 use Rattle.sheet.specs.Tables.{Tables}
-use Rattle.made.specs.declared.Verdict.TheVariants.{Fine}
 use Rattle.made.specs.Made.{letters_of, count_at, none_before, judge_rows, are_numbers, are_letters, are_counts, are_points, kind_of, islands_of, is_made}
 use Rattle.row.specs.declared.Stand.{Stand}
 use Rattle.row.specs.Walk.{first_stand, stand_after, left_at}
 use Rattle.row.proofs.Walk.{Walk, walk_start, walk-on, walk-left}
 use Rattle.spelling.specs.Figures.{is_narrow, figure_text}
 use Rattle.spelling.proofs.FigureLaws.{figure-length}
-use Rattle.order.specs.declared.Comes.{Comes}
-use Rattle.order.specs.declared.Comes.TheVariants.{Before, Same, After}
+use Rattle.std.specs.declared.cmp.Ordering.{Ordering}
+use Rattle.std.specs.declared.cmp.Ordering.TheVariants.{Less, Equal, Greater}
 use Rattle.order.specs.Compare.{or_else, is_before, by_number, by_whole, by_bytes}
 use Rattle.order.specs.Sorting.{sort_by, EachOf, EachOf.each_nil, EachOf.each_on, Sorted, Sorted.sorted-nil, Sorted.sorted-on}
 use Rattle.order.specs.SupBorders.{is_in_sup, with_if, sup_borders, sup_borders_from}
 use Rattle.order.specs.SupOrder.{net_left, by_code_and_net, paper_before, goes_before, sup_in_order}
 use Rattle.order.proofs.CompareLaws.{turned, bytes-total}
-use Rattle.order.proofs.OrderLaws.{Small, walk_after, in-order-sorted, in-order-each, in-order-length}
+use Rattle.order.specs.Windows.{Small}
+use Rattle.order.proofs.OrderLaws.{walk_after, in-order-sorted, in-order-each, in-order-length}
 use Rattle.order.proofs.LongLaws.{Fits}
 use Rattle.sorting.specs.Lines.{joined, bytes_before, sorted_lines}
 use Rattle.sorting.proofs.SwapLaws.{sort-again, sorted-stays}
@@ -57,23 +58,20 @@ named-tail : {b : ℕ} {s : List ℕ} → Named (b ∷ s) → Named s
 named-tail (named-last h) = named-nil
 named-tail (named-on h n) = n
 
-bytes_same : (s : List ℕ) → by_bytes s s ≡ Same
-unfolding by_bytes
+bytes_same : (s : List ℕ) → by_bytes s s ≡ Equal
 bytes_same [] = refl
 bytes_same (b ∷ s) = rw (number_same b, bytes_same s)
 
-blanks-first : {b : ℕ} {s : List ℕ} → Named (b ∷ s) → (m n : ℕ) → m ≡ suc (length s) + n → by_bytes (replicate m 32) (b ∷ s ++ replicate n 32) ≡ Before
-unfolding by_bytes
+blanks-first : {b : ℕ} {s : List ℕ} → Named (b ∷ s) → (m n : ℕ) → m ≡ suc (length s) + n → by_bytes (replicate m 32) (b ∷ s ++ replicate n 32) ≡ Less
 blanks-first named zero n e = absurd (omega arith)
 blanks-first (named-last {b} h) (suc m) n e = rw (number-before 32 b h)
 blanks-first (named-on {b} {c} {s} h k) (suc m) n e = go (ltb 32 b) refl (blanks-first k m n (omega arith))
   where
-    go : (x : Bool) → ltb 32 b ≡ x → by_bytes (replicate m 32) (c ∷ s ++ replicate n 32) ≡ Before → or_else (by_number 32 b) (by_bytes (replicate m 32) (c ∷ s ++ replicate n 32)) ≡ Before
+    go : (x : Bool) → ltb 32 b ≡ x → by_bytes (replicate m 32) (c ∷ s ++ replicate n 32) ≡ Less → or_else (by_number 32 b) (by_bytes (replicate m 32) (c ∷ s ++ replicate n 32)) ≡ Less
     go true q r = rw (number-before 32 b (ltb-true 32 b q))
-    go false q r = let z : b ≡ 32 = let y = ltb-false 32 b q in omega arith in rw (z, number_same 32) r
+    go false q r = let z : b ≡ 32 = let y = ltb-false 32 b q in omega arith in rw z r
 
 pad-order : (a b : List ℕ) (m n : ℕ) → length a + m ≡ length b + n → Named a → Named b → by_bytes (a ++ replicate m 32) (b ++ replicate n 32) ≡ by_bytes a b
-unfolding by_bytes
 pad-order [] [] m n e x y = let z : m ≡ n = omega arith in rw z (bytes_same (replicate n 32))
 pad-order [] (b ∷ t) m n e x y = blanks-first y m n (omega arith)
 pad-order (a ∷ s) [] m n e x y =
@@ -87,7 +85,6 @@ left-order a b h k x y = pad-order a b (11 - length a) (11 - length b) (omega ar
 -- ---- raw lines compare as codes, then as figures
 
 parts-order : (a b x y : List ℕ) → length a ≡ length b → by_bytes (a ++ x) (b ++ y) ≡ or_else (by_bytes a b) (by_bytes x y)
-unfolding by_bytes
 parts-order [] [] x y e = refl
 parts-order [] (b ∷ t) x y e = absurd (omega arith)
 parts-order (a ∷ s) [] x y e = absurd (omega arith)
@@ -104,30 +101,28 @@ fields-order a b f g h k x y e =
     let l : length (left_field a) ≡ length (left_field b) = left-length a h ∙ sym (left-length b k) in
     let m : length (left_field a ++ f) ≡ length (left_field b ++ g) = omega (arith, length-append (left_field a) f, length-append (left_field b) g) in
     parts-order (left_field a ++ f) (left_field b ++ g) (13 ∷ 10 ∷ []) (13 ∷ 10 ∷ []) m
-    ∙ rw (bytes_same (13 ∷ 10 ∷ []), or-none (by_bytes (left_field a ++ f) (left_field b ++ g))) (parts-order (left_field a) (left_field b) f g l ∙ ap (λ (c : Comes). or_else c (by_bytes f g)) (left-order a b h k x y))
+    ∙ rw (bytes_same (13 ∷ 10 ∷ []), or-none (by_bytes (left_field a ++ f) (left_field b ++ g))) (parts-order (left_field a) (left_field b) f g l ∙ ap (λ (c : Ordering). or_else c (by_bytes f g)) (left-order a b h k x y))
 
 -- ---- a smaller exact area has no greater figure
 
 not-whole : (x y : ℤ) → is_before (by_whole x y) ≡ false → lt_z x y ≡ false
-unfolding by_whole
 not-whole x y = go (lt_z x y) (lt_z y x)
   where
-    go : (a b : Bool) → is_before (cond a Before (cond b After Same)) ≡ false → a ≡ false
+    go : (a b : Bool) → is_before (cond a Less (cond b Greater Equal)) ≡ false → a ≡ false
     go true b e = absurd (false≢true (sym e))
     go false b e = refl
 
 whole-not : (x y : ℤ) → lt_z x y ≡ false → is_before (by_whole x y) ≡ false
-unfolding by_whole
 whole-not x y e = rw e (go (lt_z y x))
   where
-    go : (b : Bool) → is_before (cond b After Same) ≡ false
+    go : (b : Bool) → is_before (cond b Greater Equal) ≡ false
     go true = refl
     go false = refl
 
-figures-rise : (c : Comes) (x y : ℤ) → is_before (or_else c (by_whole y x)) ≡ false → is_before (or_else c (by_whole (metres_of y) (metres_of x))) ≡ false
-figures-rise Before x y f = f
-figures-rise Same x y f = whole-not (metres_of y) (metres_of x) (metres-rise x y (not-whole y x f))
-figures-rise After x y f = refl
+figures-rise : (c : Ordering) (x y : ℤ) → is_before (or_else c (by_whole y x)) ≡ false → is_before (or_else c (by_whole (metres_of y) (metres_of x))) ≡ false
+figures-rise Less x y f = f
+figures-rise Equal x y f = whole-not (metres_of y) (metres_of x) (metres-rise x y (not-whole y x f))
+figures-rise Greater x y f = refl
 
 -- ---- a border whose line is written
 
@@ -292,6 +287,6 @@ all-ready : {t : Tables} {s : List Stand} → EachOf (Fits t) s → EachOf (λ (
 all-ready each_nil each_nil each_nil = each_nil
 all-ready (each_on a x) (each_on b y) (each_on c z) = each_on (record { short = a; narrow = b; named = c }) (all-ready x y z)
 
-pub listed-ready : (h : Header) (count : ℕ) (t : Tables) → Small t → judge_rows Loose count none_before t ≡ Fine → EachOf (Fits t) (sup_borders h count t)
+pub listed-ready : (h : Header) (count : ℕ) (t : Tables) → Small t → judge_rows Loose count none_before t ≡ Ok tt → EachOf (Fits t) (sup_borders h count t)
     → EachOf (λ (d : Stand). is_narrow (metres_left (left_at t d)) ≡ true) (sup_borders h count t) → EachOf (Ready t) (sup_borders h count t)
 listed-ready h count t m f a b = all-ready a b (from_named h t count m count first_stand 0 (omega arith) (walk_start Loose t count f))

@@ -11,25 +11,23 @@ use lib.IntN.{ℤ}
 use lib.Signed.{mag}
 use mir.Syntax.{w64}
 use mir.Val.{to_z, of_z}
+use Rattle.std.specs.Prelude.{None, Ok}
 use Rattle.laws.proofs.Bits.{back}
 use Rattle.laws.proofs.Choice.{and_left, and_right}
 use Rattle.heading.specs.declared.Header.{Header}
 use Rattle.record.specs.declared.Mode.TheVariants.{Loose}
 use Rattle.sheet.specs.Tables.{Tables}
-use Rattle.made.specs.declared.Verdict.TheVariants.{Fine}
 use Rattle.made.specs.Made.{tables_of, letters_of, none_before, judge_rows}
 use Rattle.row.specs.declared.Stand.{Stand}
 use Rattle.row.specs.Walk.{first_stand, stand_after, left_at}
-use Rattle.area.specs.Questions.{net_area_of}
 use Rattle.spelling.specs.Figures.{is_narrow}
 use Rattle.spelling.specs.Stored.{Stored}
 use Rattle.writer.specs.Put.{Put}
 use Rattle.writer.proofs.Putting.{Putting, putting-start, putting-room, putting-on, putting-end, stored_on, stored_last}
-use Rattle.order.specs.declared.LongCode.TheVariants.{Nowhere}
+use Rattle.order.specs.Windows.{Small}
 use Rattle.order.specs.Sorting.{insert, sort_into, EachOf, EachOf.each_nil, EachOf.each_on}
 use Rattle.order.specs.SupBorders.{is_in_sup, with_if, sup_borders, sup_borders_from, first_long}
 use Rattle.order.specs.SupOrder.{net_left, goes_before, sup_in_order}
-use Rattle.order.proofs.OrderLaws.{Small}
 use Rattle.order.proofs.LongLaws.{Fits, codes-fit}
 use Rattle.sorting.specs.Lines.{joined, sorted_lines}
 use Rattle.sup.specs.Metres.{metres_of}
@@ -45,12 +43,11 @@ use Rattle.sup.proofs.RawOrder.{Ready, listed-ready, arranged, arranged-length}
 -- ---- one line, with what the code has in hand: the letters, the figure's bytes
 
 module _ (rows : List ℤ) (letters islands : List ℕ) (points : List ℤ) (d : Stand)
-    (z : ℤ) (q : z ≡ metres_left (left_at (tables_of rows [] islands points) d)) (m : mag z < 2 ^ 63) where
+    (z : ℤ) (q : z ≡ metres_left (left_at (tables_of rows letters islands points) d)) (m : mag z < 2 ^ 63) where
   abbrev left : Tables
   left = left_at (tables_of rows letters islands points) d
 
   figure-is : to_z w64 (of_z w64 z) ≡ metres_left left
-  unfolding metres_left net_left net_area_of
   figure-is = back z m ∙ q
 
   pub raw-narrow : is_narrow (metres_left left) ≡ true → is_narrow (to_z w64 (of_z w64 z)) ≡ true
@@ -123,7 +120,7 @@ pub record RawStoring (h : Header) (count : ℕ) (t : Tables) (l : List ℕ) (at
   pub narrow : EachOf (Narrow t) (sup_borders_from h t (count - k) d)
   pub puts : Putting l at (raw_text t (sup_borders h count t)) out next (raw_text t (sup_borders_from h t (count - k) d))
 
-pub raws-start : (h : Header) (count : ℕ) (t : Tables) (l : List ℕ) (at : ℕ) → first_long h count t ≡ Nowhere
+pub raws-start : (h : Header) (count : ℕ) (t : Tables) (l : List ℕ) (at : ℕ) → first_long h count t ≡ None
     → are_narrow (figures_in (listed_lines (codes_in_order h count t))) ≡ true → at + length (raw_text t (sup_borders h count t)) ≤ length l
     → RawStoring h count t l at l first_stand at 0
 raws-start h count t l at c n r =
@@ -185,7 +182,7 @@ module _ {h : Header} {count : ℕ} {t : Tables} {l : List ℕ} {at : ℕ} {out 
 
 -- ---- the whole list
 
-module _ (h : Header) (count : ℕ) (t : Tables) (m : Small t) (f : judge_rows Loose count none_before t ≡ Fine) (c : first_long h count t ≡ Nowhere)
+module _ (h : Header) (count : ℕ) (t : Tables) (m : Small t) (f : judge_rows Loose count none_before t ≡ Ok tt) (c : first_long h count t ≡ None)
     (n : are_narrow (figures_in (listed_lines (codes_in_order h count t))) ≡ true) where
   abbrev raw : List ℕ
   raw = raw_text t (sup_borders h count t)

@@ -23,10 +23,11 @@ use Rattle.classes.specs.declared.Class.TheVariants.{Confine, Other, Road, Water
 use Rattle.classes.specs.Classes.{index_of}
 use Rattle.border.specs.Borders.{is_border, border_of}
 use Rattle.area.specs.declared.Areas.{Areas}
-use Rattle.area.specs.declared.Areas.TheVariants.{Of, Wide, Missing}
+use Rattle.area.specs.BorderRings.{both_areas}
+use Rattle.plane.specs.declared.NoArea.{NoArea}
 use Rattle.area.specs.Questions.{net_area_of}
-use Rattle.tally.specs.declared.Refusal.{Refusal}
-use Rattle.tally.specs.declared.Refusal.TheVariants.{None}
+use Rattle.std.specs.Prelude.{Result, Ok, Err}
+use Rattle.tally.specs.declared.Untallied.{Untallied}
 use Rattle.tally.specs.Tally.{no_figures, plus, figures_of}
 use Rattle.tally.specs.Take.{taken_with, borders_areas, tally_of}
 use Rattle.tally.specs.Sums.{area_figures, area_fits, row_figures, row_fits, rows_figures, rows_fit}
@@ -36,7 +37,8 @@ use Rattle.tally.proofs.CountLaws.{plus-at}
 use Rattle.order.specs.Sorting.{insert, sort_into}
 use Rattle.order.specs.SupBorders.{lists_class, is_wanted, is_in_sup, with_if, sup_borders, sup_borders_from}
 use Rattle.order.specs.SupOrder.{net_left, goes_before, sup_in_order}
-use Rattle.order.proofs.OrderLaws.{Small, walk_after}
+use Rattle.order.specs.Windows.{Small}
+use Rattle.order.proofs.OrderLaws.{walk_after}
 use Rattle.sup.specs.Sup.{borders_in, outer_in, inner_in, net_in, exact_total}
 use Rattle.sup.specs.Answer.{code_nets, codes_in_order}
 use Rattle.sup.specs.ListedSums.{listed_class, net_sum}
@@ -97,15 +99,14 @@ record Reads (kind : ℕ) (g : List ℤ → ℤ) (v : ℤ → ℤ → ℤ) : Typ
 
 -- a border's own value
 abbrev Values : (Tables → ℤ) → (ℤ → ℤ → ℤ) → Type 0
-Values value v = (t : Tables) → is_border t ≡ true → (outer inner : ℤ) → borders_areas t ≡ Of outer inner → value t ≡ v outer inner
+Values value v = (t : Tables) → is_border t ≡ true → (outer inner : ℤ) → borders_areas t ≡ Ok (both_areas outer inner) → value t ≡ v outer inner
 
 module _ (h : Header) (g : List ℤ → ℤ) (v : ℤ → ℤ → ℤ) (r : Reads h.kind g v) (value : Tables → ℤ) (own : Values value v) where
-  border-adds : (t : Tables) → is_border t ≡ true → (x : Areas) → borders_areas t ≡ x → area_fits (border_of h t) x ≡ true
+  border-adds : (t : Tables) → is_border t ≡ true → (x : Result Areas NoArea) → borders_areas t ≡ x → area_fits (border_of h t) x ≡ true
       → g (area_figures (border_of h t) x) ≡ cond (is_wanted h.kind (border_of h t)) (value t) (pos 0)
-  border-adds t b (Of o i) q e =
-      r.own (border_of h t).class o (pos (border_of h t).islands) i ∙ rw (lists-is h.kind (border_of h t).class, own t b o i q)
-  border-adds t b Wide q e = absurd (false≢true e)
-  border-adds t b Missing q e = absurd (false≢true e)
+  border-adds t b (Ok a) q e =
+      r.own (border_of h t).class a.outer (pos (border_of h t).islands) a.inner ∙ rw (lists-is h.kind (border_of h t).class, own t b a.outer a.inner q)
+  border-adds t b (Err x) q e = absurd (false≢true e)
 
   row-adds : (t : Tables) → row_fits h t ≡ true → g (row_figures h t) ≡ cond (is_in_sup h t) (value t) (pos 0)
   unfolding row_fits row_figures is_in_sup
@@ -140,12 +141,12 @@ module _ (h : Header) (g : List ℤ → ℤ) (v : ℤ → ℤ → ℤ) (r : Read
         ∙ ap₂ (λ (x y : ℤ). x +ℤ y) (sym (row-adds here (and_left (row_fits h here) (rows_fit h n (rest_of here)) f))) rest
         ∙ sym (r.add (row_figures h here) (rows_figures h n (rest_of here)) (row-length h here ∙ sym (rows-length h n (rest_of here))))
 
-    module _ (e : (tally_of h count t).refusal ≡ None) where
+    module _ (e : (tally_of h count t).outcome ≡ Ok tt) where
       abbrev figures : List ℤ
       figures = (tally_of h count t).tally.figures
 
       of-tally : Tallied h count t figures
-      of-tally = tallied h count t (tally_of h count t).tally (ap (λ (x : Refusal). taken_with (tally_of h count t).tally x) e)
+      of-tally = tallied h count t (tally_of h count t).tally (ap (λ (x : Result Unit Untallied). taken_with (tally_of h count t).tally x) e)
 
       -- in row order, and so in the file's
       listed-add : sum_at value t (sup_borders h count t) ≡ g figures
@@ -228,7 +229,7 @@ ones-sum t [] = refl
 ones-sum t (d ∷ s) = ap (λ (z : ℤ). pos 1 +ℤ z) (ones-sum t s) ∙ ap pos (omega arith)
 
 -- of a sheet whose tally is not refused
-module _ (h : Header) (count : ℕ) (t : Tables) (m : Small t) (e : (tally_of h count t).refusal ≡ None) where
+module _ (h : Header) (count : ℕ) (t : Tables) (m : Small t) (e : (tally_of h count t).outcome ≡ Ok tt) where
   -- "the figures are those of the sheet's tally": the exact nets that the file lists are together the net of their class
   pub listed-nets : net_sum (codes_in_order h count t) ≡ net_in (tally_of h count t).tally.figures (listed_class h.kind)
   unfolding codes_in_order

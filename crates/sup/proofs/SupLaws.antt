@@ -8,6 +8,7 @@ use lib.ListN.{length, replicate, length-append, length-replicate}
 use lib.IntN.{ℤ, pos, negsuc, ◌+ℤ◌, ◌-ℤ◌, ◌*ℤ◌}
 use lib.Signed.{le_z, lt_z, shr_z}
 use lib.Dec.{lit≤}
+use Rattle.std.specs.Prelude.{None}
 use Rattle.laws.proofs.Parts.{num, diff, sum, eq-parts, neg-P, neg-N, le-true, lt-true}
 use Rattle.heading.specs.declared.Header.{Header}
 use Rattle.spelling.specs.Spelling.{aligned}
@@ -16,7 +17,6 @@ use Rattle.spelling.proofs.SpellingLaws.{aligned-length}
 use Rattle.spelling.proofs.FigureLaws.{figure-length}
 use Rattle.sheet.specs.Tables.{Tables}
 use Rattle.row.specs.declared.Stand.{Stand}
-use Rattle.order.specs.declared.LongCode.TheVariants.{Nowhere}
 use Rattle.order.specs.Sorting.{EachOf, EachOf.each_nil, EachOf.each_on}
 use Rattle.order.specs.SupBorders.{sup_borders, first_long}
 use Rattle.order.specs.SupOrder.{sup_in_order}
@@ -151,7 +151,7 @@ listed-short t [] each_nil = unnamed
 listed-short t (d ∷ s) (each_on h e) = named h (listed-short t s e)
 
 -- where neither 22 nor 23 is met, every line fits
-pub lines_fit : (h : Header) (count : ℕ) (t : Tables) (f : List ℤ) → first_long h count t ≡ Nowhere → first_wide h.kind f (codes_in_order h count t) ≡ 0
+pub lines_fit : (h : Header) (count : ℕ) (t : Tables) (f : List ℤ) → first_long h count t ≡ None → first_wide h.kind f (codes_in_order h count t) ≡ 0
     → Fittings (figure_lines h.kind f (codes_in_order h count t))
 unfolding codes_in_order
 lines_fit h count t f l w =
@@ -160,7 +160,7 @@ lines_fit h count t f l w =
 
 -- and "the length is 23 times the lines": fourteen, and one for each border that is listed
 pub sup-length : (h : Header) (count : ℕ) (t : Tables) (date : List ℕ) (f : List ℤ) → length h.name ≤ 11 → length date ≤ 10
-    → first_long h count t ≡ Nowhere → first_wide h.kind f (codes_in_order h count t) ≡ 0
+    → first_long h count t ≡ None → first_wide h.kind f (codes_in_order h count t) ≡ 0
     → length (sup_text h date f (codes_in_order h count t)) ≡ 23 * (14 + length (sup_borders h count t))
 unfolding codes_in_order
 sup-length h count t date f n d l w =

@@ -1,23 +1,22 @@
 -- The ways through the functions that judge and store all lines: those before the listed borders, theirs, those behind. Assumes nothing.
 use Prim.Native.Nat.{ℕ, suc, ◌+◌, ◌*◌, ◌^◌, ◌≤◌, ◌<◌}
 use mathlib.Core.Path.{◌≡◌, refl, sym, ap, subst, ◌∙◌}
-use mathlib.Core.List.{List, [], ◌∷◌, ◌++◌, map, append_assoc}
+use mathlib.Core.List.{List, [], ◌∷◌, ◌++◌, append_assoc}
 use mathlib.Core.Bool.{Bool, true, false, cond, not, ◌&&◌}
 use native.Mathlib.Nat.{zero-add}
 use native.Mathlib.Omega.{arith}
-use lib.ListN.{length, drop, length-map}
-use lib.Dec.{eqb}
+use lib.ListN.{length, drop}
 use lib.IntN.{ℤ, pos, negsuc}
 use lib.Signed.{mag, le_z}
-use borrow.Author.Tests.{not-true, not-false, ne_eqb, eqb-true, le-leb, lt-leb}
+use borrow.Author.Tests.{not-true, not-false, ne_eqb, le-leb, lt-leb}
+use Rattle.std.specs.Prelude.{Option, Some, None, Ok, Err}
 use Rattle.laws.specs.Lists.{over}
 use Rattle.laws.specs.Text.{text}
 use Rattle.laws.proofs.Parts.{le_yes}
-use Rattle.laws.proofs.Choice.{and_left, and_right, true≢false}
+use Rattle.laws.proofs.Choice.{and_left, and_right}
 use Rattle.heading.specs.declared.Header.{Header}
 use Rattle.sheet.specs.Tables.{Tables}
 use Rattle.record.specs.declared.Mode.TheVariants.{Loose}
-use Rattle.made.specs.declared.Verdict.TheVariants.{Fine}
 use Rattle.made.specs.Made.{tables_of, none_before, judge_rows}
 use Rattle.row.proofs.SeekLaws.{fine-rows}
 use Rattle.row.specs.declared.Stand.{Stand}
@@ -25,30 +24,27 @@ use Rattle.row.specs.Walk.{first_stand}
 use Rattle.spelling.specs.Figures.{is_narrow, figure_text}
 use Rattle.writer.specs.Put.{Put}
 use Rattle.writer.proofs.Putting.{Putting, putting-start, putting-room, putting-on, putting-last}
-use Rattle.order.specs.declared.LongCode.{LongCode}
-use Rattle.order.specs.declared.LongCode.TheVariants.{Nowhere, Row}
 use Rattle.order.specs.Sorting.{EachOf, EachOf.each_nil, EachOf.each_on}
 use Rattle.order.specs.SupBorders.{sup_borders, first_long}
 use Rattle.order.specs.SupOrder.{sup_in_order}
 use Rattle.order.proofs.OrderLaws.{in-order-counted, in-order-length}
 use Rattle.order.proofs.LongLaws.{long-own}
-use Rattle.tally.specs.declared.Refusal.{Refusal}
-use Rattle.tally.specs.declared.Refusal.TheVariants.{None, Sheet, Missing, Full, Wide}
+use Rattle.tally.specs.declared.Untallied.{Untallied}
 use Rattle.tally.specs.declared.Taken.{Taken}
 use Rattle.tally.specs.Tally.{Good}
-use Rattle.tally.specs.Take.{is_none, tally_of}
+use Rattle.tally.specs.Take.{tally_of}
 use Rattle.tally.proofs.RunningLaws.{tally-good, tally-fine}
-use Rattle.sup.specs.declared.Total.{Total}
-use Rattle.sup.specs.declared.Total.TheVariants.{Is, Past}
-use Rattle.sup.specs.declared.SupAnswer.TheVariants.{Wrote, NoRoom, Refused, BadDate, CodeTooLong, PastTotal, WideFigure}
+use Rattle.sup.specs.declared.NoSup.TheVariants.{NoRoom, Refused, BadDate, CodeTooLong, PastTotal, WideFigure}
 use Rattle.sup.specs.Date.{is_date}
 use Rattle.sup.specs.Lines.{FigureLine, left_field, fields_line, date_text, lines_text}
 use Rattle.sup.specs.Sup.{exact_total, is_limited, head_lines, foot_lines, listed_lines, figure_lines, figures_in, wide_from, first_wide, sup_text, CodeNet}
-use Rattle.sup.specs.Answer.{code_nets, codes_in_order, sheet_sup, stored_sup, lined_sup, printed_sup, dated_sup, after_tally, sup_of}
+use Rattle.sup.specs.Answer.{code_nets, codes_in_order, sheet_sup, stored_sup, lined_sup, printed_sup, dated_sup, sup_of}
 use Rattle.sup.specs.Printing.{are_narrow, named_text, metres_left, is_any_wide_from}
 use Rattle.sup.specs.ExactAreas.{exact_areas, exact_of}
 use Rattle.sup.specs.Totals.{total_of}
+use Rattle.sup.proofs.DateWays.{date-eight}
 use Rattle.sup.proofs.SupLaws.{sup-length}
+use Rattle.sup.proofs.WroteLaws.{header-named}
 use Rattle.sup.proofs.ListedWays.{Narrow, none-wide}
 
 -- ---- the first wide figure of lists one behind the other
@@ -150,10 +146,6 @@ module _ (h : Header) (count : ℕ) (t : Tables) (f : List ℤ) where
 
 -- ---- the text, part by part
 
--- a name's eleven places, by way of a map of it
-pub name-fits : {A : Type 0} (B : Type 0) (g : A → B) (s : List A) → length (map g s) ≡ 11 → length s ≤ 11
-name-fits B g s e = omega (arith, length-map s g)
-
 lines-append : (a b : List FigureLine) → lines_text (a ++ b) ≡ lines_text a ++ lines_text b
 unfolding lines_text
 lines-append [] b = refl
@@ -210,10 +202,6 @@ module _ (h : Header) (count : ℕ) (t : Tables) (f : List ℤ) (none : first_wi
   foot-asks b e =
       (omega (arith, feet-few h count t f b e), rw e (narrow-append (listed h count t f) (feet h count t f) behind-narrow).1)
 
-pub date-eight : (s : List ℕ) → is_date s ≡ true → length s ≡ 8
-unfolding is_date
-date-eight s e = eqb-true (length s) 8 (and_left (eqb (length s) 8) _ e)
-
 module _ (h : Header) (count : ℕ) (t : Tables) (f : List ℤ) (date : List ℕ) (a : List ℤ) (ea : a ≡ heads h count t f) (b : List ℤ) (eb : b ≡ feet h count t f)
     (l : List ℕ) (room : length (sup_text h date f (codes_in_order h count t)) ≤ length l) where
   abbrev whole : List ℕ
@@ -264,21 +252,21 @@ module _ (h : Header) (count : ℕ) (t : Tables) (f : List ℤ) (date : List ℕ
 
 -- ---- the answers
 
-pub past_is : (z : ℤ) → total_of z ≡ Past → is_limited z ≡ false
+pub past_is : (z : ℤ) → total_of z ≡ None → is_limited z ≡ false
 unfolding total_of
 past_is z = go (is_limited z)
   where
-    go : (b : Bool) → cond b (Is z) Past ≡ Past → b ≡ false
-    go true q = absurd (let k : ◌≡◌ {A = ℕ} 0 1 = cc in omega arith)
+    go : (b : Bool) → cond b (Some z) None ≡ None → b ≡ false
+    go true q = absurd cc
     go false q = refl
 
-pub is-is : (z d : ℤ) → total_of z ≡ Is d → (is_limited z ≡ true) × (d ≡ z)
+pub is-is : (z d : ℤ) → total_of z ≡ Some d → (is_limited z ≡ true) × (d ≡ z)
 unfolding total_of
 is-is z d = go (is_limited z)
   where
-    go : (b : Bool) → cond b (Is z) Past ≡ Is d → (b ≡ true) × (d ≡ z)
+    go : (b : Bool) → cond b (Some z) None ≡ Some d → (b ≡ true) × (d ≡ z)
     go true q = (refl, cc)
-    go false q = absurd (let k : ◌≡◌ {A = ℕ} 0 1 = cc in omega arith)
+    go false q = absurd cc
 
 -- what keeps the limit fits
 pub limited-small : (z : ℤ) → is_limited z ≡ true → mag z < 2 ^ 63
@@ -293,7 +281,7 @@ module _ (h : Header) (count : ℕ) (rows : List ℤ) (letters islands : List �
   pub listed-counted : (n : ℕ) → n ≡ length (sup_borders h count (tables_of rows letters [] [])) → n ≡ length (sup_borders h count tables)
   listed-counted n e = e ∙ sym (in-order-counted h count rows letters islands points) ∙ in-order-length h count tables
 
-  pub long-known : (x : LongCode) → x ≡ first_long h count (tables_of rows letters [] []) → x ≡ first_long h count tables
+  pub long-known : (x : Option ℕ) → x ≡ first_long h count (tables_of rows letters [] []) → x ≡ first_long h count tables
   long-known x e = e ∙ sym (long-own h count rows letters islands points)
 
 module _ (h : Header) (count : ℕ) (t : Tables) (date : List ℕ) (f : List ℤ) (room : ℕ) where
@@ -301,11 +289,11 @@ module _ (h : Header) (count : ℕ) (t : Tables) (date : List ℕ) (f : List ℤ
   codes = codes_in_order h count t
 
   module _ (w : ℕ) (e : w ≡ first_wide h.kind f codes) where
-    pub lined-wide : (w ≡ 0 → ⊥) → WideFigure w ≡ lined_sup h date f codes room
+    pub lined-wide : (w ≡ 0 → ⊥) → Err (WideFigure w) ≡ lined_sup h date f codes room
     unfolding lined_sup
     lined-wide n = rw (← e, ne_eqb w 0 n)
 
-    module _ (z : w ≡ 0) (name : length h.name ≤ 11) (fit : first_long h count t ≡ Nowhere) (day : is_date date ≡ true)
+    module _ (z : w ≡ 0) (name : length h.name ≤ 11) (fit : first_long h count t ≡ None) (day : is_date date ≡ true)
         (n : ℕ) (en : n ≡ length (sup_borders h count t)) where
       none_is : first_wide h.kind f codes ≡ 0
       none_is = sym e ∙ z
@@ -313,23 +301,23 @@ module _ (h : Header) (count : ℕ) (t : Tables) (date : List ℕ) (f : List ℤ
       size_is : length (sup_text h date f codes) ≡ 23 * (14 + n)
       size_is = sup-length h count t date f name (omega (arith, date-eight date day)) fit none_is ∙ rw en
 
-      pub lined-tight : room < 23 * (14 + n) → NoRoom (23 * (14 + n)) ≡ lined_sup h date f codes room
+      pub lined-tight : room < 23 * (14 + n) → Err (NoRoom (23 * (14 + n))) ≡ lined_sup h date f codes room
       unfolding lined_sup stored_sup
       lined-tight k = rw (none_is, size_is, lt-leb (23 * (14 + n)) room k)
 
       pub lined-room : 23 * (14 + n) ≤ room → length (sup_text h date f codes) ≤ room
       lined-room k = omega (arith, size_is)
 
-      pub lined-whole : 23 * (14 + n) ≤ room → Wrote (23 * (14 + n)) ≡ lined_sup h date f codes room
+      pub lined-whole : 23 * (14 + n) ≤ room → Ok (23 * (14 + n)) ≡ lined_sup h date f codes room
       unfolding lined_sup stored_sup
       lined-whole k = rw (none_is, size_is, le-leb (23 * (14 + n)) room k)
 
-  module _ (x : Total) (e : x ≡ total_of (exact_total h.kind f)) where
-    pub total-past : x ≡ Past → PastTotal ≡ printed_sup h date f codes room
+  module _ (x : Option ℤ) (e : x ≡ total_of (exact_total h.kind f)) where
+    pub total-past : x ≡ None → Err PastTotal ≡ printed_sup h date f codes room
     unfolding printed_sup
     total-past p = rw (past_is (exact_total h.kind f) (sym e ∙ p))
 
-    module _ (d : ℤ) (p : x ≡ Is d) where
+    module _ (d : ℤ) (p : x ≡ Some d) where
       pub total-is : d ≡ exact_total h.kind f
       total-is = (is-is (exact_total h.kind f) d (sym e ∙ p)).1
 
@@ -340,39 +328,33 @@ module _ (h : Header) (count : ℕ) (t : Tables) (date : List ℕ) (f : List ℤ
       unfolding printed_sup
       total-on = rw (is-is (exact_total h.kind f) d (sym e ∙ p)).0
 
-  pub date-bad : (b : Bool) → b ≡ is_date date → not b ≡ true → BadDate ≡ dated_sup h count t date f room
+  pub date-bad : (b : Bool) → b ≡ is_date date → not b ≡ true → Err BadDate ≡ dated_sup h count t date f room
   unfolding dated_sup
   date-bad b e q = rw (← e, not-true b q)
 
-  module _ (b : Bool) (e : b ≡ is_date date) (q : not b ≡ false) (x : LongCode) (ex : x ≡ first_long h count t) where
+  module _ (b : Bool) (e : b ≡ is_date date) (q : not b ≡ false) (x : Option ℕ) (ex : x ≡ first_long h count t) where
     pub date-good : is_date date ≡ true
     date-good = sym e ∙ not-false b q
 
-    pub code-long : (k : ℕ) → x ≡ Row k → CodeTooLong k ≡ dated_sup h count t date f room
+    pub code-long : (k : ℕ) → x ≡ Some k → Err (CodeTooLong k) ≡ dated_sup h count t date f room
     unfolding dated_sup
     code-long k p = rw (date-good, ← ex, p)
 
-    pub codes-fine : x ≡ Nowhere → printed_sup h date f codes room ≡ dated_sup h count t date f room
+    pub codes-fine : x ≡ None → printed_sup h date f codes room ≡ dated_sup h count t date f room
     unfolding dated_sup
     codes-fine p = rw (date-good, ← ex, p)
 
 module _ (h : Header) (count : ℕ) (t : Tables) (date : List ℕ) (room : ℕ) (x : Taken) (e : x ≡ tally_of h count t) where
   -- refused, the answer is the tally's refusal
-  pub tally-refused : (r : Refusal) → x.refusal ≡ r → (is_none r ≡ false) → Refused r ≡ sup_of h count t date room
+  pub tally-refused : (u : Untallied) → x.outcome ≡ Err u → Err (Refused u) ≡ sup_of h count t date room
   unfolding sup_of
-  tally-refused r q n = by r n ∙ rw (← e, q)
-    where
-      by : (v : Refusal) → is_none v ≡ false → Refused v ≡ after_tally v (dated_sup h count t date (tally_of h count t).tally.figures room)
-      by None n = absurd (true≢false n)
-      by (Sheet v) n = refl
-      by Missing n = refl
-      by (Full k) n = refl
-      by (Wide k) n = refl
+  tally-refused u q = rw (← e, q)
 
-  module _ (q : x.refusal ≡ None) where
-    pub tally-asks : (judge_rows Loose count none_before t ≡ Fine) × Good x.tally.figures
+  module _ (q : x.outcome ≡ Ok tt) where
+    pub tally-asks : (judge_rows Loose count none_before t ≡ Ok tt) × Good x.tally.figures × (length h.name ≤ 11)
     tally-asks =
-        (fine-rows h count t (tally-fine h count t (sym (ap (λ (y : Taken). y.refusal) e) ∙ q)), rw e (tally-good h count t))
+        let f = tally-fine h count t (sym (ap (λ (y : Taken). y.outcome) e) ∙ q) in
+        (fine-rows h count t f, rw e (tally-good h count t), header-named h count t f)
 
     pub tally-on : dated_sup h count t date x.tally.figures room ≡ sup_of h count t date room
     unfolding sup_of
@@ -388,7 +370,7 @@ module _ (h : Header) (count : ℕ) (t : Tables) (x : Taken) (e : x ≡ tally_of
   pub exact-good : Good x.tally.figures
   exact-good = rw e (tally-good h count t)
 
-  pub exact-is : (y : Total) → y ≡ total_of (exact_total h.kind x.tally.figures) → (a : List ℤ) → a ≡ exact_areas h.kind x.tally.figures
-      → record { refusal = x.refusal; figures = x.tally.figures; total = y; areas = a } ≡ exact_of h count t
+  pub exact-is : (y : Option ℤ) → y ≡ total_of (exact_total h.kind x.tally.figures) → (a : List ℤ) → a ≡ exact_areas h.kind x.tally.figures
+      → record { outcome = x.outcome; figures = x.tally.figures; total = y; areas = a } ≡ exact_of h count t
   unfolding exact_of
   exact-is y ey a ea = rw (ey, ea, e)

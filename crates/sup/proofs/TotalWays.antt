@@ -22,8 +22,7 @@ use Rattle.classes.specs.declared.Class.TheVariants.{Confine, Other, Road, Water
 use Rattle.tally.specs.Tally.{is_figure}
 use Rattle.tally.proofs.TallyWays.{figure-fits}
 use Rattle.spelling.specs.Figures.{is_narrow}
-use Rattle.sup.specs.declared.Total.{Total}
-use Rattle.sup.specs.declared.Total.TheVariants.{Is, Past}
+use Rattle.std.specs.Prelude.{Option, Some, None}
 use Rattle.sup.specs.Sup.{is_limited, wide_from, borders_in, islands_in, net_in, inner_in, exact_total, exact_confine, outer_in, head_lines, balance, foot_lines, figures_in}
 use Rattle.sup.proofs.RoundWays.{metres-small}
 use Rattle.sup.specs.Metres.{metres_of}
@@ -132,14 +131,14 @@ module _ (h l z : ℤ) (e : h *ℤ billion +ℤ l ≡ z) (w : Within 3999999996 
   linear : P z + (N h * 1000000000 + N l) ≡ (P h * 1000000000 + P l) + N z
   linear = rw (← e) (omega (arith, add_parts (h *ℤ billion) l, times h))
 
-  pub limit-over : lt_z (pos 9100000000) h ≡ true → Past ≡ total_of z
+  pub limit-over : lt_z (pos 9100000000) h ≡ true → None ≡ total_of z
   unfolding total_of is_limited
   limit-over t =
       let q : le_z z (pos 9000000000000000000) ≡ false
       = le_not_lt z (pos 9000000000000000000) true (lt-true (pos 9000000000000000000) z (omega (arith, ints, linear, num l, w.within))) in
       rw (q, and-false (le_z (negsuc 8999999999999999999) z))
 
-  pub limit-under : lt_z h (negsuc 9099999999) ≡ true → Past ≡ total_of z
+  pub limit-under : lt_z h (negsuc 9099999999) ≡ true → None ≡ total_of z
   unfolding total_of is_limited
   limit-under t =
       let q : le_z (negsuc 8999999999999999999) z ≡ false
@@ -149,15 +148,15 @@ module _ (h l z : ℤ) (e : h *ℤ billion +ℤ l ≡ z) (w : Within 3999999996 
   pub high-near : lt_z (pos 9100000000) h ≡ false → lt_z h (negsuc 9099999999) ≡ false → Within 9100000000 h
   high-near s t = record { within = omega (arith, ints, num h) }
 
-pub total-over : (z : ℤ) → lt_z (pos 9000000000000000000) z ≡ true → Past ≡ total_of z
+pub total-over : (z : ℤ) → lt_z (pos 9000000000000000000) z ≡ true → None ≡ total_of z
 unfolding total_of is_limited
 total-over z t = rw (le_not_lt z (pos 9000000000000000000) true t, and-false (le_z (negsuc 8999999999999999999) z))
 
-pub total-under : (z : ℤ) → lt_z z (negsuc 8999999999999999999) ≡ true → Past ≡ total_of z
+pub total-under : (z : ℤ) → lt_z z (negsuc 8999999999999999999) ≡ true → None ≡ total_of z
 unfolding total_of is_limited
 total-under z t = rw (le_not_lt (negsuc 8999999999999999999) z true t)
 
-pub total-within : (z : ℤ) → lt_z (pos 9000000000000000000) z ≡ false → lt_z z (negsuc 8999999999999999999) ≡ false → Is z ≡ total_of z
+pub total-within : (z : ℤ) → lt_z (pos 9000000000000000000) z ≡ false → lt_z z (negsuc 8999999999999999999) ≡ false → Some z ≡ total_of z
 unfolding total_of is_limited
 total-within z s t = rw (le_not_lt z (pos 9000000000000000000) false s, le_not_lt (negsuc 8999999999999999999) z false t)
 
@@ -177,10 +176,10 @@ module _ (a b c d : ℤ) (fa : SFits w64 a) (fb : SFits w64 b) (fc : SFits w64 c
     high-back : at64 h ≡ high_sum a b c d
     high-back = back h ok ∙ high-as
 
-    pub high-over : lt_z (pos 9100000000) (at64 h) ≡ true → Past ≡ total_of whole
+    pub high-over : lt_z (pos 9100000000) (at64 h) ≡ true → None ≡ total_of whole
     high-over t = limit-over (high_sum a b c d) (low_sum a b c d) whole (split a b c d) (lows-within a b c d) (rw high-back at t)
 
-    pub high-under : lt_z (at64 h) (negsuc 9099999999) ≡ true → Past ≡ total_of whole
+    pub high-under : lt_z (at64 h) (negsuc 9099999999) ≡ true → None ≡ total_of whole
     high-under t = limit-under (high_sum a b c d) (low_sum a b c d) whole (split a b c d) (lows-within a b c d) (rw high-back at t)
 
     module _ (s : lt_z (pos 9100000000) (at64 h) ≡ false) (t : lt_z (at64 h) (negsuc 9099999999) ≡ false) where
@@ -208,15 +207,15 @@ module _ (a b c d : ℤ) (fa : SFits w64 a) (fb : SFits w64 b) (fc : SFits w64 c
         found-is : found ≡ whole
         found-is = (holds-add (holds-mul near-holds unit-holds (lit< tt)) lows-holds (lit< tt)).reads ∙ split a b c d
 
-        pub found-over : lt_z (pos 9000000000000000000) found ≡ true → Past ≡ total_of whole
+        pub found-over : lt_z (pos 9000000000000000000) found ≡ true → None ≡ total_of whole
         found-over x = total-over whole (rw found-is at x)
 
         module _ (x : lt_z (pos 9000000000000000000) found ≡ false) where
-          pub found-under : lt_z found (negsuc 8999999999999999999) ≡ true → Past ≡ total_of whole
+          pub found-under : lt_z found (negsuc 8999999999999999999) ≡ true → None ≡ total_of whole
           found-under y = total-under whole (rw found-is at y)
 
-          pub found_within : lt_z found (negsuc 8999999999999999999) ≡ false → Is found ≡ total_of whole
-          found_within y = ap Is found-is ∙ total-within whole (rw found-is at x) (rw found-is at y)
+          pub found_within : lt_z found (negsuc 8999999999999999999) ≡ false → Some found ≡ total_of whole
+          found_within y = ap Some found-is ∙ total-within whole (rw found-is at x) (rw found-is at y)
 
 -- ---- the first wide figure
 
@@ -260,7 +259,7 @@ module _ (a b : ℤ) (p : is_figure a ≡ true) (q : is_figure b ≡ true) where
   pub net-is : to_z w64 (of_z w64 (to_z w64 (of_z w64 a) -ℤ to_z w64 (of_z w64 b))) ≡ a -ℤ b
   net-is = to_z-of_z net-asks ∙ rw (to_z-of_z (figure-fits a p), to_z-of_z (figure-fits b q))
 
-module _ (kind : ℕ) (f : List ℤ) (r : Total) where
+module _ (kind : ℕ) (f : List ℤ) (r : Option ℤ) where
   pub sheet-union : kind ≡ 3 → (n : ℤ) → n ≡ net_in f Other → mag n < 2 ^ 63 → r ≡ total_of (to_z w64 (of_z w64 n) +ℤ (pos 0 +ℤ (pos 0 +ℤ pos 0)))
       → r ≡ total_of (exact_total kind f)
   unfolding exact_total

@@ -17,7 +17,7 @@ exact_areas kind f = net_in f Building ∷ net_in f Parcel ∷ net_in f Road ∷
 abbrev pub exact_with : ℕ → Taken → ExactSheet
 exact_with kind x =
     record {
-      refusal = x.refusal;
+      outcome = x.outcome;
       figures = x.tally.figures;
       total = total_of (exact_total kind x.tally.figures);
       areas = exact_areas kind x.tally.figures;

@@ -1,12 +1,12 @@
 -- SUP files of small sheets, computed from their tables: document 02, T-01, and T-07 (one border followed by another). Assumes nothing.
-use Rattle.std.specs.Prelude.{ℕ, ◌+◌, ◌*◌, ◌/◌, ◌≡◌, refl, List, [], ◌∷◌, ◌++◌, length, take, replicate, ℤ, pos, neg_ℤ}
+use Rattle.std.specs.Prelude.{ℕ, ◌+◌, ◌*◌, ◌/◌, ◌≡◌, refl, List, [], ◌∷◌, ◌++◌, length, take, replicate, ℤ, pos, neg_ℤ, Ok, Err}
 use Rattle.laws.specs.Text.{text}
 use Rattle.heading.specs.declared.Header.{Header}
 use Rattle.sheet.specs.Tables.{Tables, move_at, move_from, ◌followed◌}
 use Rattle.made.specs.Made.{tables_of}
 use Rattle.made.specs.Examples.{header, at_first, labelled}
 use Rattle.tally.specs.Tally.{no_figures}
-use Rattle.sup.specs.declared.SupAnswer.TheVariants.{Wrote, PastTotal, WideFigure}
+use Rattle.sup.specs.declared.NoSup.TheVariants.{PastTotal, WideFigure}
 use Rattle.sup.specs.Sup.{sup_text}
 use Rattle.sup.specs.Answer.{sheet_sup, printed_sup, sup_of}
 use Rattle.sup.specs.AnswerExamples.{computed as computed_answer}
@@ -121,7 +121,7 @@ elevens = of_metres (text "12345678901") 5 followed of_metres (text "1234567890+
 
 eleven-text : (sheet_sup (header 1) 3 elevens today
     ≡ text "Z999_000100  20261115\r\nN.FABBRIC           1\r\nN.PARTIC            2\r\nN.STRADE            0\r\nN.ACQUE             0\r\nN.SVIL-ALL          0\r\nFABBRIC             2\r\n12345678901         5\r\nS1234567890         3\r\nPARTIC              8\r\nSTRADE              0\r\nACQUE               0\r\nSVIL-ALL            0\r\nTOTALE              8\r\nCONFINE             0\r\nSBILANCIO           8\r\n")
-    × (sup_of (header 2) 3 elevens today 345 ≡ Wrote 345)
+    × (sup_of (header 2) 3 elevens today 345 ≡ Ok 345)
 unfolding computed
 eleven-text = (refl, refl)
 
@@ -140,29 +140,29 @@ union-text : sheet_sup union_header 9 union_sheet today
 unfolding computed
 union-text = refl
 
-written : (sup_of (header 1) 7 halves today 483 ≡ Wrote 483) × (sup_of (header 1) 12 many_codes today 575 ≡ Wrote 575) × (sup_of union_header 9 union_sheet today 391 ≡ Wrote 391)
+written : (sup_of (header 1) 7 halves today 483 ≡ Ok 483) × (sup_of (header 1) 12 many_codes today 575 ≡ Ok 575) × (sup_of union_header 9 union_sheet today 391 ≡ Ok 391)
 unfolding computed
 written = (refl, refl, refl)
 
 -- ---- 23: a figure over 10 characters, with the first such line; before 14
 
 -- 25 sides are 10,000,000,000 m2, with an island of 1 m2 one less; `1` stands at line 8, `2` at line 9
-wide-plus : (sup_of (header 1) 2 (bare (text "2") (around 25 20000000) followed of_metres (text "1") 1) today 0 ≡ WideFigure 9)
-    × (sup_of (header 1) 1 (holed (text "2") (around 25 20000000) (box 1000 1000)) today 345 ≡ Wrote 345)
+wide-plus : (sup_of (header 1) 2 (bare (text "2") (around 25 20000000) followed of_metres (text "1") 1) today 0 ≡ Err (WideFigure 9))
+    × (sup_of (header 1) 1 (holed (text "2") (around 25 20000000) (box 1000 1000)) today 345 ≡ Ok 345)
 unfolding computed
 wide-plus = (refl, refl)
 
 -- the minus counts: 10 sides are 1,000,000,000 m2, below zero one too many; 1 m2 more and they fit
-wide-minus : (sup_of (header 1) 1 (holed (text "2") (triangle 0 0) (around 10 10000000)) today 0 ≡ WideFigure 8)
-    × (sup_of (header 1) 1 (holed (text "2") (box 1000 1000) (around 10 10000000)) today 345 ≡ Wrote 345)
+wide-minus : (sup_of (header 1) 1 (holed (text "2") (triangle 0 0) (around 10 10000000)) today 0 ≡ Err (WideFigure 8))
+    × (sup_of (header 1) 1 (holed (text "2") (box 1000 1000) (around 10 10000000)) today 345 ≡ Ok 345)
 unfolding computed
 wide-minus = (refl, refl)
 
 -- the first line: FABBRIC before a parcel; PARTIC of two parcels that fit, TOTALE of a parcel and a road that fit; SBILANCIO alone
-wide-lines : (sup_of (header 1) 2 (bare (text "1") (around 25 20000000) followed bare (text "7+") (around 25 20000000)) today 0 ≡ WideFigure 7)
-    × (sup_of (header 1) 2 (bare (text "1") (around 15 20000000) followed bare (text "2") (around 15 20000000)) today 0 ≡ WideFigure 10)
-    × (sup_of (header 1) 2 (bare (text "1") (around 15 20000000) followed bare (text "STRADA") (around 15 20000000)) today 0 ≡ WideFigure 13)
-    × (sup_of (header 1) 1 (bare (text "Z999_000100") (around 10 10000000)) today 0 ≡ WideFigure 14)
+wide-lines : (sup_of (header 1) 2 (bare (text "1") (around 25 20000000) followed bare (text "7+") (around 25 20000000)) today 0 ≡ Err (WideFigure 7))
+    × (sup_of (header 1) 2 (bare (text "1") (around 15 20000000) followed bare (text "2") (around 15 20000000)) today 0 ≡ Err (WideFigure 10))
+    × (sup_of (header 1) 2 (bare (text "1") (around 15 20000000) followed bare (text "STRADA") (around 15 20000000)) today 0 ≡ Err (WideFigure 13))
+    × (sup_of (header 1) 1 (bare (text "Z999_000100") (around 10 10000000)) today 0 ≡ Err (WideFigure 14))
 unfolding computed
 wide-lines = (refl, refl, refl, refl)
 
@@ -174,8 +174,8 @@ sunken road parcel =
     replicate 8 (pos 0) ++ (pos 1 ∷ pos 0 ∷ pos 1 ∷ pos road ∷ replicate 8 (pos 0)) ++ (pos 1 ∷ pos 0 ∷ pos 1 ∷ pos parcel ∷ [])
 
 -- -9,000,000,000,000,000,000 passes, and PARTIC is then too wide; one less does not. A union sheet has no such sum
-past-below : (printed_sup (header 1) today (sunken 4200000000000000000 4800000000000000000) [] 0 ≡ WideFigure 8)
-    × (printed_sup (header 1) today (sunken 4200000000000000001 4800000000000000000) [] 0 ≡ PastTotal)
-    × (printed_sup union_header today (sunken 4200000000000000001 4800000000000000000) [] 0 ≡ WideFigure 8)
+past-below : (printed_sup (header 1) today (sunken 4200000000000000000 4800000000000000000) [] 0 ≡ Err (WideFigure 8))
+    × (printed_sup (header 1) today (sunken 4200000000000000001 4800000000000000000) [] 0 ≡ Err PastTotal)
+    × (printed_sup union_header today (sunken 4200000000000000001 4800000000000000000) [] 0 ≡ Err (WideFigure 8))
 unfolding computed
 past-below = (refl, refl, refl)

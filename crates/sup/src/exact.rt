@@ -1,12 +1,12 @@
 // A sheet's tally with the exact areas that its SUP file rounds (document 02, T-01).
 ghost use Rattle.std.specs.Prelude.{◌≡◌};
-ghost use Rattle.made.specs.Made.{tables_of};
+ghost use Rattle.made.specs.Made.{tables};
 ghost use Rattle.tally.specs.Tally.{Good};
 ghost use Rattle.sup.specs.ExactAreas.{exact_areas, exact_of};
 
 use crate::ExactSheet;
 use crate::totalling::{net_in, sheet_confine, sheet_total};
-use heading::Header;
+use made::Sheet;
 use tally::tally_sheet;
 
 const ROAD: usize = 2;
@@ -34,26 +34,15 @@ fn areas_in(kind: usize, figures: &[i64]) -> [i64; 6]
 }
 
 // The tally of a sheet, and its areas before they are rounded.
-pub fn sheet_exact(
-    header: Header,
-    count: usize,
-    rows: &[i64],
-    letters: &[u8],
-    islands: &[u16],
-    points: &[i64],
-) -> ExactSheet
-    ensures { result ≡ exact_of header count (tables_of rows.now letters.now islands.now points.now) }
+pub fn sheet_exact(sheet: &Sheet<'_>) -> ExactSheet
+    ensures { result ≡ exact_of sheet.now.header sheet.now.count (tables sheet.now.lent) }
 {
-    let taken = tally_sheet(header, count, rows, letters, islands, points);
-    let tally = taken.tally;
-    let figures = tally.figures;
-    let refusal = taken.refusal;
-    let total = sheet_total(header.kind, &figures);
-    let areas = areas_in(header.kind, &figures);
+    let taken = tally_sheet(sheet);
+    let figures = taken.tally.figures;
     ExactSheet {
-        refusal,
+        outcome: taken.outcome,
         figures,
-        total,
-        areas,
+        total: sheet_total(sheet.header.kind, &figures),
+        areas: areas_in(sheet.header.kind, &figures),
     }
 }

@@ -39,12 +39,9 @@ pub(crate) fn put_lines(out: &mut [u8], at: usize, names: &[u8], figures: &[i64]
     ensures { Put out.old at (named_text names.now figures.now) out.new result }
 {
     let mut next = at;
-    let mut i = 0;
-    while i < figures.len() {
+    for i in 0..figures.len() {
         let from = NAME_WIDTH * i;
-        let end = from + NAME_WIDTH;
-        next = put_line(out, next, &names[from..end], figures, i);
-        i += 1;
+        next = put_line(out, next, &names[from..from + NAME_WIDTH], figures, i);
     }
     next
 }

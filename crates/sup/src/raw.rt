@@ -78,10 +78,7 @@ fn put_figured(s: &mut [u8], i: usize)
 pub(crate) fn put_figures(s: &mut [u8])
     ensures { s.new ≡ figured_lines s.old }
 {
-    let n = s.len() / LINE_WIDTH;
-    let mut i = 0;
-    while i < n {
+    for i in 0..s.len() / LINE_WIDTH {
         put_figured(s, i);
-        i += 1;
     }
 }

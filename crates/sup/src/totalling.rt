@@ -4,7 +4,6 @@ ghost use Rattle.tally.specs.Tally.{Good};
 ghost use Rattle.sup.specs.Sup.{exact_total, exact_confine, head_lines, foot_lines, figures_in, wide_from};
 ghost use Rattle.sup.specs.Totals.{high_sum, low_sum, total_of};
 
-use crate::Total;
 use crate::rounding::metres_of;
 use spelling::is_narrow;
 
@@ -47,24 +46,18 @@ fn low_sum(a: i64, b: i64, c: i64, d: i64) -> i64
 }
 
 // The sum of four numbers, where it keeps the limit on either side of zero.
-fn total_of(a: i64, b: i64, c: i64, d: i64) -> Total
+fn total_of(a: i64, b: i64, c: i64, d: i64) -> Option<i64>
     ensures { result ≡ total_of (a +ℤ (b +ℤ (c +ℤ d))) }
 {
     let high = high_sum(a, b, c, d);
-    if high > HIGH_MOST {
-        return Total::Past;
-    }
-    if high < -HIGH_MOST {
-        return Total::Past;
+    if high > HIGH_MOST || high < -HIGH_MOST {
+        return None;
     }
     let total = high * BILLION + low_sum(a, b, c, d);
-    if total > LIMIT {
-        return Total::Past;
+    if total > LIMIT || total < -LIMIT {
+        return None;
     }
-    if total < -LIMIT {
-        return Total::Past;
-    }
-    Total::Is(total)
+    Some(total)
 }
 
 // The first figure of more than 10 characters, counted from `from`; 0 where there is none.
@@ -72,12 +65,10 @@ pub(crate) fn first_wide(figures: &[i64], from: usize) -> usize
     requires { from + length figures.now < 2 ^ 64 }
     ensures { result ≡ wide_from from figures.now }
 {
-    let mut i = 0;
-    while i < figures.len() {
+    for i in 0..figures.len() {
         if !is_narrow(figures[i]) {
             return from + i;
         }
-        i += 1;
     }
     0
 }
@@ -93,7 +84,7 @@ pub(crate) fn net_in(figures: &[i64], k: usize) -> i64
 }
 
 // TOTALE before it is rounded; past the limit it is refused (18).
-pub(crate) fn sheet_total(kind: usize, figures: &[i64]) -> Total
+pub(crate) fn sheet_total(kind: usize, figures: &[i64]) -> Option<i64>
     requires { Good figures.now }
     ensures { result ≡ total_of (exact_total kind figures.now) }
 {

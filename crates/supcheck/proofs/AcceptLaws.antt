@@ -14,8 +14,8 @@ use Rattle.laws.proofs.ListLaws.{left-none}
 use Rattle.heading.specs.declared.Header.{Header}
 use Rattle.sheet.specs.Tables.{Tables}
 use Rattle.classes.specs.declared.Class.TheVariants.{Confine, Road, Water, Building, Parcel}
-use Rattle.tally.specs.declared.Refusal.{Refusal}
-use Rattle.tally.specs.declared.Refusal.TheVariants.{None, Sheet, Missing, Full, Wide}
+use Rattle.std.specs.Prelude.{Result, Ok, Err}
+use Rattle.tally.specs.declared.Untallied.{Untallied}
 use Rattle.tally.specs.Take.{tally_of}
 use Rattle.spelling.specs.Figures.{figure_text}
 use Rattle.spelling.proofs.FigureLaws.{figure-length}
@@ -23,10 +23,11 @@ use Rattle.sup.specs.Lines.{FigureLine, fields_line, date_text, lines_text}
 use Rattle.sup.specs.Sup.{CodeNet, borders_in, islands_in, exact_total, is_limited, head_lines, figure_lines, figures_in}
 use Rattle.sup.specs.Answer.{codes_in_order}
 use Rattle.sup.proofs.SupLaws.{line-length}
-use Rattle.supcheck.specs.declared.SupChecked.TheVariants.{Accepted, PastTotal, WrongLine}
+use Rattle.supcheck.specs.declared.Unaccepted.{Unaccepted}
+use Rattle.supcheck.specs.declared.Unaccepted.TheVariants.{PastTotal, WrongLine}
 use Rattle.supline.specs.Right.{counted, DueLine, due_line, line_from, figure_in, date_in, is_right_line, is_right_date}
 use Rattle.supcheck.specs.Due.{due_under, head_dues, head_due, due_with, balance_in, due_lines}
-use Rattle.supcheck.specs.Checked.{right_from, right_lines, checked_lines, total_checked, after_tally, sup_checked}
+use Rattle.supcheck.specs.Checked.{SupChecked, right_from, right_lines, checked_lines, total_checked, after_tally, sup_checked}
 use Rattle.supcheck.specs.Allowed.{lines_with, Allowed, Allowed.none_due, Allowed.next_due, balance_of, text_with, AllowedFile}
 use Rattle.supcheck.proofs.RightLaws.{AllRight, AllRight.nothing, AllRight.onward, right-all, all_right}
 use Rattle.supcheck.proofs.DueLaws.{SameNames, SameNames.nameless, SameNames.alike, due-count, due-names}
@@ -44,6 +45,9 @@ figures-at s k [] i h = absurd (omega arith)
 figures-at s k (x ∷ l) zero h = ap (λ (m : ℕ). figure_in (line_from s m)) (let e : k ≡ k + 0 = omega arith in e)
 figures-at s k (x ∷ l) (suc i) h =
     figures-at s (k + 1) l i (omega arith) ∙ ap (λ (m : ℕ). figure_in (line_from s m)) (let e : k + 1 + i ≡ k + suc i = omega arith in e)
+
+refused≢fine : (u : Unaccepted) → ◌≡◌ {A = SupChecked} (Err u) (Ok tt) → ⊥
+refused≢fine u e = cc
 
 -- ---- right lines are T-01's lines with their figures
 
@@ -119,12 +123,12 @@ module _ (h : Header) (f : List ℤ) (c : List CodeNet) (s : List ℕ) where
       let q : 1 + (11 + size) ≡ 12 + size = omega arith in
       sym (rw (← e) (ap₂ (λ (x y : ℤ). x -ℤ y) (figures-at s 1 l (10 + size) (omega (arith, n)) ∙ ap (λ (m : ℕ). figure_in (line_from s m)) p) (figures-at s 1 l (11 + size) (omega (arith, n)) ∙ ap (λ (m : ℕ). figure_in (line_from s m)) q)))
 
-  pub accepted-lines : checked_lines h f c s ≡ Accepted → (right_lines h f c s ≡ 14 + size) × (length s ≡ 23 * (14 + size))
+  pub accepted-lines : checked_lines h f c s ≡ Ok tt → (right_lines h f c s ≡ 14 + size) × (length s ≡ 23 * (14 + size))
   unfolding checked_lines
   accepted-lines e =
       let a = eqb (right_lines h f c s) (14 + size) in
       let b = eqb (length s) (23 * (14 + size)) in
-      let q = cond-first (a && b) Accepted (WrongLine (right_lines h f c s + 1)) Accepted (λ g. let z : ◌≡◌ {A = ℕ} 0 1 = cc in omega arith) e in
+      let q = cond-first (a && b) (Ok tt) (Err (WrongLine (right_lines h f c s + 1))) (Ok tt) (refused≢fine (WrongLine (right_lines h f c s + 1))) e in
       (eqb-true (right_lines h f c s) (14 + size) (and_left a b q.0), eqb-true (length s) (23 * (14 + size)) (and_right a b q.0))
 
   lines-count : length (due_lines h.kind f c s) ≡ 13 + size
@@ -146,7 +150,7 @@ module _ (h : Header) (f : List ℤ) (c : List CodeNet) (s : List ℕ) where
   all_read e = left-none s (23 * (1 + length (due_lines h.kind f c s))) (omega (arith, lines-count))
 
   -- an accepted file is T-01's text, with a date that it takes and figures that are allowed
-  pub accepted-file : checked_lines h f c s ≡ Accepted → AllowedFile h f c s
+  pub accepted-file : checked_lines h f c s ≡ Ok tt → AllowedFile h f c s
   unfolding text_with due_lines line_from
   accepted-file e =
       let a = accepted-lines e in
@@ -210,17 +214,17 @@ module _ (h : Header) (f : List ℤ) (c : List CodeNet) (s : List ℕ) where
           due-count h.kind f c balance,
         )
 
-    pub file-accepted : checked_lines h f c s ≡ Accepted
+    pub file-accepted : checked_lines h f c s ≡ Ok tt
     unfolding checked_lines
     file-accepted = rw (eq-eqb (right_lines h f c s) (14 + size) file-lines, eq-eqb (length s) (23 * (14 + size)) file-long)
 
 -- ---- of the whole sheet
 
 -- an accepted file's sheet has its tally, whose combined total keeps the limit
-pub accepted-sheet : (h : Header) (count : ℕ) (t : Tables) (s : List ℕ) → sup_checked h count t s ≡ Accepted
-    → ((tally_of h count t).refusal ≡ None) × AllowedFile h (tally_of h count t).tally.figures (codes_in_order h count t) s
+pub accepted-sheet : (h : Header) (count : ℕ) (t : Tables) (s : List ℕ) → sup_checked h count t s ≡ Ok tt
+    → ((tally_of h count t).outcome ≡ Ok tt) × AllowedFile h (tally_of h count t).tally.figures (codes_in_order h count t) s
 unfolding sup_checked total_checked
-accepted-sheet h count t s e = go (tally_of h count t).refusal refl e
+accepted-sheet h count t s e = go (tally_of h count t).outcome refl e
   where
     f : List ℤ
     f = (tally_of h count t).tally.figures
@@ -228,14 +232,11 @@ accepted-sheet h count t s e = go (tally_of h count t).refusal refl e
     c : List CodeNet
     c = codes_in_order h count t
 
-    go : (r : Refusal) → (tally_of h count t).refusal ≡ r → after_tally r (cond (is_limited (exact_total h.kind f)) (checked_lines h f c s) PastTotal) ≡ Accepted
-        → ((tally_of h count t).refusal ≡ None) × AllowedFile h f c s
-    go None q g =
-        (q, accepted-file h f c s (cond-first (is_limited (exact_total h.kind f)) (checked_lines h f c s) PastTotal Accepted (λ x. let z : ◌≡◌ {A = ℕ} 0 1 = cc in omega arith) g).1)
-    go (Sheet v) q g = absurd (let z : ◌≡◌ {A = ℕ} 0 1 = cc in omega arith)
-    go Missing q g = absurd (let z : ◌≡◌ {A = ℕ} 0 1 = cc in omega arith)
-    go (Full k) q g = absurd (let z : ◌≡◌ {A = ℕ} 0 1 = cc in omega arith)
-    go (Wide k) q g = absurd (let z : ◌≡◌ {A = ℕ} 0 1 = cc in omega arith)
+    go : (r : Result Unit Untallied) → (tally_of h count t).outcome ≡ r → after_tally r (cond (is_limited (exact_total h.kind f)) (checked_lines h f c s) (Err PastTotal)) ≡ Ok tt
+        → ((tally_of h count t).outcome ≡ Ok tt) × AllowedFile h f c s
+    go (Ok u) q g =
+        (q, accepted-file h f c s (cond-first (is_limited (exact_total h.kind f)) (checked_lines h f c s) (Err PastTotal) (Ok tt) (refused≢fine PastTotal) g).1)
+    go (Err u) q g = absurd cc
 
 -- ---- its counts are T-01's
 

@@ -14,7 +14,7 @@ use mir.Facts.{to_z-of_z}
 use borrow.Author.Tests.{eq-eqb, ne_eqb}
 use Rattle.laws.specs.Whole.{Within, low_z}
 use Rattle.laws.specs.Text.{text}
-use Rattle.laws.proofs.Bits.{Holds, back, holds_as, holds_of, holds-bits, read-within, ask-add, holds-add, ask-sub, holds-sub, ask-mul, holds-mul, low-yes, low-no}
+use Rattle.laws.proofs.Bits.{Holds, back, holds_as, holds_of, holds-bits, read-within, ask-add, holds-add, ask-sub, holds-sub, ask-mul, holds-mul}
 use Rattle.laws.proofs.Bounds.{within-fits, within-lit}
 use Rattle.laws.proofs.Choice.{and_left}
 use Rattle.laws.proofs.Parts.{P, N, num, sum, diff, ints, fit_parts, le-true}
@@ -96,12 +96,6 @@ module _ (z : ℤ) (above : is_figure z ≡ true) where
     pub exact-is : to_z w64 (of_z w64 (pos 2000000 *ℤ to_z w64 (of_z w64 l))) ≡ count_exact z
     unfolding count_exact
     exact-is = (holds-mul metre-holds low-holds (lit< tt)).reads
-
-pub lower-first : (a b : ℤ) → SFits w64 a → SFits w64 b → lt_z (to_z w64 (of_z w64 a)) (to_z w64 (of_z w64 b)) ≡ true → to_z w64 (of_z w64 a) ≡ low_z a b
-lower-first a b fa fb t = to_z-of_z fa ∙ low-yes a b (rw (to_z-of_z fa, to_z-of_z fb) at t)
-
-pub lower-second : (a b : ℤ) → SFits w64 a → SFits w64 b → lt_z (to_z w64 (of_z w64 a)) (to_z w64 (of_z w64 b)) ≡ false → to_z w64 (of_z w64 b) ≡ low_z a b
-lower-second a b fa fb t = to_z-of_z fb ∙ low-no a b (rw (to_z-of_z fa, to_z-of_z fb) at t)
 
 -- ---- the parts of TOTALE
 

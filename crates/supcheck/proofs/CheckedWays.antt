@@ -1,6 +1,6 @@
 -- The ways through the functions that count all right lines of a file, and answer. Assumes nothing.
 use Prim.Native.Nat.{ℕ, suc, ◌+◌, ◌*◌, ◌^◌, ◌≤◌, ◌<◌}
-use mathlib.Core.Path.{◌≡◌, refl, sym, ap, ◌∙◌}
+use mathlib.Core.Path.{◌≡◌, sym, ap, ◌∙◌}
 use mathlib.Core.List.{List, ◌++◌}
 use mathlib.Core.Bool.{Bool, true, false, cond, not}
 use native.Mathlib.Omega.{arith}
@@ -9,32 +9,29 @@ use lib.Dec.{eqb}
 use lib.IntN.{ℤ}
 use lib.Signed.{mag}
 use borrow.Author.Tests.{not-true, not-false, eq-eqb, ne_eqb}
-use Rattle.laws.proofs.Choice.{true≢false, and-false}
+use Rattle.std.specs.Prelude.{Option, Some, None, Ok, Err}
+use Rattle.laws.proofs.Choice.{and-false}
 use Rattle.record.specs.declared.Mode.TheVariants.{Loose}
 use Rattle.heading.specs.declared.Header.{Header}
 use Rattle.sheet.specs.Tables.{Tables}
-use Rattle.made.specs.declared.Verdict.TheVariants.{Fine}
 use Rattle.made.specs.Made.{none_before, judge_rows}
 use Rattle.row.proofs.SeekLaws.{fine-rows}
 use Rattle.order.specs.SupBorders.{sup_borders}
-use Rattle.tally.specs.declared.Refusal.{Refusal}
-use Rattle.tally.specs.declared.Refusal.TheVariants.{None, Sheet, Missing, Full, Wide}
+use Rattle.tally.specs.declared.Untallied.{Untallied}
 use Rattle.tally.specs.Tally.{Good}
-use Rattle.tally.specs.Take.{is_none, tally_of}
+use Rattle.tally.specs.Take.{tally_of}
 use Rattle.tally.proofs.RunningLaws.{tally-good, tally-fine}
 use Rattle.sup.specs.declared.ExactSheet.{ExactSheet}
-use Rattle.sup.specs.declared.Total.{Total}
-use Rattle.sup.specs.declared.Total.TheVariants.{Is, Past}
 use Rattle.sup.specs.Sup.{CodeNet, exact_total}
 use Rattle.sup.specs.Totals.{total_of}
 use Rattle.sup.specs.ExactAreas.{exact_areas, exact_of}
 use Rattle.sup.specs.Answer.{codes_in_order}
 use Rattle.sup.proofs.TextWays.{past_is, is-is, limited-small}
 use Rattle.sup.proofs.ListedWays.{listed-held}
-use Rattle.supcheck.specs.declared.SupChecked.TheVariants.{Accepted, Refused, PastTotal, WrongLine}
+use Rattle.supcheck.specs.declared.Unaccepted.TheVariants.{Refused, PastTotal, WrongLine}
 use Rattle.supline.specs.Right.{DueLine, is_right_date}
 use Rattle.supcheck.specs.Due.{head_due, listed_due, foot_due, due_with, balance_in, due_lines}
-use Rattle.supcheck.specs.Checked.{right_from, right_lines, checked_lines, total_checked, after_tally, sup_checked}
+use Rattle.supcheck.specs.Checked.{right_from, right_lines, checked_lines, total_checked, sup_checked}
 use Rattle.supcheck.proofs.RightLaws.{right-most, right-past, right-in}
 use Rattle.supcheck.proofs.DueLaws.{codes-count, head-count, listed-due-count, foot-count, due-count}
 
@@ -91,7 +88,7 @@ pub foot-few : (k kind : ℕ) (f : List ℤ) (b : ℤ) (s : List ℕ) (r : ℕ) 
 foot-few k kind f b s r e = omega (arith, e, right-most s k (foot_due kind f b), foot-count kind f b)
 
 -- no more lines than rows, and fourteen
-pub listed_small : (h : Header) (count : ℕ) (t : Tables) → judge_rows Loose count none_before t ≡ Fine → (n : ℕ) → n ≡ length (sup_borders h count t) → n ≤ length t.rows
+pub listed_small : (h : Header) (count : ℕ) (t : Tables) → judge_rows Loose count none_before t ≡ Ok tt → (n : ℕ) → n ≡ length (sup_borders h count t) → n ≤ length t.rows
 listed_small h count t f n e = omega (arith, e, listed-held h count t f)
 
 pub lines-most : (h : Header) (f : List ℤ) (c : List CodeNet) (s : List ℕ) → right_lines h f c s ≤ 14 + length c
@@ -112,24 +109,24 @@ module _ (h : Header) (count : ℕ) (t : Tables) (f : List ℤ) (s : List ℕ) w
     pub right-few : r ≤ 14 + n
     right-few = omega (arith, er, listed-is, lines-most h f (codes_in_order h count t) s)
 
-    pub lines-wrong : (r ≡ 14 + n → ⊥) → WrongLine (r + 1) ≡ checked_lines h f (codes_in_order h count t) s
+    pub lines-wrong : (r ≡ 14 + n → ⊥) → Err (WrongLine (r + 1)) ≡ checked_lines h f (codes_in_order h count t) s
     unfolding checked_lines
     lines-wrong x = rw (← er, listed-is, ne_eqb r (14 + n) x)
 
-    pub bytes-behind : r ≡ 14 + n → (length s ≡ 23 * r → ⊥) → WrongLine (r + 1) ≡ checked_lines h f (codes_in_order h count t) s
+    pub bytes-behind : r ≡ 14 + n → (length s ≡ 23 * r → ⊥) → Err (WrongLine (r + 1)) ≡ checked_lines h f (codes_in_order h count t) s
     unfolding checked_lines
     bytes-behind x y = rw (← er, listed-is, ne_eqb (length s) (23 * (14 + n)) (λ z. y (omega arith)), and-false (eqb r (14 + n)))
 
-    pub lines-accepted : r ≡ 14 + n → length s ≡ 23 * r → Accepted ≡ checked_lines h f (codes_in_order h count t) s
+    pub lines-accepted : r ≡ 14 + n → length s ≡ 23 * r → Ok tt ≡ checked_lines h f (codes_in_order h count t) s
     unfolding checked_lines
     lines-accepted x y = rw (← er, listed-is, eq-eqb r (14 + n) x, eq-eqb (length s) (23 * (14 + n)) (omega arith))
 
-  module _ (x : Total) (e : x ≡ total_of (exact_total h.kind f)) where
-    pub total-past : x ≡ Past → PastTotal ≡ total_checked h f (codes_in_order h count t) s
+  module _ (x : Option ℤ) (e : x ≡ total_of (exact_total h.kind f)) where
+    pub total-past : x ≡ None → Err PastTotal ≡ total_checked h f (codes_in_order h count t) s
     unfolding total_checked
     total-past p = rw (past_is (exact_total h.kind f) (sym e ∙ p))
 
-    module _ (d : ℤ) (p : x ≡ Is d) where
+    module _ (d : ℤ) (p : x ≡ Some d) where
       pub total-known : d ≡ exact_total h.kind f
       total-known = (is-is (exact_total h.kind f) d (sym e ∙ p)).1
 
@@ -141,23 +138,16 @@ module _ (h : Header) (count : ℕ) (t : Tables) (f : List ℤ) (s : List ℕ) w
       total-on = rw (is-is (exact_total h.kind f) d (sym e ∙ p)).0
 
 module _ (h : Header) (count : ℕ) (t : Tables) (s : List ℕ) (x : ExactSheet) (e : x ≡ exact_of h count t) where
-  pub tally-refused : (r : Refusal) → x.refusal ≡ r → is_none r ≡ false → Refused r ≡ sup_checked h count t s
+  pub tally-refused : (u : Untallied) → x.outcome ≡ Err u → Err (Refused u) ≡ sup_checked h count t s
   unfolding sup_checked exact_of
-  tally-refused r q n = by r n ∙ ap (λ (v : Refusal). after_tally v (total_checked h (tally_of h count t).tally.figures (codes_in_order h count t) s)) (sym q ∙ ap (λ (y : ExactSheet). y.refusal) e)
-    where
-      by : (v : Refusal) → is_none v ≡ false → Refused v ≡ after_tally v (total_checked h (tally_of h count t).tally.figures (codes_in_order h count t) s)
-      by None n = absurd (true≢false n)
-      by (Sheet v) n = refl
-      by Missing n = refl
-      by (Full k) n = refl
-      by (Wide k) n = refl
+  tally-refused u q = let z : (tally_of h count t).outcome ≡ Err u = sym (ap (λ (y : ExactSheet). y.outcome) e) ∙ q in rw z
 
-  module _ (q : x.refusal ≡ None) where
-    none_is : (tally_of h count t).refusal ≡ None
+  module _ (q : x.outcome ≡ Ok tt) where
+    none_is : (tally_of h count t).outcome ≡ Ok tt
     unfolding exact_of
-    none_is = sym (ap (λ (y : ExactSheet). y.refusal) e) ∙ q
+    none_is = sym (ap (λ (y : ExactSheet). y.outcome) e) ∙ q
 
-    pub tally-asks : (judge_rows Loose count none_before t ≡ Fine) × Good x.figures × (x.areas ≡ exact_areas h.kind x.figures) × (x.total ≡ total_of (exact_total h.kind x.figures))
+    pub tally-asks : (judge_rows Loose count none_before t ≡ Ok tt) × Good x.figures × (x.areas ≡ exact_areas h.kind x.figures) × (x.total ≡ total_of (exact_total h.kind x.figures))
     unfolding exact_of
     tally-asks =
         (fine-rows h count t (tally-fine h count t none_is), rw e (tally-good h count t), rw e, rw e)

@@ -20,14 +20,14 @@ use Rattle.classes.specs.declared.Class.{Class}
 use Rattle.classes.specs.declared.Class.TheVariants.{Confine, Other, Road, Water, Building, Parcel}
 use Rattle.classes.specs.Classes.{index_of}
 use Rattle.border.specs.Borders.{is_border, border_of}
-use Rattle.plane.specs.declared.Area.{Area}
+use Rattle.plane.specs.declared.NoArea.{NoArea}
+use Rattle.plane.specs.declared.NoArea.TheVariants.{Missing}
 use Rattle.plane.specs.Rings.{most}
 use Rattle.plane.specs.Areas.{area_of}
 use Rattle.area.specs.declared.Areas.{Areas}
-use Rattle.area.specs.declared.Areas.TheVariants.{Of, Wide, Missing}
 use Rattle.area.specs.BorderRings.{total_from, of_rings, areas_of}
-use Rattle.tally.specs.declared.Refusal.{Refusal}
-use Rattle.tally.specs.declared.Refusal.TheVariants.{None}
+use Rattle.std.specs.Prelude.{Result, Ok, Err}
+use Rattle.tally.specs.declared.Untallied.{Untallied}
 use Rattle.tally.specs.Tally.{is_figure, is_tally, no_figures, plus, figures_of}
 use Rattle.tally.specs.Take.{taken_with, borders_areas, tally_of}
 use Rattle.tally.specs.Sums.{area_figures, area_fits, row_figures, row_fits, rows_figures, rows_fit}
@@ -86,19 +86,22 @@ none-fours = four zeros (four zeros (four zeros (four zeros (four zeros (four ze
 -- ---- one border
 
 -- no island, no area of islands
-no_inner : (v : ℕ) (ps : List ℤ) (o i : ℤ) → areas_of v [] ps ≡ Of o i → i ≡ pos 0
-unfolding areas_of total_from
-no_inner v ps o i e = go (leb v most) (area_of ps 0 (v - made.sum [])) e
-  where
-    go : (t : Bool) (a : Area) → cond t (of_rings a (Area.Doubled (pos 0))) Missing ≡ Of o i → i ≡ pos 0
-    go true (Area.Doubled x) q = cc
-    go true Area.Wide q = absurd (let z : ◌≡◌ {A = ℕ} 0 1 = cc in omega arith)
-    go true Area.Missing q = absurd (let z : ◌≡◌ {A = ℕ} 0 1 = cc in omega arith)
-    go false a q = absurd (let z : ◌≡◌ {A = ℕ} 0 1 = cc in omega arith)
+abbrev inner-of : Result Areas NoArea → ℤ
+inner-of (Ok a) = a.inner
+inner-of (Err e) = pos 0
 
-border-inner : (t : Tables) (o i : ℤ) → borders_areas t ≡ Of o i → count_at t islands_place ≡ 0 → i ≡ pos 0
-border-inner t o i e n =
-    no_inner (count_at t vertices_place) t.points o i (ap (λ (k : ℕ). areas_of (count_at t vertices_place) (take k t.islands) t.points) (sym n) ∙ e)
+no_inner : (v : ℕ) (ps : List ℤ) (a : Areas) → areas_of v [] ps ≡ Ok a → a.inner ≡ pos 0
+unfolding areas_of total_from
+no_inner v ps a e = go (leb v most) (area_of ps 0 (v - made.sum [])) e
+  where
+    go : (t : Bool) (x : Result ℤ NoArea) → cond t (of_rings x (Ok (pos 0))) (Err Missing) ≡ Ok a → a.inner ≡ pos 0
+    go true (Ok x) q = sym (ap inner-of q)
+    go true (Err r) q = sym (ap inner-of q)
+    go false x q = sym (ap inner-of q)
+
+border-inner : (t : Tables) (a : Areas) → borders_areas t ≡ Ok a → count_at t islands_place ≡ 0 → a.inner ≡ pos 0
+border-inner t a e n =
+    no_inner (count_at t vertices_place) t.points a (ap (λ (k : ℕ). areas_of (count_at t vertices_place) (take k t.islands) t.points) (sym n) ∙ e)
 
 own-four : (o i : ℤ) (n : ℕ) → is_figure o ≡ true → is_figure i ≡ true → (n ≡ 0 → i ≡ pos 0) → Four (pos 1) o (pos n) i
 unfolding is_figure
@@ -138,11 +141,10 @@ own-fours Parcel o i n e z =
 -- ---- all rows
 
 module _ (h : Header) where
-  areas-fours : (t : Tables) (x : Areas) → borders_areas t ≡ x → area_fits (border_of h t) x ≡ true → Fours (area_figures (border_of h t) x)
+  areas-fours : (t : Tables) (x : Result Areas NoArea) → borders_areas t ≡ x → area_fits (border_of h t) x ≡ true → Fours (area_figures (border_of h t) x)
   unfolding border_of
-  areas-fours t (Of o i) e f = own-fours (border_of h t).class o i (count_at t islands_place) f (border-inner t o i e)
-  areas-fours t Wide e f = absurd (false≢true f)
-  areas-fours t Missing e f = absurd (false≢true f)
+  areas-fours t (Ok a) e f = own-fours (border_of h t).class a.outer a.inner (count_at t islands_place) f (border-inner t a e)
+  areas-fours t (Err r) e f = absurd (false≢true f)
 
   row-fours : (t : Tables) → row_fits h t ≡ true → Fours (row_figures h t)
   unfolding row_fits row_figures
@@ -159,9 +161,9 @@ module _ (h : Header) where
       fours-plus (row-fours t (and_left (row_fits h t) (rows_fit h n (rest_of t)) e))
       (rows-fours n (rest_of t) (and_right (row_fits h t) (rows_fit h n (rest_of t)) e)) (row-length h t ∙ sym (rows-length h n (rest_of t)))
 
-  pub tally-fours : (count : ℕ) (t : Tables) → (tally_of h count t).refusal ≡ None → Fours (tally_of h count t).tally.figures
+  pub tally-fours : (count : ℕ) (t : Tables) → (tally_of h count t).outcome ≡ Ok tt → Fours (tally_of h count t).tally.figures
   tally-fours count t e =
-      let x = tallied h count t (tally_of h count t).tally (ap (λ (r : Refusal). taken_with (tally_of h count t).tally r) e) in
+      let x = tallied h count t (tally_of h count t).tally (ap (λ (r : Result Unit Untallied). taken_with (tally_of h count t).tally r) e) in
       rw x.is (rows-fours count t x.fit)
 
 -- ---- the figures of a class

@@ -11,21 +11,20 @@ use lib.Signed.{mag}
 use mir.Syntax.{w64}
 use mir.Val.{to_z, of_z}
 use borrow.Author.Tests.{not-true, not-false}
+use Rattle.std.specs.Prelude.{Some, None, Ok}
 use Rattle.laws.proofs.Bits.{back}
 use Rattle.laws.proofs.ListLaws.{left as from_at, left-none}
 use Rattle.record.specs.declared.Mode.TheVariants.{Loose}
 use Rattle.heading.specs.declared.Header.{Header}
+use Rattle.kinds.specs.Kinds.{row_width}
 use Rattle.sheet.specs.Tables.{Tables}
-use Rattle.made.specs.declared.Verdict.TheVariants.{Fine}
 use Rattle.made.specs.Made.{tables_of, letters_of, none_before, judge_rows}
 use Rattle.row.specs.declared.Stand.{Stand}
 use Rattle.row.specs.Walk.{left_at}
-use Rattle.area.specs.Questions.{net_area_of}
-use Rattle.order.specs.declared.Since.TheVariants.{First, Past}
 use Rattle.order.specs.declared.Window.{Window}
 use Rattle.order.specs.SupOrder.{net_left, sup_in_order}
-use Rattle.order.specs.Windows.{window_width, Shows, window_of}
-use Rattle.order.proofs.OrderLaws.{Small, in-order-length}
+use Rattle.order.specs.Windows.{window_width, Shows, window_of, Small}
+use Rattle.order.proofs.OrderLaws.{in-order-length}
 use Rattle.order.proofs.TurnLaws.{Turning, turning-start, turning-end, turning-more, turning-item, turning-on, turning-next}
 use Rattle.sup.specs.Sup.{listed_lines}
 use Rattle.sup.specs.Answer.{code_nets, codes_in_order}
@@ -83,10 +82,9 @@ module _ {s : List ℕ} {first : ℕ} {names : List ℕ} {exact allowed : List �
 -- ---- one border
 
 module _ (rows : List ℤ) (letters islands : List ℕ) (points : List ℤ) (d : Stand) where
-  pub border-known : (s : List ℕ) (z : ℤ) → z ≡ net_left (left_at (tables_of rows [] islands points) d) → mag z < 2 ^ 63
+  pub border-known : (s : List ℕ) (z : ℤ) → z ≡ net_left (left_at (tables_of rows letters islands points) d) → mag z < 2 ^ 63
       → (n : List ℕ) → n ≡ letters_of (left_at (tables_of rows letters [] []) d) → (b : Bool) → b ≡ is_right_line (due_line n (due (to_z w64 (of_z w64 z)) (pos 1))) s
       → b ≡ is_right_line (due_line (letters_of (left_at (tables_of rows letters islands points) d)) (due (net_left (left_at (tables_of rows letters islands points) d)) (pos 1))) s
-  unfolding net_left net_area_of
   border-known s z ez mz n en b eb = eb ∙ rw (back z mz, ez, en)
 
 -- ---- the listed borders
@@ -109,7 +107,7 @@ pub record Counting (h : Header) (count : ℕ) (t : Tables) (s : List ℕ) (w : 
   pub turns : Turning h count t w i j
   pub rest : right_from 7 (listed_from h count t 0) s ≡ i + right_from (7 + i) (listed_from h count t i) s
 
-pub counting-start : (h : Header) (count : ℕ) (t : Tables) (s : List ℕ) → Small t → judge_rows Loose count none_before t ≡ Fine → (w : Window) → Shows w (window_of h count t First)
+pub counting-start : (h : Header) (count : ℕ) (t : Tables) (s : List ℕ) → Small t → judge_rows Loose count none_before t ≡ Ok tt → (w : Window) → Shows w (window_of h count t None)
     → Counting h count t s w 0 0
 counting-start h count t s m f w x = record { turns = turning-start h count t m f w x; rest = omega arith }
 
@@ -118,7 +116,7 @@ module _ {h : Header} {count : ℕ} {t : Tables} {s : List ℕ} {w : Window} {i 
   unfolding codes_in_order right_from
   counting-end e = sym (g.rest ∙ rw (from_end h count t i (omega (arith, turning-end g.turns e))) (omega arith))
 
-  pub counting-small : j < w.count → i < length t.rows
+  pub counting-small : j < w.count → row_width * i < length t.rows
   counting-small e = omega (arith, turning-more g.turns e, in-order-length h count t, listed-held h count t g.turns.fine)
 
   module _ (e : j < w.count) (z : Stand) (u : List ℕ) (eu : u ≡ line_from s (7 + i)) (b : Bool)
@@ -142,5 +140,5 @@ module _ {h : Header} {count : ℕ} {t : Tables} {s : List ℕ} {w : Window} {i 
     pub counting-on : not b ≡ false → (j + 1 ≡ window_width → ⊥) → Counting h count t s w (i + 1) (j + 1)
     counting-on f k = record { turns = turning-on g.turns e k; rest = counted-on f }
 
-    pub counting-next : not b ≡ false → (v : Window) → Shows v (window_of h count t (Past (get_or w.items j z))) → Counting h count t s v (i + 1) 0
+    pub counting-next : not b ≡ false → (v : Window) → Shows v (window_of h count t (Some (get_or w.items j z))) → Counting h count t s v (i + 1) 0
     counting-next f v x = record { turns = turning-next g.turns e z v x; rest = counted-on f }

@@ -15,14 +15,13 @@ use Rattle.classes.specs.declared.Class.{Class}
 use Rattle.classes.specs.declared.Class.TheVariants.{Confine, Other, Road, Water, Building, Parcel}
 use Rattle.tally.proofs.RunningLaws.{tally-fine}
 use Rattle.tally.specs.Take.{tally_of}
-use Rattle.sup.specs.declared.SupAnswer.TheVariants.{Wrote}
+use Rattle.std.specs.Prelude.{Ok}
 use Rattle.sup.specs.Metres.{metres_of}
 use Rattle.sup.specs.Lines.{FigureLine}
 use Rattle.sup.specs.Sup.{CodeNet, borders_in, outer_in, islands_in, inner_in, net_in, exact_total, exact_confine, head_lines, listed_lines, foot_lines, balance, figure_lines, sup_text, figures_in}
 use Rattle.sup.specs.Answer.{codes_in_order, sheet_sup, sup_of}
 use Rattle.sup.proofs.SupLaws.{metres-low, metres-high, Fittings, Fittings.none, Fittings.more, lines_fit, listed-count}
 use Rattle.sup.proofs.WroteLaws.{SupWritten, wrote-sheet, header-named}
-use Rattle.supcheck.specs.declared.SupChecked.TheVariants.{Accepted}
 use Rattle.supline.specs.Right.{Due, DueLine, is_near}
 use Rattle.supcheck.specs.Due.{due_under, head_dues, head_due, listed_dues, listed_due, total_allowance, confine_allowance, foot_dues, foot_due, due_with}
 use Rattle.supcheck.specs.Checked.{total_checked, sup_checked}
@@ -249,7 +248,7 @@ module _ (h : Header) (count : ℕ) (t : Tables) (date : List ℕ) (room n : ℕ
         is = own-text;
       }
 
-  pub written-accepted : sup_of h count t date room ≡ Wrote n → sup_checked h count t (sheet_sup h count t date) ≡ Accepted
+  pub written-accepted : sup_of h count t date room ≡ Ok n → sup_checked h count t (sheet_sup h count t date) ≡ Ok tt
   unfolding sup_checked total_checked
   written-accepted e =
       let w = wrote-sheet h count t date room n e in

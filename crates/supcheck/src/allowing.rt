@@ -20,10 +20,7 @@ const UNION: usize = 3;
 fn lower(a: i64, b: i64) -> i64
     ensures { result ≡ low_z a b }
 {
-    if a < b {
-        return a;
-    }
-    b
+    a.min(b)
 }
 
 fn count_exact(count: i64) -> i64

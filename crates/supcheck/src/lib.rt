@@ -9,8 +9,7 @@ mod walking;
 ghost use Rattle.std.specs.Prelude.{◌≡◌, ◌+◌, ◌^◌, ◌<◌, length, get_or, pos};
 ghost use Rattle.laws.specs.Whole.{Within};
 ghost use Rattle.record.specs.declared.Mode.TheVariants.{Loose};
-ghost use Rattle.made.specs.declared.Verdict.TheVariants.{Fine};
-ghost use Rattle.made.specs.Made.{tables_of, none_before, judge_rows};
+ghost use Rattle.made.specs.Made.{tables, none_before, judge_rows};
 ghost use Rattle.classes.specs.declared.Class.TheVariants.{Building};
 ghost use Rattle.tally.specs.Tally.{Good};
 ghost use Rattle.order.specs.SupBorders.{sup_borders};
@@ -18,25 +17,32 @@ ghost use Rattle.sup.specs.Sup.{net_in, exact_total};
 ghost use Rattle.sup.specs.Totals.{total_of};
 ghost use Rattle.sup.specs.ExactAreas.{exact_areas};
 ghost use Rattle.sup.specs.Answer.{codes_in_order};
+ghost use Rattle.supcheck.specs.declared.Unaccepted.TheVariants.{Refused};
 ghost use Rattle.supcheck.specs.Due.{balance_in, head_due, foot_due};
 ghost use Rattle.supcheck.specs.Checked.{right_from, right_lines, checked_lines, total_checked, sup_checked};
 
 use crate::allowing::{foot_allowed, foot_exact, head_allowed, head_exact};
 use crate::walking::{right_lines, right_listed};
-use heading::Header;
-use order::sup_count;
-use sup::Total;
+use made::Sheet;
+use order::{sized, sup_count};
 use sup::exact::sheet_exact;
 use supline::reading::{figure_in, is_right_date, line_from};
-use tally::Refusal;
+use tally::Untallied;
 
-// The file is the sheet's; the sheet's refusal or its tally's (6, 15, 17, 18); TOTALE past the limit (18); the first wrong line, from 1 (25).
-#[derive(Clone, Copy)]
-pub enum SupChecked {
-    Accepted,
-    Refused(Refusal),
+// Why a file is not the sheet's: the sheet's refusal or its tally's (6, 15, 17, 18); TOTALE past the limit (18); the first wrong line, from 1 (25).
+#[derive(Clone, Copy, Debug, PartialEq, Eq)]
+pub enum Unaccepted {
+    Refused(Untallied),
     PastTotal,
     WrongLine(usize),
+}
+
+impl From<Untallied> for Unaccepted {
+    ghost from_gives = { λ u r. r ≡ Refused u };
+
+    fn from(untallied: Untallied) -> Unaccepted {
+        Unaccepted::Refused(untallied)
+    }
 }
 
 // The bytes of a line.
@@ -106,114 +112,78 @@ fn right_foot(
 
 // The right lines at the beginning of the file: the date, those before the listed borders, theirs, those behind.
 fn right_count(
-    header: Header,
-    count: usize,
-    rows: &[i64],
-    letters: &[u8],
-    islands: &[u16],
-    points: &[i64],
+    sheet: &Sheet<'_>,
     s: &[u8],
     figures: &[i64],
     areas: &[i64],
     total: i64,
     listed: usize,
 ) -> usize
-    requires points_value { (judge_rows Loose count none_before (tables_of rows.now letters.now islands.now points.now) ≡ Fine) × Good figures.now × (areas.now ≡ exact_areas header.kind figures.now) × (total ≡ exact_total header.kind figures.now) }
-    requires listed_value { listed ≡ length (sup_borders header count (tables_of rows.now letters.now islands.now points.now)) }
-    ensures { result ≡ right_lines header figures.now (codes_in_order header count (tables_of rows.now letters.now islands.now points.now)) s.now }
+    requires points_value { (judge_rows Loose sheet.now.count none_before (tables sheet.now.lent) ≡ Ok tt) × Good figures.now × (areas.now ≡ exact_areas sheet.now.header.kind figures.now) × (total ≡ exact_total sheet.now.header.kind figures.now) }
+    requires listed_value { listed ≡ length (sup_borders sheet.now.header sheet.now.count (tables sheet.now.lent)) }
+    ensures { result ≡ right_lines sheet.now.header figures.now (codes_in_order sheet.now.header sheet.now.count (tables sheet.now.lent)) s.now }
 {
-    let name = header.name;
-    if !is_right_date(&name, s) {
+    sized(&sheet.lent);
+    if !is_right_date(&sheet.header.name, s) {
         return 0;
     }
     let in_head = right_head(s, figures, areas);
     if in_head < HEAD_LINES {
         return 1 + in_head;
     }
-    let in_list = right_listed(s, header, count, rows, letters, islands, points);
+    let in_list = right_listed(s, sheet);
     if in_list < listed {
         return FIRST_LISTED + in_list;
     }
-    FIRST_LISTED + listed + right_foot(s, header.kind, figures, areas, total, listed)
+    FIRST_LISTED + listed + right_foot(s, sheet.header.kind, figures, areas, total, listed)
 }
 
 // Whether all lines are right, and nothing stands behind them.
 fn checked_lines(
-    header: Header,
-    count: usize,
-    rows: &[i64],
-    letters: &[u8],
-    islands: &[u16],
-    points: &[i64],
+    sheet: &Sheet<'_>,
     s: &[u8],
     figures: &[i64],
     areas: &[i64],
     total: i64,
-) -> SupChecked
-    requires { (judge_rows Loose count none_before (tables_of rows.now letters.now islands.now points.now) ≡ Fine) × Good figures.now × (areas.now ≡ exact_areas header.kind figures.now) × (total ≡ exact_total header.kind figures.now) }
-    ensures { result ≡ checked_lines header figures.now (codes_in_order header count (tables_of rows.now letters.now islands.now points.now)) s.now }
+) -> Result<(), Unaccepted>
+    requires { (judge_rows Loose sheet.now.count none_before (tables sheet.now.lent) ≡ Ok tt) × Good figures.now × (areas.now ≡ exact_areas sheet.now.header.kind figures.now) × (total ≡ exact_total sheet.now.header.kind figures.now) }
+    ensures { result ≡ checked_lines sheet.now.header figures.now (codes_in_order sheet.now.header sheet.now.count (tables sheet.now.lent)) s.now }
 {
-    let listed = sup_count(header, count, rows, letters);
-    let right = right_count(
-        header, count, rows, letters, islands, points, s, figures, areas, total, listed,
+    let listed = sup_count(
+        sheet.header,
+        sheet.count,
+        sheet.lent.rows,
+        sheet.lent.letters,
     );
-    if right != OTHER_LINES + listed {
-        return SupChecked::WrongLine(right + 1);
+    let right = right_count(sheet, s, figures, areas, total, listed);
+    if right != OTHER_LINES + listed || s.len() != LINE_WIDTH * right {
+        return Err(Unaccepted::WrongLine(right + 1));
     }
-    if s.len() != LINE_WIDTH * right {
-        return SupChecked::WrongLine(right + 1);
-    }
-    SupChecked::Accepted
+    Ok(())
 }
 
 // 18 of the combined total, then the file.
 fn total_checked(
-    header: Header,
-    count: usize,
-    rows: &[i64],
-    letters: &[u8],
-    islands: &[u16],
-    points: &[i64],
+    sheet: &Sheet<'_>,
     s: &[u8],
     figures: &[i64],
     areas: &[i64],
-    total: Total,
-) -> SupChecked
-    requires { (judge_rows Loose count none_before (tables_of rows.now letters.now islands.now points.now) ≡ Fine) × Good figures.now × (areas.now ≡ exact_areas header.kind figures.now) × (total ≡ total_of (exact_total header.kind figures.now)) }
-    ensures { result ≡ total_checked header figures.now (codes_in_order header count (tables_of rows.now letters.now islands.now points.now)) s.now }
+    total: Option<i64>,
+) -> Result<(), Unaccepted>
+    requires { (judge_rows Loose sheet.now.count none_before (tables sheet.now.lent) ≡ Ok tt) × Good figures.now × (areas.now ≡ exact_areas sheet.now.header.kind figures.now) × (total ≡ total_of (exact_total sheet.now.header.kind figures.now)) }
+    ensures { result ≡ total_checked sheet.now.header figures.now (codes_in_order sheet.now.header sheet.now.count (tables sheet.now.lent)) s.now }
 {
     match total {
-        Total::Past => SupChecked::PastTotal,
-        Total::Is(d) => checked_lines(
-            header, count, rows, letters, islands, points, s, figures, areas, d,
-        ),
+        None => Err(Unaccepted::PastTotal),
+        Some(d) => checked_lines(sheet, s, figures, areas, d),
     }
 }
 
 // Checks the SUP file `s` against a sheet.
-pub fn sup_check(
-    header: Header,
-    count: usize,
-    rows: &[i64],
-    letters: &[u8],
-    islands: &[u16],
-    points: &[i64],
-    s: &[u8],
-) -> SupChecked
-    ensures { result ≡ sup_checked header count (tables_of rows.now letters.now islands.now points.now) s.now }
+pub fn sup_check(sheet: &Sheet<'_>, s: &[u8]) -> Result<(), Unaccepted>
+    ensures { result ≡ sup_checked sheet.now.header sheet.now.count (tables sheet.now.lent) s.now }
 {
-    let exact = sheet_exact(header, count, rows, letters, islands, points);
-    let figures = exact.figures;
-    let areas = exact.areas;
-    let total = exact.total;
-    let refusal = exact.refusal;
-    match refusal {
-        Refusal::None => total_checked(
-            header, count, rows, letters, islands, points, s, &figures, &areas, total,
-        ),
-        Refusal::Sheet(v) => SupChecked::Refused(Refusal::Sheet(v)),
-        Refusal::Missing => SupChecked::Refused(Refusal::Missing),
-        Refusal::Full(k) => SupChecked::Refused(Refusal::Full(k)),
-        Refusal::Wide(k) => SupChecked::Refused(Refusal::Wide(k)),
-    }
+    let exact = sheet_exact(sheet);
+    exact.outcome?;
+    total_checked(sheet, s, &exact.figures, &exact.areas, exact.total)
 }

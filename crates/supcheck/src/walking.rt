@@ -1,8 +1,7 @@
 // How many lines of a SUP file are right at the beginning (document 02, T-10).
 ghost use Rattle.std.specs.Prelude.{◌≡◌, ◌+◌, ◌*◌, ◌^◌, ◌<◌, length, pos};
 ghost use Rattle.record.specs.declared.Mode.TheVariants.{Loose};
-ghost use Rattle.made.specs.declared.Verdict.TheVariants.{Fine};
-ghost use Rattle.made.specs.Made.{tables_of, none_before, judge_rows, letters_of};
+ghost use Rattle.made.specs.Made.{tables, none_before, judge_rows, letters_of};
 ghost use Rattle.row.specs.Walk.{left_at};
 ghost use Rattle.order.specs.SupOrder.{net_left};
 ghost use Rattle.sup.specs.Lines.{name_width};
@@ -12,8 +11,8 @@ ghost use Rattle.supcheck.specs.Due.{listed_due};
 ghost use Rattle.supcheck.specs.Checked.{right_from};
 ghost use Rattle.supcheck.specs.Walking.{packed_due};
 
-use heading::Header;
-use order::{Since, guided_window, letters_at, net_at};
+use made::{Lent, Sheet};
+use order::{guided_window, letters_at, net_at, sized};
 use row::Stand;
 use supline::is_right_line;
 use supline::reading::line_from;
@@ -37,36 +36,26 @@ pub(crate) fn right_lines(
     requires { (length names.now ≡ name_width * length exact.now) × (length allowed.now ≡ length exact.now) × (first + length exact.now < 2 ^ 64) }
     ensures { result ≡ right_from first (packed_due names.now exact.now allowed.now) s.now }
 {
-    let mut i = 0;
-    while i < exact.len() {
+    for i in 0..exact.len() {
         let from = NAME_WIDTH * i;
-        let end = from + NAME_WIDTH;
         if !is_right_line(
-            &names[from..end],
+            &names[from..from + NAME_WIDTH],
             exact[i],
             allowed[i],
             line_from(s, first + i),
         ) {
             return i;
         }
-        i += 1;
     }
-    i
+    exact.len()
 }
 
 // The first line of s is right for the border at a stand.
-fn is_right_border(
-    s: &[u8],
-    rows: &[i64],
-    letters: &[u8],
-    islands: &[u16],
-    points: &[i64],
-    d: Stand,
-) -> bool
-    ensures { result ≡ is_right_line (due_line (letters_of (left_at (tables_of rows.now letters.now islands.now points.now) d)) (due (net_left (left_at (tables_of rows.now letters.now islands.now points.now) d)) (pos 1))) s.now }
+fn is_right_border(s: &[u8], lent: &Lent<'_>, d: Stand) -> bool
+    ensures { result ≡ is_right_line (due_line (letters_of (left_at (tables lent.now) d)) (due (net_left (left_at (tables lent.now) d)) (pos 1))) s.now }
 {
-    let net = net_at(rows, islands, points, d);
-    is_right_line(letters_at(rows, letters, d), net, 1, s)
+    let net = net_at(lent, d);
+    is_right_line(letters_at(lent.rows, lent.letters, d), net, 1, s)
 }
 
 // A guide for the window that begins at line `first`: the name in the line behind it, which none of its borders comes after if the file is
@@ -80,55 +69,23 @@ fn guide(s: &[u8], first: usize) -> &[u8] {
 }
 
 // Of the listed borders' lines, in order.
-pub(crate) fn right_listed(
-    s: &[u8],
-    header: Header,
-    count: usize,
-    rows: &[i64],
-    letters: &[u8],
-    islands: &[u16],
-    points: &[i64],
-) -> usize
-    requires { judge_rows Loose count none_before (tables_of rows.now letters.now islands.now points.now) ≡ Fine }
-    ensures { result ≡ right_from 7 (listed_due (codes_in_order header count (tables_of rows.now letters.now islands.now points.now))) s.now }
+pub(crate) fn right_listed(s: &[u8], sheet: &Sheet<'_>) -> usize
+    requires { judge_rows Loose sheet.now.count none_before (tables sheet.now.lent) ≡ Ok tt }
+    ensures { result ≡ right_from 7 (listed_due (codes_in_order sheet.now.header sheet.now.count (tables sheet.now.lent))) s.now }
 {
-    let mut w = guided_window(
-        header,
-        count,
-        rows,
-        letters,
-        islands,
-        points,
-        Since::First,
-        guide(s, FIRST_LISTED),
-    );
+    sized(&sheet.lent);
+    let mut w = guided_window(sheet, None, guide(s, FIRST_LISTED));
     let mut i = 0;
     let mut j = 0;
     while j < w.count {
         let d = w.items[j];
-        if !is_right_border(
-            line_from(s, FIRST_LISTED + i),
-            rows,
-            letters,
-            islands,
-            points,
-            d,
-        ) {
+        if !is_right_border(line_from(s, FIRST_LISTED + i), &sheet.lent, d) {
             return i;
         }
         i += 1;
         j += 1;
         if j == WIDTH {
-            w = guided_window(
-                header,
-                count,
-                rows,
-                letters,
-                islands,
-                points,
-                Since::Past(d),
-                guide(s, FIRST_LISTED + i),
-            );
+            w = guided_window(sheet, Some(d), guide(s, FIRST_LISTED + i));
             j = 0;
         }
     }

@@ -15,7 +15,7 @@ use Rattle.spelling.proofs.FigureLaws.{figure-length}
 use Rattle.sup.specs.Date.{is_date}
 use Rattle.sup.specs.Lines.{left_field, fields_line, date_text}
 use Rattle.sup.proofs.SupLaws.{line-length}
-use Rattle.sup.proofs.TextWays.{date-eight}
+use Rattle.sup.proofs.DateWays.{date-eight}
 use Rattle.supline.specs.Right.{DueLine, line_from, right_field, figure_in, date_in, is_fields, is_near, is_right_line, is_right_date}
 use Rattle.supline.proofs.SaidLaws.{figure-said, figure-sizes, narrow-by-size}
 

@@ -1,20 +1,21 @@
 -- The ways through the functions that read a line: its parts, its figure, its date. Assumes nothing.
 use Prim.Native.Nat.{ℕ, suc, ◌+◌, ◌-◌, ◌*◌, ◌/◌, ◌^◌, ◌≤◌, ◌<◌}
-use mathlib.Core.Path.{◌≡◌, refl, sym, ap, ◌∙◌}
+use mathlib.Core.Path.{◌≡◌, refl, sym, ap, ap₂, ◌∙◌}
 use mathlib.Core.List.{List, [], ◌∷◌, ◌++◌, append_assoc, append-nil}
-use mathlib.Core.Bool.{Bool, true, false, cond, not, ◌&&◌}
+use mathlib.Core.Bool.{Bool, true, false, cond, not, ◌&&◌, ◌||◌}
 use native.Mathlib.Nat.{pow-suc, pow-le-pow_right}
 use native.Mathlib.Numerals.{add-one}
 use native.Mathlib.Omega.{arith}
 use lib.ListN.{length, get_or, take, drop, replicate, length-take, length-drop, length-replicate}
-use lib.Seq.{take_all, take-add, drop-drop, length-take-le}
+use lib.Seq.{take-add, drop-drop, length-take-le}
 use lib.Dec.{leb, eqb, lit<}
 use lib.IntN.{ℤ, pos, neg_ℤ, ◌-ℤ◌}
 use lib.Signed.{mag}
 use mir.Syntax.{w64}
 use mir.Val.{SFits, to_z, of_z}
 use mir.Facts.{to_z_pos}
-use borrow.Author.Tests.{not-true, not-false}
+use borrow.Author.Tests.{not-true, not-false, eqb-true, eqb-false, ne_eqb}
+use Rattle.std.specs.List.{list_any}
 use Rattle.laws.specs.Lists.{same, holds, tail, over}
 use Rattle.laws.specs.Whole.{Within}
 use Rattle.laws.proofs.Bits.{Holds, holds-bits, ask-sub, holds-sub, read-within, back}
@@ -29,7 +30,7 @@ use Rattle.spelling.proofs.FigureLaws.{figure-length}
 use Rattle.sup.specs.Date.{is_date}
 use Rattle.sup.specs.Lines.{left_field, fields_line, date_text}
 use Rattle.sup.proofs.LineWays.{blanks-part, blank-size}
-use Rattle.sup.proofs.TextWays.{date-eight}
+use Rattle.sup.proofs.DateWays.{date-eight}
 use Rattle.supline.proofs.LineLaws.{fields-size, date-long}
 use Rattle.supline.specs.Right.{line_from, right_field, figure_said, figure_in, date_in, is_fields, is_right_date}
 
@@ -49,18 +50,6 @@ module _ (s : List ℕ) where
   pub line-here : (k : ℕ) → tail s (23 * k) ≡ line_from s k
   unfolding line_from
   line-here k = rest-is s (23 * k)
-
-  pub field-none : length s < 11 → tail s (length s) ≡ right_field s
-  unfolding right_field
-  field-none h = past_end 11 (omega arith) ∙ rw (left-none s 11 (omega arith))
-
-  pub field-short : length (tail s 11) < 10 → tail s 11 ≡ right_field s
-  unfolding right_field
-  field-short h = rest-is s 11 ∙ sym (take_all 10 (drop 11 s) (omega (arith, ap length (rest-is s 11))))
-
-  pub field-whole : take 10 (tail s 11) ≡ right_field s
-  unfolding right_field
-  field-whole = ap (take 10) (rest-is s 11)
 
   pub field-size : length (right_field s) ≤ 10
   unfolding right_field
@@ -102,6 +91,19 @@ module _ {s : List ℕ} {n i : ℕ} (g : Valued s n i) (few : length s ≤ 10) w
         }
 
 -- ---- its sign
+
+-- the library's test for a byte, and the definition's
+pub minus-any : (s : List ℕ) → list_any (λ y. eqb y 45) s ≡ holds s 45
+unfolding holds
+minus-any [] = refl
+minus-any (a ∷ s) = ap₂ ◌||◌ (same-way a) (minus-any s)
+  where
+    same-way : (a : ℕ) → eqb a 45 ≡ eqb 45 a
+    same-way a = go (eqb a 45) refl
+      where
+        go : (b : Bool) → eqb a 45 ≡ b → b ≡ eqb 45 a
+        go true e = let z : a ≡ 45 = eqb-true a 45 e in rw z
+        go false e = let n = eqb-false a 45 e in rw (ne_eqb 45 a (λ q. n (sym q)))
 
 module _ (s : List ℕ) (n : ℕ) (e : (n ≡ value 0 s) × (n + 23 ≤ 23 * 10 ^ 10)) where
   pub said-small : n < 2 ^ 63
@@ -265,6 +267,6 @@ module _ (name s : List ℕ) where
       unfolding is_right_date date_in
       date-known x q = q ∙ rw (date-good, date-field)
 
-pub ruleset reading-ways = (line-past, line-here, field-none, field-short, field-whole, valued-start, valued-end, valued-times, valued-plus, valued-on, said-small, said-asks, said-below, said-above, field-asks, figure-known)
+pub ruleset reading-ways = (line-past, line-here, valued-start, valued-end, valued-times, valued-plus, valued-on, said-small, said-asks, said-below, said-above, field-asks, figure-known)
 
 pub ruleset fields-ways = (fields-short, fields-long, name-part, blank-size, fields-first, fields-second, fields-third, fields-fourth, figure-spelt, date-short, date-bad, date-size, date-known)

@@ -1,5 +1,5 @@
 // What stands in a line of a SUP file (document 02, T-10): its fields, its figure, its date.
-ghost use Rattle.std.specs.Prelude.{◌≡◌, true, ◌+◌, ◌-◌, ◌*◌, ◌^◌, ◌≤◌, length};
+ghost use Rattle.std.specs.Prelude.{◌≡◌, true, ◌+◌, ◌*◌, ◌^◌, ◌≤◌, length};
 ghost use Rattle.laws.specs.Lists.{holds};
 ghost use Rattle.laws.specs.Whole.{Within};
 ghost use Rattle.number.specs.Number.{value};
@@ -32,26 +32,12 @@ pub fn line_from(s: &[u8], k: usize) -> &[u8]
     &s[LINE_WIDTH * k..]
 }
 
+#[tactic(auto, unfolding(crate::specs::Right::right_field))]
 fn right_field(s: &[u8]) -> &[u8]
     ensures { result.now ≡ right_field s.now }
 {
-    if s.len() < NAME_WIDTH {
-        return &s[s.len()..];
-    }
-    let right = &s[NAME_WIDTH..];
-    if right.len() < FIGURE_WIDTH {
-        return right;
-    }
-    &right[..FIGURE_WIDTH]
-}
-
-fn digit_of(b: u8) -> usize
-    ensures { result ≡ b - 48 }
-{
-    if b < b'0' {
-        return 0;
-    }
-    (b - b'0') as usize
+    let right = &s[NAME_WIDTH.min(s.len())..];
+    &right[..FIGURE_WIDTH.min(right.len())]
 }
 
 // The number that the digits of a field make.
@@ -60,10 +46,8 @@ fn value_of(s: &[u8]) -> usize
     ensures { (result ≡ value 0 s.now) × (result + 23 ≤ 23 * 10 ^ figure_width) }
 {
     let mut n = 0;
-    let mut i = 0;
-    while i < s.len() {
-        n = n * 10 + digit_of(s[i]);
-        i += 1;
+    for &b in s {
+        n = n * 10 + usize::from(b.saturating_sub(b'0'));
     }
     n
 }
@@ -71,14 +55,7 @@ fn value_of(s: &[u8]) -> usize
 fn has_minus(s: &[u8]) -> bool
     ensures { result ≡ holds s.now 45 }
 {
-    let mut i = 0;
-    while i < s.len() {
-        if s[i] == b'-' {
-            return true;
-        }
-        i += 1;
-    }
-    false
+    s.contains(&b'-')
 }
 
 fn figure_said(s: &[u8]) -> i64

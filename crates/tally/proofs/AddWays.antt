@@ -153,18 +153,11 @@ added-good s g b o i =
     })
     (λ t. g)
 
-figure-past : (n : ℕ) → limit < n → is_figure (pos n) ≡ false
-unfolding is_figure
-figure-past n h = sym (and-off-second (le_z (pos 0) (pos n)) (le_z (pos n) (pos limit)) (lt-leb n limit h))
-
 -- ---- four figures and a border's, as the code has them
 
 -- a signed number in a local
 abbrev bits : ℤ → ℤ
 bits z = to_z w64 (of_z w64 z)
-
-count-is : (n : ℕ) → n ≤ limit → to_z w64 n ≡ pos n
-count-is n h = to_z_pos w64 {n = n} (omega arith)
 
 all-four : (p q r s : Bool) → (p && (q && (r && s))) ≡ true → (p ≡ true) × (q ≡ true) × (r ≡ true) × (s ≡ true)
 all-four p q r s e =
@@ -182,37 +175,14 @@ module _ (y z : ℤ) (e : is_fit y z ≡ true) where
   sum_fits = figure-fits (y +ℤ z) (and_right (is_figure z) (is_figure (y +ℤ z)) e)
 
 module _ (a b c d outer : ℤ) (n : ℕ) (inner : ℤ) where
-  pub fit-many : limit < n → false ≡ are_fit a b c d outer n inner
-  unfolding are_fit is_fit
-  fit-many e = rw (figure-past n e, and-false (is_figure outer && is_figure (b +ℤ outer)), and-false (is_figure (pos 1) && is_figure (a +ℤ pos 1)))
-
-  module _ (fa : SFits w64 a) {p : Bool} (ep : p ≡ is_fit (bits a) (pos 1)) where
-    first : p ≡ is_fit a (pos 1)
-    first = rw (to_z-of_z fa) at ep
-
-    pub fit-first : not p ≡ true → false ≡ are_fit a b c d outer n inner
-    unfolding are_fit
-    fit-first t = rw (sym first ∙ not-true p t)
-
-    module _ (tp : not p ≡ false) (fb : SFits w64 b) (fo : SFits w64 outer) {q : Bool} (eq : q ≡ is_fit (bits b) (bits outer)) where
-      second : q ≡ is_fit b outer
-      second = rw (to_z-of_z fb, to_z-of_z fo) at eq
-
-      pub fit-second : not q ≡ true → false ≡ are_fit a b c d outer n inner
-      unfolding are_fit
-      fit-second t = rw (sym first ∙ not-false p tp, sym second ∙ not-true q t)
-
-      module _ (tq : not q ≡ false) (fc : SFits w64 c) (small : n ≤ limit) {r : Bool} (er : r ≡ is_fit (bits c) (to_z w64 n)) where
-        third : r ≡ is_fit c (pos n)
-        third = rw (to_z-of_z fc, count-is n small) at er
-
-        pub fit-third : not r ≡ true → false ≡ are_fit a b c d outer n inner
-        unfolding are_fit
-        fit-third t = rw (sym first ∙ not-false p tp, sym second ∙ not-false q tq, sym third ∙ not-true r t)
-
-        pub fit-fourth : not r ≡ false → SFits w64 d → SFits w64 inner → {x : Bool} → x ≡ is_fit (bits d) (bits inner) → x ≡ are_fit a b c d outer n inner
-        unfolding are_fit
-        fit-fourth t fd fi e = rw (sym first ∙ not-false p tp, sym second ∙ not-false q tq, sym third ∙ not-false r t) (rw (to_z-of_z fd, to_z-of_z fi) at e)
+  -- a count that no signed number holds
+  pub fit-huge : (SFits w64 (pos n) → ⊥) → false ≡ are_fit a b c d outer n inner
+  unfolding are_fit
+  fit-huge f = go (is_fit c (pos n)) refl
+    where
+      go : (t : Bool) → is_fit c (pos n) ≡ t → false ≡ (is_fit a (pos 1) && (is_fit b outer && (t && is_fit d inner)))
+      go true e = absurd (f (more-fits c (pos n) e))
+      go false e = rw (and-false (is_fit b outer), and-false (is_fit a (pos 1)))
 
 module _ (s : List ℤ) (k : ℕ) (border : Border) (e : k ≡ index_of border.class) (g : Good s) (outer inner : ℤ) where
   abbrev n : ℕ

@@ -6,6 +6,7 @@ use Prim.Native.Nat.{ℕ, zero, suc}
 use native.Mathlib.Omega.{arith}
 use lib.ListN.{length, get_or}
 use lib.IntN.{ℤ, pos, ◌+ℤ◌}
+use Rattle.std.proofs.Common.{Result, Ok, Err}
 use Rattle.laws.proofs.Choice.{false≢true, and_left, and_right}
 use Rattle.laws.proofs.Parts.{sum, eq-parts}
 use Rattle.heading.specs.declared.Header.{Header}
@@ -17,9 +18,8 @@ use Rattle.classes.specs.declared.Class.TheVariants.{Confine, Other, Road, Water
 use Rattle.classes.specs.Classes.{index_of}
 use Rattle.border.specs.Borders.{is_border, border_of}
 use Rattle.area.specs.declared.Areas.{Areas}
-use Rattle.area.specs.declared.Areas.TheVariants.{Of, Wide, Missing}
+use Rattle.plane.specs.declared.NoArea.{NoArea}
 use Rattle.tally.specs.declared.Tally.{Tally}
-use Rattle.tally.specs.declared.Refusal.TheVariants.{None}
 use Rattle.tally.specs.Tally.{no_figures, plus, figures_of}
 use Rattle.tally.specs.Take.{taken_with, borders_areas, tally_of}
 use Rattle.tally.specs.Sums.{area_figures, area_fits, row_figures, row_fits, rows_figures, rows_fit, border_rows, border_count}
@@ -68,10 +68,9 @@ own-count Water o n i = refl
 own-count Building o n i = refl
 own-count Parcel o n i = refl
 
-area-count : (b : Border) (x : Areas) → area_fits b x ≡ true → border_count (area_figures b x) ≡ pos 1
-area-count b (Of o i) e = own-count b.class o (pos b.islands) i
-area-count b Wide e = absurd (false≢true e)
-area-count b Missing e = absurd (false≢true e)
+area-count : (b : Border) (x : Result Areas NoArea) → area_fits b x ≡ true → border_count (area_figures b x) ≡ pos 1
+area-count b (Ok r) e = own-count b.class r.outer (pos b.islands) r.inner
+area-count b (Err x) e = absurd (false≢true e)
 
 row_count : (h : Header) (t : Tables) → row_fits h t ≡ true → border_count (row_figures h t) ≡ pos (cond (is_border t) 1 0)
 unfolding row_fits row_figures border_count
@@ -89,5 +88,5 @@ rows-count h (suc n) t e =
     ∙ ap₂ (λ (x y : ℤ). x +ℤ y) (row_count h t (and_left (row_fits h t) (rows_fit h n (rest_of t)) e)) (rows-count h n (rest_of t) (and_right (row_fits h t) (rows_fit h n (rest_of t)) e))
 
 -- the six counts of a sheet's tally are its rows of kind 1
-pub borders-counted : (h : Header) (n : ℕ) (t : Tables) (a : Tally) → tally_of h n t ≡ taken_with a None → border_count a.figures ≡ pos (border_rows n t)
+pub borders-counted : (h : Header) (n : ℕ) (t : Tables) (a : Tally) → tally_of h n t ≡ taken_with a (Ok tt) → border_count a.figures ≡ pos (border_rows n t)
 borders-counted h n t a e = let x = tallied h n t a e in rw x.is (rows-count h n t x.fit)

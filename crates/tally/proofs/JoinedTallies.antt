@@ -6,6 +6,7 @@ use mathlib.Core.List.{List}
 use mathlib.Core.Bool.{true}
 use native.Mathlib.Omega.{arith}
 use lib.ListN.{length, length-append}
+use Rattle.std.proofs.Common.{Result, Ok, Err}
 use Rattle.record.specs.declared.Mode.{Mode}
 use Rattle.record.specs.Refusals.{file_most}
 use Rattle.heading.specs.declared.Header.{Header}
@@ -19,7 +20,6 @@ use Rattle.layout.proofs.ReadMade.{reading-made}
 use Rattle.layout.proofs.UsedLaws.{read-used}
 use Rattle.tally.specs.declared.Tally.{Tally}
 use Rattle.tally.specs.declared.Taken.{Taken}
-use Rattle.tally.specs.declared.Refusal.TheVariants.{None}
 use Rattle.tally.specs.Tally.{is_tally, plus}
 use Rattle.tally.specs.Take.{taken_with, tally_of}
 use Rattle.tally.proofs.TallyJoin.{tallies-add}
@@ -41,9 +41,9 @@ module _ (mode : Mode) (a b : List ℕ) (h g : Header) (o u : Tables) (d : readi
       omega (arith, x, y, length-append o.rows (moved_on (starts_of o) u.rows), length_moved (starts_of o) u.rows)
 
   -- in maps of one kind and name
-  pub joined-tallies : length (joined mode a b) ≤ file_most → h.kind ≡ g.kind → h.name ≡ g.name → (s t : Tally) → tally_read h o ≡ taken_with s None → tally_read g u ≡ taken_with t None
+  pub joined-tallies : length (joined mode a b) ≤ file_most → h.kind ≡ g.kind → h.name ≡ g.name → (s t : Tally) → tally_read h o ≡ taken_with s (Ok tt) → tally_read g u ≡ taken_with t (Ok tt)
       → is_tally (plus s.figures t.figures) ≡ true
-      → (reading mode (joined mode a b) ≡ sheet h (o followed u)) × (tally_read h (o followed u) ≡ taken_with (record { figures = plus s.figures t.figures }) None)
+      → (reading mode (joined mode a b) ≡ sheet h (o followed u)) × (tally_read h (o followed u) ≡ taken_with (record { figures = plus s.figures t.figures }) (Ok tt))
   joined-tallies l p q s t x y z =
       let sums = tallies-add h g (row_count o) (row_count u) o u s t p q x y z in
       (joining mode a b h g o u d e l, ap₂ (λ (n : ℕ) (v : Tables). tally_of h n (v followed u)) rows-joined (sym used) ∙ sums)
@@ -56,10 +56,10 @@ tally-over mode a h o old d =
 
 module _ (mode : Mode) (a b : List ℕ) (h g : Header) (o u x y z : Tables) (d : reading mode a ≡ sheet h o) (e : reading mode b ≡ sheet g u) where
   pub joined-tallies-over : length (joined mode a b) ≤ file_most → h.kind ≡ g.kind → h.name ≡ g.name
-      → (s t : Tally) → tally_of h (row_count o) (over_of o x) ≡ taken_with s None → tally_of g (row_count u) (over_of u y) ≡ taken_with t None
+      → (s t : Tally) → tally_of h (row_count o) (over_of o x) ≡ taken_with s (Ok tt) → tally_of g (row_count u) (over_of u y) ≡ taken_with t (Ok tt)
       → is_tally (plus s.figures t.figures) ≡ true
       → (reading mode (joined mode a b) ≡ sheet h (o followed u))
-      × (tally_of h (row_count (o followed u)) (over_of (o followed u) z) ≡ taken_with (record { figures = plus s.figures t.figures }) None)
+      × (tally_of h (row_count (o followed u)) (over_of (o followed u) z) ≡ taken_with (record { figures = plus s.figures t.figures }) (Ok tt))
   joined-tallies-over l p q s t i j k =
       let r = joined-tallies mode a b h g o u d e l p q s t (sym (tally-over mode a h o x d) ∙ i) (sym (tally-over mode b g u y e) ∙ j) k in
       (r.0, tally-over mode (joined mode a b) h (o followed u) z r.0 ∙ r.1)

@@ -6,6 +6,7 @@ use mathlib.Core.Bool.{Bool, true, false, cond}
 use native.Mathlib.Omega.{arith}
 use lib.ListN.{length, get_or}
 use lib.IntN.{ℤ, pos}
+use Rattle.std.proofs.Common.{Result, Ok, Err}
 use Rattle.heading.specs.declared.Header.{Header}
 use Rattle.sheet.specs.Tables.{Tables}
 use Rattle.made.specs.Made.{rest_of}
@@ -16,9 +17,8 @@ use Rattle.border.specs.declared.Border.{Border}
 use Rattle.border.specs.Borders.{is_border, border_of}
 use Rattle.border.proofs.OtherLaws.{border-never-other}
 use Rattle.area.specs.declared.Areas.{Areas}
-use Rattle.area.specs.declared.Areas.TheVariants.{Of, Wide, Missing}
+use Rattle.plane.specs.declared.NoArea.{NoArea}
 use Rattle.tally.specs.declared.Tally.{Tally}
-use Rattle.tally.specs.declared.Refusal.TheVariants.{None}
 use Rattle.tally.specs.Tally.{no_figures, plus, figures_of}
 use Rattle.tally.specs.Take.{taken_with, borders_areas, tally_of}
 use Rattle.tally.specs.Sums.{area_figures, row_figures, rows_figures}
@@ -45,10 +45,9 @@ own-none Water o n i f = record { borders = refl; outer = refl; islands = refl; 
 own-none Building o n i f = record { borders = refl; outer = refl; islands = refl; inner = refl }
 own-none Parcel o n i f = record { borders = refl; outer = refl; islands = refl; inner = refl }
 
-area-none : (b : Border) (x : Areas) → (b.class ≡ Other → ⊥) → NoOther (area_figures b x)
-area-none b (Of o i) f = own-none b.class o (pos b.islands) i f
-area-none b Wide f = none-none
-area-none b Missing f = none-none
+area-none : (b : Border) (x : Result Areas NoArea) → (b.class ≡ Other → ⊥) → NoOther (area_figures b x)
+area-none b (Ok r) f = own-none b.class r.outer (pos b.islands) r.inner f
+area-none b (Err x) f = none-none
 
 sum-none : (s t : List ℤ) → length s ≡ length t → NoOther s → NoOther t → NoOther (plus s t)
 sum-none s t l x y =
@@ -74,5 +73,5 @@ module _ (h : Header) (f : h.kind ≡ 3 → ⊥) where
   rows_none (suc n) t =
       sum-none (row_figures h t) (rows_figures h n (rest_of t)) (omega (arith, row-length h t, rows-length h n (rest_of t))) (row-none t) (rows_none n (rest_of t))
 
-  pub tally-no-other : (n : ℕ) (t : Tables) (a : Tally) → tally_of h n t ≡ taken_with a None → NoOther a.figures
+  pub tally-no-other : (n : ℕ) (t : Tables) (a : Tally) → tally_of h n t ≡ taken_with a (Ok tt) → NoOther a.figures
   tally-no-other n t a e = rw (tallied h n t a e).is (rows_none n t)

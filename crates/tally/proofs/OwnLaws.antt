@@ -3,6 +3,7 @@ use mathlib.Core.Path.{◌≡◌, refl, ◌∙◌, ap}
 use mathlib.Core.Bool.{true}
 use Prim.Native.Nat.{ℕ}
 use native.Mathlib.Omega.{arith}
+use Rattle.std.proofs.Common.{Result, Ok, Err}
 use Rattle.heading.specs.declared.Header.{Header}
 use Rattle.sheet.specs.Tables.{Tables, ◌then◌, Starts, starting_at}
 use Rattle.made.specs.Made.{first_of, own_of, is_made}
@@ -11,7 +12,8 @@ use Rattle.made.proofs.OwnLaws.{cell-own, Own, own-alike, first_alike, first-own
 use Rattle.made.proofs.StartLaws.{own-moved, made-moved}
 use Rattle.border.proofs.BorderLaws.{border-owned}
 use Rattle.area.specs.declared.Areas.{Areas}
-use Rattle.area.specs.declared.Areas.TheVariants.{Of, Wide, Missing}
+use Rattle.plane.specs.declared.NoArea.{NoArea}
+use Rattle.plane.specs.declared.NoArea.TheVariants as NoArea
 use Rattle.area.proofs.UsedLaws.{areas-owned}
 use Rattle.tally.specs.declared.Tally.{Tally}
 use Rattle.tally.specs.Take.{borders_areas, after_areas, border_taken, row_taken}
@@ -44,10 +46,10 @@ module _ (h : Header) where
 
   -- a running tally takes the border by its own part
   module _ (k : ℕ) (a : Tally) where
-    after_owned : (t : Tables) (x : Areas) → after_areas h k (own_of t) a x ≡ after_areas h k t a x
-    after_owned t (Of outer inner) = rw (border-owned h t)
-    after_owned t Wide = refl
-    after_owned t Missing = refl
+    after_owned : (t : Tables) (x : Result Areas NoArea) → after_areas h k (own_of t) a x ≡ after_areas h k t a x
+    after_owned t (Ok r) = rw (border-owned h t)
+    after_owned t (Err NoArea.Wide) = refl
+    after_owned t (Err NoArea.Missing) = refl
 
     pub border-taken-owned : Own (λ (t : Tables). border_taken h k t a)
     unfolding border_taken

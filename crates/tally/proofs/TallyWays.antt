@@ -1,21 +1,19 @@
 -- The ways through the functions of a tally, each with what the code has in hand there. Assumes nothing.
 use mathlib.Core.Path.{◌≡◌, refl, sym, ap, ◌∙◌}
 use mathlib.Core.List.{List, [], ◌∷◌}
-use mathlib.Core.Bool.{Bool, true, false, not}
+use mathlib.Core.Bool.{Bool, true, false, ◌&&◌}
 use Prim.Native.Nat.{ℕ, zero, suc, ◌+◌, ◌^◌, ◌≤◌, ◌<◌}
 use native.Mathlib.Omega.{arith}
-use lib.ListN.{length, get_or, drop}
+use lib.ListN.{get_or}
 use lib.IntN.{ℤ, pos, ◌+ℤ◌, ◌-ℤ◌}
 use lib.Signed.{mag, lt_z, le_z}
 use mir.Syntax.{w64}
 use mir.Val.{SFits, to_z, of_z}
 use mir.Facts.{to_z-of_z}
-use borrow.Author.Tests.{not-true, not-false}
+use Rattle.std.specs.List.{list_all}
 use Rattle.laws.proofs.Choice.{and_left, and_right, and_both}
 use Rattle.laws.proofs.Chains.{and-on, and-off, and-off-second}
 use Rattle.laws.proofs.Parts.{num, sum, diff, ints, parts-fit, le-true, lt-true, le_not_lt}
-use Rattle.laws.proofs.Bits.{back}
-use Rattle.laws.proofs.ListLaws.{left, left-none}
 use Rattle.tally.proofs.TallyLaws.{figure-from, figure-to}
 use Rattle.tally.specs.Tally.{limit, is_figure, is_tally, is_fit}
 
@@ -23,35 +21,13 @@ use Rattle.tally.specs.Tally.{limit, is_figure, is_tally, is_fit}
 abbrev bits : ℤ → ℤ
 bits z = to_z w64 (of_z w64 z)
 
--- ---- a figure
-
-module _ (z : ℤ) (f : SFits w64 z) where
-  pub figure-low : lt_z (bits z) (pos 0) ≡ true → false ≡ is_figure z
-  unfolding is_figure
-  figure-low e = and-off (le_z (pos 0) z) (le_z z (pos limit)) (le_not_lt (pos 0) z true (rw (to_z-of_z f) at e))
-
-  pub figure-is : lt_z (bits z) (pos 0) ≡ false → le_z (bits z) (pos limit) ≡ is_figure z
-  unfolding is_figure
-  figure-is e = and-on (le_z (pos 0) z) (le_z z (pos limit)) (le_not_lt (pos 0) z false (rw (to_z-of_z f) at e)) (rw (to_z-of_z f))
-
-pub ruleset figure-ways = (figure-low, figure-is)
-
 -- ---- a tally
 
-module _ (s : List ℤ) (i : ℕ) (q : is_tally s ≡ is_tally (drop i s)) where
-  pub tally-more : i < length s → mag (get_or s i (pos 0)) < 2 ^ 63 → {b : Bool} → b ≡ is_figure (bits (get_or s i (pos 0))) → not b ≡ false
-      → is_tally s ≡ is_tally (drop (i + 1) s)
-  unfolding is_tally
-  tally-more h m {b} e t = q ∙ ap is_tally (left s i (pos 0) h) ∙ rw (sym (ap is_figure (back (get_or s i (pos 0)) m)) ∙ sym e ∙ not-false b t)
-
-  pub tally-stop : i < length s → mag (get_or s i (pos 0)) < 2 ^ 63 → {b : Bool} → b ≡ is_figure (bits (get_or s i (pos 0))) → not b ≡ true
-      → false ≡ is_tally s
-  unfolding is_tally
-  tally-stop h m {b} e t = sym (q ∙ ap is_tally (left s i (pos 0) h) ∙ rw (sym (ap is_figure (back (get_or s i (pos 0)) m)) ∙ sym e ∙ not-true b t))
-
-  pub tally-end : length s ≤ i → true ≡ is_tally s
-  unfolding is_tally
-  tally-end h = sym (q ∙ ap is_tally (left-none s i h))
+-- std's test of every element is the definition's
+pub figures_listed : (s : List ℤ) → list_all is_figure s ≡ is_tally s
+unfolding is_tally
+figures_listed [] = refl
+figures_listed (z ∷ s) = ap (λ (b : Bool). is_figure z && b) (figures_listed s)
 
 pub tally-at : (s : List ℤ) (i : ℕ) → is_tally s ≡ true → is_figure (get_or s i (pos 0)) ≡ true
 unfolding is_tally is_figure
@@ -98,13 +74,13 @@ module _ (y z : ℤ) (d : is_figure y ≡ true) (e : is_figure z ≡ true) where
 
 -- as the code has it
 module _ (y z : ℤ) (f : SFits w64 y) (g : SFits w64 z) {b : Bool} (p : b ≡ is_figure (bits z)) where
-  pub fit_none : not b ≡ true → false ≡ is_fit y z
+  pub fit_none : b ≡ false → b ≡ is_fit y z
   unfolding is_fit
-  fit_none t = rw (sym (ap is_figure (to_z-of_z g)) ∙ sym p ∙ not-true b t)
+  fit_none t = t ∙ rw (sym (ap is_figure (to_z-of_z g)) ∙ sym p ∙ t)
 
-  module _ (t : not b ≡ false) where
+  module _ (t : b ≡ true) where
     more-is : is_figure z ≡ true
-    more-is = sym (ap is_figure (to_z-of_z g)) ∙ sym p ∙ not-false b t
+    more-is = sym (ap is_figure (to_z-of_z g)) ∙ sym p ∙ t
 
     pub fit-asked : SFits w64 (pos limit -ℤ bits z)
     fit-asked = rw (to_z-of_z g) (left-fits z more-is)

@@ -3,15 +3,17 @@
 use mathlib.Core.Path.{◌≡◌, refl, sym, ◌∙◌, ap}
 use Prim.Native.Nat.{ℕ, zero, suc, ◌+◌}
 use native.Mathlib.Omega.{arith}
+use Rattle.std.proofs.Common.{Result, Ok, Err}
 use Rattle.record.specs.declared.Mode.TheVariants.{Loose}
 use Rattle.heading.specs.declared.Header.{Header}
 use Rattle.sheet.specs.Tables.{Tables}
-use Rattle.made.specs.declared.Verdict.{Verdict}
-use Rattle.made.specs.declared.Verdict.TheVariants.{Fine, BadHeader, Faulty, Unlisted}
+use Rattle.made.specs.declared.Flaw.{Flaw}
 use Rattle.made.specs.Made.{rest_of, Before, none_before, past_row, judge_rows, judge_of, used_of}
 use Rattle.made.proofs.OwnLaws.{cell-own, Own, first_alike}
 use Rattle.made.proofs.UsedLaws.{first-used, rest-used, judge-used, fine-on}
-use Rattle.row.specs.declared.Sought.{Sought}
+use Rattle.row.specs.declared.Stand.{Stand}
+use Rattle.row.specs.declared.Unfound.{Unfound}
+use Rattle.row.specs.declared.Unfound.TheVariants as Unfound
 use Rattle.row.specs.Walk.{stand_of, left_at}
 use Rattle.row.proofs.SeekLaws.{fine-rows}
 use Rattle.row.proofs.UsedLaws.{Question, asked-used}
@@ -22,7 +24,7 @@ use Rattle.tally.proofs.OwnLaws.{border-taken-owned, row-taken-owned}
 
 -- ---- the tally of a sheet
 
-rows-used : (h : Header) (n k : ℕ) (b : Before) (t : Tables) (a : Tally) → judge_rows Loose n b t ≡ Fine → tally_rows h n k (used_of n t) a ≡ tally_rows h n k t a
+rows-used : (h : Header) (n k : ℕ) (b : Before) (t : Tables) (a : Tally) → judge_rows Loose n b t ≡ Ok tt → tally_rows h n k (used_of n t) a ≡ tally_rows h n k t a
 unfolding tally_rows
 rows-used h zero k b t a e = refl
 rows-used h (suc n) k b t a e =
@@ -38,11 +40,9 @@ pub tally-used : (h : Header) (n : ℕ) (t : Tables) → tally_of h n (used_of n
 unfolding tally_of
 tally-used h n t = ap (tallied_after h n (used_of n t)) (judge-used Loose h n t) ∙ by (judge_of Loose h n t) refl
   where
-    by : (v : Verdict) → judge_of Loose h n t ≡ v → tallied_after h n (used_of n t) v ≡ tallied_after h n t v
-    by Fine e = rows-used h n 0 none_before t empty_tally (fine-rows h n t e)
-    by BadHeader e = refl
-    by (Faulty k) e = refl
-    by (Unlisted k) e = refl
+    by : (v : Result Unit Flaw) → judge_of Loose h n t ≡ v → tallied_after h n (used_of n t) v ≡ tallied_after h n t v
+    by (Ok u) e = rows-used h n 0 none_before t empty_tally (fine-rows h n t e)
+    by (Err f) e = refl
 
 -- ---- a running tally takes a row
 
@@ -50,7 +50,7 @@ module _ (h : Header) (k : ℕ) (a : Tally) where
   front-owned : Own (λ (t : Tables). front_taken h k t a)
   front-owned t m = rw (border-taken-owned h k a t m, cell-own t 0 (omega arith))
 
-  takings : Question (λ (x : Tables) (s : Sought). taken_at h x k a s)
+  takings : Question (λ (x : Tables) (s : Result Stand Unfound). taken_at h x k a s)
   takings = record { own = λ t j m. sym (front-owned (left_at t (stand_of j t.rows)) m); missing = λ t u. refl; refused = λ t u v. refl }
 
 pub taken-used : (a : Tally) (h : Header) (n : ℕ) (t : Tables) (k : ℕ) → taken_of a h n (used_of n t) k ≡ taken_of a h n t k

@@ -1,13 +1,13 @@
 -- What the rows of a sheet add to a tally, as one sum: document 01, "Areas". Assumes nothing: these are definitions.
-use Rattle.std.specs.Prelude.{ℕ, zero, suc, ◌+◌, List, Bool, true, false, cond, ◌&&◌, get_or, ℤ, pos, ◌+ℤ◌}
+use Rattle.std.specs.Prelude.{ℕ, zero, suc, ◌+◌, List, Bool, true, false, cond, ◌&&◌, get_or, ℤ, pos, ◌+ℤ◌, Result, Ok, Err}
 use Rattle.heading.specs.declared.Header.{Header}
 use Rattle.sheet.specs.Tables.{Tables}
 use Rattle.made.specs.Made.{rest_of}
 use Rattle.border.specs.declared.Border.{Border}
 use Rattle.classes.specs.Classes.{index_of}
 use Rattle.border.specs.Borders.{is_border, border_of}
+use Rattle.plane.specs.declared.NoArea.{NoArea}
 use Rattle.area.specs.declared.Areas.{Areas}
-use Rattle.area.specs.declared.Areas.TheVariants.{Of, Wide, Missing}
 use Rattle.tally.specs.Tally.{is_tally, no_figures, plus, figures_of}
 use Rattle.tally.specs.Take.{borders_areas}
 
@@ -15,15 +15,13 @@ use Rattle.tally.specs.Take.{borders_areas}
 abbrev pub own_of : Border → ℤ → ℤ → List ℤ
 own_of b outer inner = figures_of (index_of b.class) outer (pos b.islands) inner
 
-abbrev pub area_figures : Border → Areas → List ℤ
-area_figures b (Of outer inner) = own_of b outer inner
-area_figures b Wide = no_figures
-area_figures b Missing = no_figures
+abbrev pub area_figures : Border → Result Areas NoArea → List ℤ
+area_figures b (Ok r) = own_of b r.outer r.inner
+area_figures b (Err e) = no_figures
 
-abbrev pub area_fits : Border → Areas → Bool
-area_fits b (Of outer inner) = is_tally (own_of b outer inner)
-area_fits b Wide = false
-area_fits b Missing = false
+abbrev pub area_fits : Border → Result Areas NoArea → Bool
+area_fits b (Ok r) = is_tally (own_of b r.outer r.inner)
+area_fits b (Err e) = false
 
 -- the first row of what is left
 unfoldable pub row_figures : Header → Tables → List ℤ

@@ -11,10 +11,10 @@ use lib.Signed.{le_z}
 use lib.Ieee.{Float, nan, inf, fin, binary32, up, down, div, of_int}
 use lib.Ieee.Exact.{HasValue, round_exact}
 use lib.Ieee.Scale.{round_same}
+use Rattle.std.proofs.Common.{Option, Some, None}
 use Rattle.laws.proofs.Choice.{and_left, and_right}
 use Rattle.laws.proofs.Parts.{num, ints, eq-parts}
 use Rattle.tile.specs.declared.Offset.{Offset}
-use Rattle.tile.specs.declared.Tile.TheVariants.{At, Outside}
 use Rattle.number.specs.Number.{is_real}
 use Rattle.tile.specs.Tiles.{frame, in_frame, fits, scaled, two-five-six, tile_of}
 
@@ -55,7 +55,7 @@ frame-scaled d e =
     subst (λ (z : ℤ). HasValue (scaled z) false (nat_abs d) 256) (sym q) (scaled_exact (nat_abs d) h)
 
 -- a pair that is answered is exactly the two differences over 256, and neither is below 0
-pub tile-exact : (west north x y : ℤ) (o : Offset) → tile_of west north x y ≡ At o → HasValue o.east false (nat_abs (x -ℤ west)) 256 × HasValue o.south false (nat_abs (north -ℤ y)) 256
+pub tile-exact : (west north x y : ℤ) (o : Offset) → tile_of west north x y ≡ Some o → HasValue o.east false (nat_abs (x -ℤ west)) 256 × HasValue o.south false (nat_abs (north -ℤ y)) 256
 unfolding tile_of fits
 tile-exact west north x y o q = go (fits west x && fits y north) refl
   where
@@ -64,9 +64,9 @@ tile-exact west north x y o q = go (fits west x && fits y north) refl
 
     go : (t : Bool) → (fits west x && fits y north) ≡ t → HasValue o.east false (nat_abs (x -ℤ west)) 256 × HasValue o.south false (nat_abs (north -ℤ y)) 256
     go true e =
-        let r : At (record { east = scaled (x -ℤ west); south = scaled (north -ℤ y) }) ≡ At o = simp e at q in
+        let r : Some (record { east = scaled (x -ℤ west); south = scaled (north -ℤ y) }) ≡ Some o = simp e at q in
         let u : record { east = scaled (x -ℤ west); south = scaled (north -ℤ y) } ≡ o = cc in
         let v = last (is_real west) (is_real x) (in_frame (x -ℤ west)) (and_left (fits west x) (fits y north) e) in
         let w = last (is_real y) (is_real north) (in_frame (north -ℤ y)) (and_right (fits west x) (fits y north) e) in
         rw (← u) (frame-scaled (x -ℤ west) v, frame-scaled (north -ℤ y) w)
-    go false e = let r : Outside ≡ At o = simp e at q in let z : ◌≡◌ {A = ℕ} 0 1 = cc in absurd (omega arith)
+    go false e = let r : None ≡ Some o = simp e at q in let z : ◌≡◌ {A = ℕ} 0 1 = cc in absurd (omega arith)

@@ -10,13 +10,12 @@ use lib.Signed.{le_z}
 use lib.Ieee.{Float, binary32, in_float, of_bits, of_fields, odd}
 use mir.Syntax.{w64}
 use mir.Val.{SFits}
+use Rattle.std.proofs.Common.{Option, Some, None}
 use Rattle.laws.specs.Whole.{Within}
 use Rattle.laws.proofs.Bounds.{within-sub, within-fits}
 use Rattle.laws.proofs.Choice.{and_left, and_right}
 use Rattle.laws.proofs.Parts.{P, N, num, ints}
 use Rattle.number.specs.Number.{is_real, real_least, real_most}
-use Rattle.tile.specs.declared.Along.TheVariants.{By, Off}
-use Rattle.tile.specs.declared.Tile.TheVariants.{At, Outside}
 use Rattle.tile.specs.Tiles.{frame, in_frame, fits, two-five-six, scaled, along_of, tile_of}
 
 pub real-within : (z : ℤ) → is_real z ≡ true → Within 99999999999 z
@@ -26,8 +25,8 @@ real-within z e =
     let b = and_right (le_z real_least z) (le_z z real_most) e in
     record { within = omega (arith, ints, num z) }
 
-pub difference-fits : (from to : ℤ) → is_real from ≡ true → is_real to ≡ true → SFits w64 (to -ℤ from)
-difference-fits from to a b = within-fits (lit< tt) (within-sub (real-within to b) (real-within from a))
+pub difference_fits : (from to : ℤ) → is_real from ≡ true → is_real to ≡ true → SFits w64 (to -ℤ from)
+difference_fits from to a b = within-fits (lit< tt) (within-sub (real-within to b) (real-within from a))
 
 in-float : (d : ℤ) → N d ≡ 0 → P d ≤ 2 ^ 24 → T (in_float binary32 d)
 unfolding in_float
@@ -47,50 +46,10 @@ unfolding of_bits of_fields odd count_trailing_zeros
 the-divisor = refl
 
 module _ (from to : ℤ) where
-  pub off-from : is_real from ≡ false → Off ≡ along_of from to
-  unfolding along_of fits
-  off-from a = simp a
-
-  pub off-to : is_real from ≡ true → is_real to ≡ false → Off ≡ along_of from to
-  unfolding along_of fits
-  off-to a b = simp (a, b)
-
-  pub off-frame : is_real from ≡ true → is_real to ≡ true → in_frame (to -ℤ from) ≡ false → Off ≡ along_of from to
+  pub off-frame : is_real from ≡ true → is_real to ≡ true → in_frame (to -ℤ from) ≡ false → None ≡ along_of from to
   unfolding along_of fits
   off-frame a b c = simp (a, b, c)
 
-  pub by-scaled : is_real from ≡ true → is_real to ≡ true → in_frame (to -ℤ from) ≡ true → By (scaled (to -ℤ from)) ≡ along_of from to
+  pub by-scaled : is_real from ≡ true → is_real to ≡ true → in_frame (to -ℤ from) ≡ true → Some (scaled (to -ℤ from)) ≡ along_of from to
   unfolding along_of fits
   by-scaled a b c = simp (a, b, c)
-
-  along-off : along_of from to ≡ Off → fits from to ≡ false
-  unfolding along_of
-  along-off q = go (fits from to) refl
-    where
-      go : (t : Bool) → fits from to ≡ t → t ≡ false
-      go true e = let r : By (scaled (to -ℤ from)) ≡ Off = simp e at q in let z : ◌≡◌ {A = ℕ} 0 1 = cc in absurd (omega arith)
-      go false e = refl
-
-  along-by : (f : Float) → along_of from to ≡ By f → (fits from to ≡ true) × (f ≡ scaled (to -ℤ from))
-  unfolding along_of
-  along-by f q = go (fits from to) refl
-    where
-      go : (t : Bool) → fits from to ≡ t → (t ≡ true) × (f ≡ scaled (to -ℤ from))
-      go true e = let r : By (scaled (to -ℤ from)) ≡ By f = simp e at q in (refl, cc)
-      go false e = let r : Off ≡ By f = simp e at q in let z : ◌≡◌ {A = ℕ} 0 1 = cc in absurd (omega arith)
-
-module _ (west north x y : ℤ) where
-  pub tile-off-east : along_of west x ≡ Off → Outside ≡ tile_of west north x y
-  unfolding tile_of
-  tile-off-east e = simp (along-off west x e)
-
-  pub tile-off-south : (f : Float) → along_of west x ≡ By f → along_of y north ≡ Off → Outside ≡ tile_of west north x y
-  unfolding tile_of
-  tile-off-south f e g = simp ((along-by west x f e).0, along-off y north g)
-
-  pub tile-at : (f g : Float) → along_of west x ≡ By f → along_of y north ≡ By g → At (record { east = f; south = g }) ≡ tile_of west north x y
-  unfolding tile_of
-  tile-at f g e h =
-      let a = along-by west x f e in
-      let b = along-by y north g h in
-      simp (a.0, b.0, a.1, b.1)

@@ -1,14 +1,11 @@
 -- Tile points (document 01, "Tile points"): east difference and south difference, "each converted and then divided once by 256".
-use Rattle.std.specs.Prelude.{Bool, false, cond, ◌&&◌, ℕ, ℤ, pos, ◌-ℤ◌, Float}
+use Rattle.std.specs.Prelude.{Bool, false, cond, ◌&&◌, ℕ, ℤ, pos, ◌-ℤ◌, Float, Option, Some, None}
 use Rattle.std.specs.Int.Signed.{le_z}
 use Rattle.std.specs.Float.{fin, binary32}
 use Rattle.std.specs.Float.Ieee.{div, of_int}
 use Rattle.record.specs.Refusals.{off_tile}
 use Rattle.number.specs.Number.{is_real}
-use Rattle.tile.specs.declared.Along.{Along}
-use Rattle.tile.specs.declared.Along.TheVariants.{By, Off}
-use Rattle.tile.specs.declared.Tile.{Tile}
-use Rattle.tile.specs.declared.Tile.TheVariants.{At, Outside}
+use Rattle.tile.specs.declared.Offset.{Offset}
 
 -- the largest difference
 abbrev pub frame : ℕ
@@ -29,29 +26,29 @@ two-five-six = fin false 1 (pos 8)
 unfoldable pub scaled : ℤ → Float
 scaled d = div binary32 (of_int binary32 d) two-five-six
 
-unfoldable pub along_of : ℤ → ℤ → Along
-along_of from to = cond (fits from to) (By (scaled (to -ℤ from))) Off
+unfoldable pub along_of : ℤ → ℤ → Option Float
+along_of from to = cond (fits from to) (Some (scaled (to -ℤ from))) None
 
 -- the answer: east is x less the corner's x, south is the corner's y less y
-unfoldable pub tile_of : ℤ → ℤ → ℤ → ℤ → Tile
+unfoldable pub tile_of : ℤ → ℤ → ℤ → ℤ → Option Offset
 tile_of west north x y =
     cond (fits west x && fits y north)
-    (At (record { east = scaled (x -ℤ west); south = scaled (north -ℤ y) }))
-    Outside
+    (Some (record { east = scaled (x -ℤ west); south = scaled (north -ℤ y) }))
+    None
 
 -- ---- the paper's number and values: the pair, each +0.0 where it is refused
 
-abbrev pub number_of : Tile → ℕ
-number_of (At o) = 0
-number_of Outside = off_tile
+abbrev pub number_of : Option Offset → ℕ
+number_of (Some o) = 0
+number_of None = off_tile
 
 abbrev pub no_offset : Float
 no_offset = fin false 0 (pos 0)
 
-abbrev pub east_of : Tile → Float
-east_of (At o) = o.east
-east_of Outside = no_offset
+abbrev pub east_of : Option Offset → Float
+east_of (Some o) = o.east
+east_of None = no_offset
 
-abbrev pub south_of : Tile → Float
-south_of (At o) = o.south
-south_of Outside = no_offset
+abbrev pub south_of : Option Offset → Float
+south_of (Some o) = o.south
+south_of None = no_offset

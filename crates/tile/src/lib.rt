@@ -16,26 +16,11 @@ pub struct Offset {
     pub south: f32,
 }
 
-#[derive(Clone, Copy)]
-pub enum Tile {
-    At(Offset),
-    // Refusal 20.
-    Outside,
-}
-
-#[derive(Clone, Copy)]
-enum Along {
-    By(f32),
-    Off,
-}
-
+#[tactic(auto, unfolding(crate::specs::Tiles::in_frame))]
 fn is_inside(d: i64) -> bool
     ensures { result ≡ in_frame d }
 {
-    if 0 <= d {
-        return d <= FRAME;
-    }
-    false
+    (0..=FRAME).contains(&d)
 }
 
 // A difference converted, which loses nothing, and then divided once by 256, which only lowers the exponent.
@@ -47,34 +32,26 @@ fn scale(d: i64) -> f32
 }
 
 // How far `to` lies past `from`, where both are reals and the difference is inside the frame.
-fn difference(from: i64, to: i64) -> Along
+#[tactic(auto, using(crate::proofs::Frame::difference_fits), unfolding(crate::specs::Tiles::along_of, crate::specs::Tiles::fits))]
+fn difference(from: i64, to: i64) -> Option<f32>
     ensures { result ≡ along_of from to }
 {
-    if !is_real(from) {
-        return Along::Off;
-    }
-    if !is_real(to) {
-        return Along::Off;
+    if !is_real(from) || !is_real(to) {
+        return None;
     }
     let d = to - from;
     if !is_inside(d) {
-        return Along::Off;
+        return None;
     }
-    Along::By(scale(d))
+    Some(scale(d))
 }
 
-// The point x, y from the corner west, north: its east difference and its south difference, each over 256.
-pub fn tile_point(west: i64, north: i64, x: i64, y: i64) -> Tile
+// The point x, y from the corner west, north: its east difference and its south difference, each over 256. None: refusal 20.
+#[tactic(auto, unfolding(crate::specs::Tiles::tile_of, crate::specs::Tiles::along_of))]
+pub fn tile_point(west: i64, north: i64, x: i64, y: i64) -> Option<Offset>
     ensures { result ≡ tile_of west north x y }
 {
-    match difference(west, x) {
-        Along::Off => Tile::Outside,
-        Along::By(east) => match difference(y, north) {
-            Along::Off => Tile::Outside,
-            Along::By(south) => Tile::At(Offset {
-                east: east,
-                south: south,
-            }),
-        },
-    }
+    let east = difference(west, x)?;
+    let south = difference(y, north)?;
+    Some(Offset { east, south })
 }

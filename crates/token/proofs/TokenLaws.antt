@@ -10,34 +10,30 @@ use lib.Dec.{leb, eqb}
 use lib.IntN.{ℤ, pos, negsuc}
 use lib.Signed.{le_z}
 use borrow.Author.Tests.{ne_eqb, eqb-true, le-leb, leb-true, lt-ltb, le-ltb}
+use Rattle.std.specs.Prelude.{Option, Some, None, Result, Ok, Err}
 use Rattle.laws.specs.Lists.{run, kept, all, same, place, below}
 use Rattle.laws.proofs.Choice.{and_left, and_right, cond-elim, false≢true}
 use Rattle.laws.proofs.ListLaws.{same-is, place_is, front, below_at}
 use Rattle.record.specs.declared.Mode.{Mode}
 use Rattle.record.specs.declared.Mode.TheVariants.{Loose, Exact, Former}
 use Rattle.record.specs.Record.{widens, word_eof}
-use Rattle.record.specs.Refusals.{not_keyword, malformed, bad_letters, record_most}
+use Rattle.record.specs.declared.refusal.Refusal.{Refusal}
+use Rattle.record.specs.declared.refusal.Refusal.TheVariants as Refusal
+use Rattle.record.specs.Refusals.{record_most}
 use Rattle.number.specs.declared.Word.{Word}
-use Rattle.number.specs.declared.Word.TheVariants as Word
-use Rattle.number.specs.declared.Whole.{Whole}
-use Rattle.number.specs.declared.Whole.TheVariants as Whole
-use Rattle.number.specs.declared.Decimal.{Decimal}
-use Rattle.number.specs.declared.Decimal.TheVariants as Decimal
-use Rattle.number.specs.Words.{unled, trimmed, word_of}
+use Rattle.number.specs.Words.{unled, trimmed, word_at, word_of}
 use Rattle.number.specs.Number.{parted, is_note, integer_of, real_of, real_least, real_most, is_real}
 use Rattle.number.proofs.NumberLaws.{integer-most, real-in, integer-widens, real-widens, integer-former, real-former, integer-noted, real-noted}
 use Rattle.number.proofs.WordLaws.{word-is, word-exact, word-widens}
-use Rattle.token.specs.declared.Token.{Token}
-use Rattle.token.specs.declared.Token.TheVariants.{Say, Bad}
 use Rattle.token.specs.declared.Want.{Want}
 use Rattle.token.specs.declared.Want.TheVariants.{Key, Text, Int, Real}
 use Rattle.token.specs.Lex.{lift, unlift, keywords, kind_most, may_lie_outside, unmarked, is_marked, key_of, is_key, key_text, of_key, of_text, of_whole, of_decimal, lex_of, behind_number}
 use Rattle.token.proofs.TokenWays.{kind-most, marked-kind}
 
-no-say : (n t : ℕ) → Bad n ≡ Say t → ⊥
-no-say n t e = let z : ◌≡◌ {A = ℕ} 0 1 = cc in omega arith
+no-say : (m : Refusal) (t : ℕ) → ◌≡◌ {A = Result ℕ Refusal} (Err m) (Ok t) → ⊥
+no-say m t e = cc
 
-say-is : (n t : ℕ) → Say n ≡ Say t → n ≡ t
+say-is : (n t : ℕ) → ◌≡◌ {A = Result ℕ Refusal} (Ok n) (Ok t) → n ≡ t
 say-is n t e = cc
 
 -- ---- lifted reals
@@ -112,24 +108,24 @@ module _ (w : List ℕ) where
       let v = (place_is 1 keywords (unmarked w) (omega arith)).2 in
       key-outside w under (omega arith) (kind-most (unmarked w)) o (last-is w 92 (omega arith) b ∙ ap (λ (x : List ℕ). x ++ 92 ∷ []) v)
 
-  abbrev Reads : ℕ → Token → Type 0
-  Reads t x = x ≡ Say t → (is_key t ≡ true) × (w ≡ key_text t)
+  abbrev Reads : ℕ → Result ℕ Refusal → Type 0
+  Reads t x = x ≡ Ok t → (is_key t ≡ true) × (w ≡ key_text t)
 
-  abbrev marked : Token
-  marked = cond (is_marked w) (Say (2 * under + 1)) (Bad not_keyword)
+  abbrev marked : Result ℕ Refusal
+  marked = cond (is_marked w) (Ok (2 * under + 1)) (Err Refusal.Keyword)
 
   reads-marked : (t : ℕ) → Reads t marked
   reads-marked t =
-      cond-elim (Reads t) (is_marked w) (Say (2 * under + 1)) (Bad not_keyword) (λ e d. rw (← say-is (2 * under + 1) t d) (read-marked e))
-      (λ e d. absurd (no-say not_keyword t d))
+      cond-elim (Reads t) (is_marked w) (Ok (2 * under + 1)) (Err Refusal.Keyword) (λ e d. rw (← say-is (2 * under + 1) t d) (read-marked e))
+      (λ e d. absurd (no-say Refusal.Keyword t d))
 
   -- where a keyword is due a word says the number of its own text
-  pub key-read : (t : ℕ) → key_of w ≡ Say t → (is_key t ≡ true) × (w ≡ key_text t)
+  pub key-read : (t : ℕ) → key_of w ≡ Ok t → (is_key t ≡ true) × (w ≡ key_text t)
   unfolding key_of is_key key_text
   key-read t =
-      cond-elim (Reads t) (same w word_eof) (Say 0) (cond (leb 1 kind) (Say (2 * kind)) marked)
+      cond-elim (Reads t) (same w word_eof) (Ok 0) (cond (leb 1 kind) (Ok (2 * kind)) marked)
       (λ e d. rw (← say-is 0 t d) (refl, same-is w word_eof e))
-      (λ _. cond-elim (Reads t) (leb 1 kind) (Say (2 * kind)) marked (λ e d. rw (← say-is (2 * kind) t d) (read_plain (leb-true 1 kind e))) (λ _. reads-marked t))
+      (λ _. cond-elim (Reads t) (leb 1 kind) (Ok (2 * kind)) marked (λ e d. rw (← say-is (2 * kind) t d) (read_plain (leb-true 1 kind e))) (λ _. reads-marked t))
 
 -- no such number is larger
 abbrev pub key_most : ℕ
@@ -145,14 +141,14 @@ is-key-most t = go (eqb t 0) refl
         let h = and_right (leb 1 (t / 2)) (leb (t / 2) kind_most) (and_left (leb 1 (t / 2) && leb (t / 2) kind_most) (eqb (t % 2) 0 || may_lie_outside (t / 2)) e) in
         omega (arith, leb-true (t / 2) kind_most h)
 
-pub key-most : (w : List ℕ) (t : ℕ) → key_of w ≡ Say t → t ≤ key_most
+pub key-most : (w : List ℕ) (t : ℕ) → key_of w ≡ Ok t → t ≤ key_most
 key-most w t e = is-key-most t (key-read w t e).0
 
 -- ---- the content that says a keyword
 
-abbrev says : Token → ℕ → Bool
-says (Say n) t = eqb n t
-says (Bad n) t = false
+abbrev says : Result ℕ Refusal → ℕ → Bool
+says (Ok n) t = eqb n t
+says (Err n) t = false
 
 abbrev is_spelt : ℕ → Bool
 is_spelt t = not (is_key t) || says (lex_of Exact Key (key_text t)) t
@@ -162,80 +158,80 @@ unfolding below is_key key_text may_lie_outside keywords lex_of key_of is_marked
 all-spelt = refl
 
 -- exact mode reads each of those texts as its number
-pub key-spelt : (t : ℕ) → is_key t ≡ true → lex_of Exact Key (key_text t) ≡ Say t
+pub key-spelt : (t : ℕ) → is_key t ≡ true → lex_of Exact Key (key_text t) ≡ Ok t
 key-spelt t h = by (lex_of Exact Key (key_text t)) (rw h at (below_at (key_most + 1) is_spelt t all-spelt (omega (arith, is-key-most t h))))
   where
-    by : (x : Token) → says x t ≡ true → x ≡ Say t
-    by (Say n) e = ap Say (eqb-true n t e)
-    by (Bad n) e = absurd (false≢true e)
+    by : (x : Result ℕ Refusal) → says x t ≡ true → x ≡ Ok t
+    by (Ok n) e = ap Ok (eqb-true n t e)
+    by (Err n) e = absurd (false≢true e)
 
 -- a content that says a keyword has a word, and the word says it
 module _ (mode : Mode) (c : List ℕ) (t : ℕ) (P : Type 0) where
-  key-word : lex_of mode Key c ≡ Say t → ((start len : ℕ) → word_of mode c ≡ Word.Is start len → key_of (trimmed c) ≡ Say t → P) → P
+  key-word : lex_of mode Key c ≡ Ok t → ((start len : ℕ) → word_of mode c ≡ word_at start len → key_of (trimmed c) ≡ Ok t → P) → P
   unfolding lex_of
   key-word e f = by (word_of mode c) refl e
     where
-      by : (x : Word) → word_of mode c ≡ x → of_key c x ≡ Say t → P
-      by (Word.Is start len) q d = f start len q (ap key_of (sym (word-is mode c start len q).1) ∙ d)
-      by Word.Padded q d = absurd (no-say not_keyword t d)
+      by : (x : Option Word) → word_of mode c ≡ x → of_key c x ≡ Ok t → P
+      by (Some w) q d = f w.start w.len q (ap key_of (sym (word-is mode c w.start w.len q).1) ∙ d)
+      by None q d = absurd (no-say Refusal.Keyword t d)
 
 -- in every mode its word is the text
-pub key-text : (mode : Mode) (c : List ℕ) (t : ℕ) → lex_of mode Key c ≡ Say t → (is_key t ≡ true) × (trimmed c ≡ key_text t)
+pub key-text : (mode : Mode) (c : List ℕ) (t : ℕ) → lex_of mode Key c ≡ Ok t → (is_key t ≡ true) × (trimmed c ≡ key_text t)
 key-text mode c t e = key-word mode c t ((is_key t ≡ true) × (trimmed c ≡ key_text t)) e (λ start len q d. key-read (trimmed c) t d)
 
 -- exact mode takes no other content for it
-pub key-only : (c : List ℕ) (t : ℕ) → lex_of Exact Key c ≡ Say t → c ≡ key_text t
+pub key-only : (c : List ℕ) (t : ℕ) → lex_of Exact Key c ≡ Ok t → c ≡ key_text t
 key-only c t e = key-word Exact c t (c ≡ key_text t) e (λ start len q d. sym (word-exact c start len q).0 ∙ (key-read (trimmed c) t d).1)
 
 -- ---- every token
 
 -- a token is at most the greatest real's
-pub says-most : (mode : Mode) (want : Want) (c : List ℕ) (t : ℕ) → length c ≤ record_most → lex_of mode want c ≡ Say t → t ≤ 109999999999
+pub says-most : (mode : Mode) (want : Want) (c : List ℕ) (t : ℕ) → length c ≤ record_most → lex_of mode want c ≡ Ok t → t ≤ 109999999999
 unfolding lex_of
 says-most mode Key c t h e = omega (arith, is-key-most t (key-text mode c t e).0)
 says-most mode Text c t h e = by (word_of mode c) refl e
   where
-    by : (x : Word) → word_of mode c ≡ x → of_text x ≡ Say t → t ≤ 109999999999
-    by (Word.Is start len) q d =
-        cond-elim (λ (x : Token). x ≡ Say t → t ≤ 109999999999) (eqb len 0) (Bad bad_letters) (Say len) (λ _ f. absurd (no-say bad_letters t f))
-        (λ _ f. omega (arith, say-is len t f, (word-is mode c start len q).0)) d
-    by Word.Padded q d = absurd (no-say bad_letters t d)
+    by : (x : Option Word) → word_of mode c ≡ x → of_text x ≡ Ok t → t ≤ 109999999999
+    by (Some w) q d =
+        cond-elim (λ (x : Result ℕ Refusal). x ≡ Ok t → t ≤ 109999999999) (eqb w.len 0) (Err Refusal.Letters) (Ok w.len) (λ _ f. absurd (no-say Refusal.Letters t f))
+        (λ _ f. omega (arith, say-is w.len t f, (word-is mode c w.start w.len q).0)) d
+    by None q d = absurd (no-say Refusal.Letters t d)
 says-most mode Int c t h e = by (integer_of mode c) refl e
   where
-    by : (x : Whole) → integer_of mode c ≡ x → of_whole x ≡ Say t → t ≤ 109999999999
-    by (Whole.Is n) q d = omega (arith, say-is n t d, integer-most mode c n q)
-    by Whole.Malformed q d = absurd (no-say malformed t d)
+    by : (x : Option ℕ) → integer_of mode c ≡ x → of_whole x ≡ Ok t → t ≤ 109999999999
+    by (Some n) q d = omega (arith, say-is n t d, integer-most mode c n q)
+    by None q d = absurd (no-say Refusal.Number t d)
 says-most mode Real c t h e = by (real_of mode c) refl e
   where
-    by : (x : Decimal) → real_of mode c ≡ x → of_decimal x ≡ Say t → t ≤ 109999999999
-    by (Decimal.Is z) q d = omega (arith, say-is (lift z) t d, (lift-most z (real-in mode c z q)).1)
-    by Decimal.Malformed q d = absurd (no-say malformed t d)
+    by : (x : Option ℤ) → real_of mode c ≡ x → of_decimal x ≡ Ok t → t ≤ 109999999999
+    by (Some z) q d = omega (arith, say-is (lift z) t d, (lift-most z (real-in mode c z q)).1)
+    by None q d = absurd (no-say Refusal.Number t d)
 
 -- ---- the modes
 
 -- what a content says in one mode, it says in a wider one
-pub lex-widens : (from to : Mode) → widens from to ≡ true → (w : Want) (c : List ℕ) (t : ℕ) → lex_of from w c ≡ Say t → lex_of to w c ≡ Say t
+pub lex-widens : (from to : Mode) → widens from to ≡ true → (w : Want) (c : List ℕ) (t : ℕ) → lex_of from w c ≡ Ok t → lex_of to w c ≡ Ok t
 unfolding lex_of
 lex-widens from to wide Key c t = go (word_of from c) refl
   where
-    go : (w : Word) → word_of from c ≡ w → of_key c w ≡ Say t → of_key c (word_of to c) ≡ Say t
-    go (Word.Is start len) e q = rw (word-widens from to wide c start len e) q
-    go Word.Padded e q = absurd (no-say not_keyword t q)
+    go : (w : Option Word) → word_of from c ≡ w → of_key c w ≡ Ok t → of_key c (word_of to c) ≡ Ok t
+    go (Some x) e q = rw (word-widens from to wide c x.start x.len e) q
+    go None e q = absurd (no-say Refusal.Keyword t q)
 lex-widens from to wide Text c t = go (word_of from c) refl
   where
-    go : (w : Word) → word_of from c ≡ w → of_text w ≡ Say t → of_text (word_of to c) ≡ Say t
-    go (Word.Is start len) e q = rw (word-widens from to wide c start len e) q
-    go Word.Padded e q = absurd (no-say bad_letters t q)
+    go : (w : Option Word) → word_of from c ≡ w → of_text w ≡ Ok t → of_text (word_of to c) ≡ Ok t
+    go (Some x) e q = rw (word-widens from to wide c x.start x.len e) q
+    go None e q = absurd (no-say Refusal.Letters t q)
 lex-widens from to wide Int c t = go (integer_of from c) refl
   where
-    go : (w : Whole) → integer_of from c ≡ w → of_whole w ≡ Say t → of_whole (integer_of to c) ≡ Say t
-    go (Whole.Is n) e q = rw (integer-widens from to wide c n e) q
-    go Whole.Malformed e q = absurd (no-say malformed t q)
+    go : (w : Option ℕ) → integer_of from c ≡ w → of_whole w ≡ Ok t → of_whole (integer_of to c) ≡ Ok t
+    go (Some n) e q = rw (integer-widens from to wide c n e) q
+    go None e q = absurd (no-say Refusal.Number t q)
 lex-widens from to wide Real c t = go (real_of from c) refl
   where
-    go : (w : Decimal) → real_of from c ≡ w → of_decimal w ≡ Say t → of_decimal (real_of to c) ≡ Say t
-    go (Decimal.Is z) e q = rw (real-widens from to wide c z e) q
-    go Decimal.Malformed e q = absurd (no-say malformed t q)
+    go : (w : Option ℤ) → real_of from c ≡ w → of_decimal w ≡ Ok t → of_decimal (real_of to c) ≡ Ok t
+    go (Some z) e q = rw (real-widens from to wide c z e) q
+    go None e q = absurd (no-say Refusal.Number t q)
 
 -- loose mode reads a content as the former reading does, or there is a note behind its number
 pub lex-former : (w : Want) (c : List ℕ) (P : Type 0) → (lex_of Loose w c ≡ lex_of Former w c → P) → (is_note (behind_number w c) ≡ true → P) → P
@@ -246,7 +242,7 @@ lex-former Int c P same note = integer-former c P (λ e. same (ap of_whole e)) n
 lex-former Real c P same note = real-former c P (λ e. same (ap of_decimal e)) note
 
 -- a note is 8 in loose mode
-pub lex-noted : (w : Want) (c : List ℕ) → is_note (behind_number w c) ≡ true → lex_of Loose w c ≡ Bad malformed
+pub lex-noted : (w : Want) (c : List ℕ) → is_note (behind_number w c) ≡ true → lex_of Loose w c ≡ Err Refusal.Number
 unfolding lex_of
 lex-noted Key c e = absurd (false≢true (unfold is_note parted all in e))
 lex-noted Text c e = absurd (false≢true (unfold is_note parted all in e))

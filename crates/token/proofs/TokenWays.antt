@@ -1,12 +1,11 @@
 -- The ways through the functions of a token, each with what the code has in hand there. Assumes nothing.
-use Prim.Native.Nat.{ℕ, zero, suc, ◌+◌, ◌-◌, ◌*◌, ◌^◌, ◌≤◌, ◌<◌}
+use Prim.Native.Nat.{ℕ, zero, suc, ◌+◌, ◌-◌, ◌*◌, ◌≤◌, ◌<◌}
 use mathlib.Core.Path.{◌≡◌, refl, sym, ◌∙◌, ap}
 use mathlib.Core.List.{List, [], ◌∷◌}
 use mathlib.Core.Bool.{Bool, true, false, cond, ◌&&◌}
-use native.Mathlib.Nat.{add-sub_cancel_left}
 use native.Mathlib.Omega.{arith}
 use lib.ListN.{length, get_or, take, drop, get_or-eq_default}
-use lib.Seq.{length-take-le}
+use lib.Seq.{take-append_seam, get_or-append_seam}
 use lib.Dec.{T, leb, eqb}
 use lib.IntN.{ℤ, pos, negsuc, ◌-ℤ◌, nat_abs}
 use lib.Signed.{le_z, lt_z, non_neg}
@@ -14,6 +13,8 @@ use mir.Syntax.{w64}
 use mir.Val.{Fits, SFits, to_z, of_z}
 use mir.ValLaws.{to_z-of_z}
 use borrow.Author.Tests.{eq-eqb, ne_eqb, le-leb, lt-leb, le-ltb, ltb-true, ltb-false, leb-true, leb-false}
+use Rattle.std.specs.Prelude.{Option, Some, Ok, Err}
+use Rattle.std.specs.List.{IsLastAndRest}
 use Rattle.laws.specs.Lists.{same, place, below, packed_at, packed}
 use Rattle.laws.specs.Text.{text}
 use Rattle.laws.proofs.Choice.{and_left, and_right, false≢true}
@@ -21,21 +22,12 @@ use Rattle.laws.proofs.ListLaws.{place_is}
 use Rattle.laws.proofs.Packed.{packed-from, packed-to, packed-is}
 use Rattle.record.specs.declared.Mode.{Mode}
 use Rattle.record.specs.Record.{word_eof}
-use Rattle.record.specs.Refusals.{not_keyword, malformed, bad_letters}
+use Rattle.record.specs.declared.refusal.Refusal.{Refusal}
+use Rattle.record.specs.declared.refusal.Refusal.TheVariants as Refusal
 use Rattle.number.specs.declared.Word.{Word}
-use Rattle.number.specs.declared.Word.TheVariants as Word
-use Rattle.number.specs.declared.Whole.{Whole}
-use Rattle.number.specs.declared.Whole.TheVariants as Whole
-use Rattle.number.specs.declared.Decimal.{Decimal}
-use Rattle.number.specs.declared.Decimal.TheVariants as Decimal
 use Rattle.number.specs.Words.{word_of}
-use Rattle.number.specs.Number.{integer_of, real_of}
 use Rattle.number.proofs.WordLaws.{word-is}
-use Rattle.token.specs.declared.Token.{Token}
-use Rattle.token.specs.declared.Token.TheVariants.{Say, Bad}
-use Rattle.token.specs.declared.Want.{Want}
-use Rattle.token.specs.declared.Want.TheVariants.{Key, Text, Int, Real}
-use Rattle.token.specs.Lex.{lift, keywords, kind_most, may_lie_outside, unmarked, is_marked, key_of, lex_of}
+use Rattle.token.specs.Lex.{lift, keywords, kind_most, may_lie_outside, unmarked, is_marked, key_of}
 
 -- ---- the keywords as the code has them
 
@@ -103,7 +95,7 @@ module _ (w : List ℕ) (r1 : Bool) (e1 : r1 ≡ same w (text "BORDO")) where
               unfolding place keywords
               kind_0 t = rw (← e1, f1, ← e2, f2, ← e3, f3, ← e4, f4, ← e5, f5, ← e6, f6, ← e7, t)
 
-pub ruleset kind-ways = (kind_1, kind_2, kind_3, kind-4, kind-5, kind-6, kind-7, kind_0)
+pub ruleset kind_ways = (kind_1, kind_2, kind_3, kind-4, kind-5, kind-6, kind-7, kind_0)
 
 pub kind-most : (w : List ℕ) → place 1 keywords w ≤ kind_most
 unfolding keywords
@@ -112,24 +104,6 @@ kind-most w = go (place 1 keywords w) (λ h. (place_is 1 keywords w h).1)
     go : (n : ℕ) → (0 < n → n < kind_most + 1) → n ≤ kind_most
     go zero f = omega arith
     go (suc n) f = omega (arith, f (omega arith))
-
--- ---- a kind that may lie outside
-
-module _ (kind : ℕ) where
-  pub outside-border : kind < 2 → false ≡ may_lie_outside kind
-  unfolding may_lie_outside
-  outside-border h = rw (lt-leb 2 kind h)
-
-  module _ (h : 2 ≤ kind) where
-    pub outside-past : 5 < kind → false ≡ may_lie_outside kind
-    unfolding may_lie_outside
-    outside-past k = rw (le-leb 2 kind h, lt-leb kind 5 k)
-
-    pub outside-kind : kind ≤ 5 → true ≡ may_lie_outside kind
-    unfolding may_lie_outside
-    outside-kind k = rw (le-leb 2 kind h, le-leb kind 5 k)
-
-pub ruleset outside-ways = (outside-border, outside-past, outside-kind)
 
 -- ---- a keyword with a final `\`
 
@@ -140,9 +114,6 @@ module _ (w : List ℕ) where
   abbrev marked_kind : ℕ
   marked_kind = cond (is_marked w) (place 1 keywords (unmarked w)) 0
 
-  pub front-count : length w - 1 ≡ length (take (length w - 1) w)
-  front-count = sym (length-take-le (length w - 1) w (omega arith))
-
   pub marked_other : (last ≡ 92 → ⊥) → 0 ≡ marked_kind
   unfolding is_marked
   marked_other h = rw (ne_eqb last 92 h)
@@ -150,15 +121,28 @@ module _ (w : List ℕ) where
   pub marked_empty : length w ≡ 0 → 0 ≡ marked_kind
   marked_empty h = marked_other (λ e. absurd (omega (arith, get_or-eq_default w 0 {n = length w - 1} (omega arith))))
 
-  module _ (h : last ≡ 92) (kind : ℕ) (q : kind ≡ place 1 keywords (take (length w - 1) w)) where
-    module _ (r : Bool) (o : r ≡ may_lie_outside kind) where
+  module _ (b : ℕ) (front : List ℕ) (p : IsLastAndRest w b front) where
+    front-is : front ≡ take (length w - 1) w
+    front-is =
+        let n : length w - 1 ≡ length front = omega (arith, p.1) in
+        rw n (rw p.0 (sym (take-append_seam front (b ∷ []))))
+
+    last-is : last ≡ b
+    last-is =
+        let n : length w - 1 ≡ length front = omega (arith, p.1) in
+        rw n (rw p.0 (get_or-append_seam front b [] 0))
+
+    pub marked_unlike : (b ≡ 92 → ⊥) → 0 ≡ marked_kind
+    marked_unlike h = marked_other (λ e. h (sym last-is ∙ e))
+
+    module _ (h : b ≡ 92) (kind : ℕ) (q : kind ≡ place 1 keywords front) (r : Bool) (o : r ≡ may_lie_outside kind) where
       pub marked-inside : r ≡ false → 0 ≡ marked_kind
       unfolding is_marked unmarked
-      marked-inside t = rw (eq-eqb last 92 h, ← q, ← o, t)
+      marked-inside t = rw (eq-eqb last 92 (last-is ∙ h), ← front-is, ← q, ← o, t)
 
       pub marked-is : r ≡ true → kind ≡ marked_kind
       unfolding is_marked unmarked
-      marked-is t = rw (eq-eqb last 92 h, ← q, ← o, t)
+      marked-is t = rw (eq-eqb last 92 (last-is ∙ h), ← front-is, ← q, ← o, t)
 
   -- a marked keyword lies outside, so its kind is 2 to 5
   pub marked-kind : is_marked w ≡ true → 2 ≤ place 1 keywords (unmarked w)
@@ -192,33 +176,33 @@ module _ (w : List ℕ) where
   pub marked-doubled : (m : ℕ) → m ≡ marked_kind → Fits w64 (2 * m)
   marked-doubled m q = record { fits = omega (arith, (marked-fits m q).fits) }
 
-pub ruleset marked-ways = (front-count, marked_empty, marked_other, marked-inside, marked-is)
+pub ruleset marked_ways = (marked_empty, marked_unlike, marked-inside, marked-is)
 
 -- ---- a word where a keyword is due
 
 module _ (w : List ℕ) (r : Bool) (e : r ≡ same w word_eof) where
-  pub key-EOF : r ≡ true → Say 0 ≡ key_of w
+  pub key-EOF : r ≡ true → Ok 0 ≡ key_of w
   unfolding key_of
   key-EOF t = rw (← e, t)
 
   module _ (f : r ≡ false) (kind : ℕ) (q : kind ≡ place 1 keywords w) where
-    pub key-word : 0 < kind → Say (2 * kind) ≡ key_of w
+    pub key-word : 0 < kind → Ok (2 * kind) ≡ key_of w
     unfolding key_of
     key-word h = rw (← e, f, ← q, le-leb 1 kind h)
 
     module _ (h : kind ≤ 0) (m : ℕ) (o : m ≡ marked_kind w) where
-      pub key-marked : 0 < m → Say (2 * m + 1) ≡ key_of w
+      pub key-marked : 0 < m → Ok (2 * m + 1) ≡ key_of w
       unfolding key_of
       key-marked l = let b = marked_by w m o l in rw (← e, f, ← q, lt-leb 1 kind (omega arith), b.0, ← b.1)
 
-      pub key-none : m ≤ 0 → Bad not_keyword ≡ key_of w
+      pub key-none : m ≤ 0 → Err Refusal.Keyword ≡ key_of w
       unfolding key_of
       key-none l = rw (← e, f, ← q, lt-leb 1 kind (omega arith), marked-not w m o l)
 
 pub key_fits : (w : List ℕ) (kind : ℕ) → kind ≡ place 1 keywords w → Fits w64 (2 * kind)
 key_fits w kind q = record { fits = omega (arith, kind-most w) }
 
-pub ruleset key-ways = (key-EOF, key_fits, key-word, marked-doubled, marked-fits, key-marked, key-none)
+pub ruleset key_ways = (key-EOF, key_fits, key-word, marked-doubled, marked-fits, key-marked, key-none)
 
 -- ---- a real as a token
 
@@ -284,56 +268,10 @@ module _ (z : ℤ) (f : SFits w64 z) where
       pub lift-down : nat_abs (bits (bits z -ℤ negsuc 9999999999)) ≡ lift z
       lift-down = ap nat_abs down
 
-pub ruleset lift-ways = (lift-add, lift-up, lift-low, lift-sub, lift-down)
+pub ruleset lift_ways = (lift-add, lift-cast, lift-up, lift-low, lift-sub, lift-cast-down, lift-down)
 
 -- ---- a content, by what it is to be read as
 
-module _ (mode : Mode) (c : List ℕ) (w : Word) (q : w ≡ word_of mode c) (start len : ℕ) (e : w ≡ Word.Is start len) where
-  pub word_in : start + len ≤ length c
-  word_in = (word-is mode c start len (sym q ∙ e)).0
-
-  pub word_fits : length c < 2 ^ 64 → Fits w64 (start + len)
-  word_fits h = record { fits = omega (arith, word_in) }
-
-module _ (mode : Mode) (want : Want) (c : List ℕ) where
-  module _ (w : Word) (q : w ≡ word_of mode c) where
-    pub lex-no-key : want ≡ Key → w ≡ Word.Padded → Bad not_keyword ≡ lex_of mode want c
-    unfolding lex_of
-    lex-no-key k e = rw (k, ← q, e)
-
-    pub lex-no-text : want ≡ Text → w ≡ Word.Padded → Bad bad_letters ≡ lex_of mode want c
-    unfolding lex_of
-    lex-no-text k e = rw (k, ← q, e)
-
-    module _ (start len : ℕ) (e : w ≡ Word.Is start len) where
-      pub lex-key : (t : Token) → want ≡ Key → t ≡ key_of (take (start + len - start) (drop start c)) → t ≡ lex_of mode want c
-      unfolding lex_of
-      lex-key t k v = rw (k, ← q, e, v, add-sub_cancel_left start len)
-
-      pub lex-empty : want ≡ Text → len ≡ 0 → Bad bad_letters ≡ lex_of mode want c
-      unfolding lex_of
-      lex-empty k z = rw (k, ← q, e, eq-eqb len 0 z)
-
-      pub lex-text : want ≡ Text → (len ≡ 0 → ⊥) → Say len ≡ lex_of mode want c
-      unfolding lex_of
-      lex-text k z = rw (k, ← q, e, ne_eqb len 0 z)
-
-  module _ (k : want ≡ Int) (w : Whole) (q : w ≡ integer_of mode c) where
-    pub lex-no-int : w ≡ Whole.Malformed → Bad malformed ≡ lex_of mode want c
-    unfolding lex_of
-    lex-no-int e = rw (k, ← q, e)
-
-    pub lex-int : (n : ℕ) → w ≡ Whole.Is n → Say n ≡ lex_of mode want c
-    unfolding lex_of
-    lex-int n e = rw (k, ← q, e)
-
-  module _ (k : want ≡ Real) (w : Decimal) (q : w ≡ real_of mode c) where
-    pub lex-no-real : w ≡ Decimal.Malformed → Bad malformed ≡ lex_of mode want c
-    unfolding lex_of
-    lex-no-real e = rw (k, ← q, e)
-
-    pub lex-real : (z : ℤ) (t : ℕ) → w ≡ Decimal.Is z → t ≡ lift z → Say t ≡ lex_of mode want c
-    unfolding lex_of
-    lex-real z t e v = rw (k, ← q, e, v)
-
-pub ruleset lex-ways = (lex-no-key, lex-no-text, word_fits, lex-key, lex-empty, lex-text, lex-no-int, lex-int, lex-no-real, lex-real)
+module _ (mode : Mode) (c : List ℕ) (w : Option Word) (q : w ≡ word_of mode c) (x : Word) (e : w ≡ Some x) where
+  pub word_in : x.start + x.len ≤ length c
+  word_in = (word-is mode c x.start x.len (sym q ∙ e)).0

@@ -1,20 +1,14 @@
 -- What a content says, by what it is to be read as: document 01, "Records" and "Sections". Assumes nothing: these are definitions.
-use Rattle.std.specs.Prelude.{ℕ, ◌+◌, ◌-◌, ◌*◌, ◌/◌, ◌%◌, List, [], ◌∷◌, ◌++◌, Bool, cond, ◌&&◌, ◌||◌, length, get_or, take, drop, leb, eqb, ℤ, pos, negsuc, ◌-ℤ◌}
+use Rattle.std.specs.Prelude.{ℕ, ◌+◌, ◌-◌, ◌*◌, ◌/◌, ◌%◌, List, [], ◌∷◌, ◌++◌, Bool, cond, ◌&&◌, ◌||◌, length, get_or, take, drop, leb, eqb, ℤ, pos, negsuc, ◌-ℤ◌, Option, Some, None, Result, Ok, Err}
 use Rattle.laws.specs.Lists.{same, place}
 use Rattle.laws.specs.Text.{text}
 use Rattle.record.specs.declared.Mode.{Mode}
 use Rattle.record.specs.Record.{word_eof}
-use Rattle.record.specs.Refusals.{not_keyword, malformed, bad_letters}
+use Rattle.record.specs.declared.refusal.Refusal.{Refusal}
+use Rattle.record.specs.declared.refusal.Refusal.TheVariants as Refusal
 use Rattle.number.specs.declared.Word.{Word}
-use Rattle.number.specs.declared.Word.TheVariants as Word
-use Rattle.number.specs.declared.Whole.{Whole}
-use Rattle.number.specs.declared.Whole.TheVariants as Whole
-use Rattle.number.specs.declared.Decimal.{Decimal}
-use Rattle.number.specs.declared.Decimal.TheVariants as Decimal
 use Rattle.number.specs.Words.{word_of}
 use Rattle.number.specs.Number.{integer_of, behind_integer, real_of, behind_real}
-use Rattle.token.specs.declared.Token.{Token}
-use Rattle.token.specs.declared.Token.TheVariants.{Say, Bad}
 use Rattle.token.specs.declared.Want.{Want}
 use Rattle.token.specs.declared.Want.TheVariants.{Key, Text, Int, Real}
 
@@ -49,11 +43,11 @@ unfoldable pub is_marked : List ℕ → Bool
 is_marked w = eqb (get_or w (length w - 1) 0) 92 && may_lie_outside (place 1 keywords (unmarked w))
 
 -- a word where a keyword is due: EOF, a keyword, a keyword that lies outside; or 7
-unfoldable pub key_of : List ℕ → Token
+unfoldable pub key_of : List ℕ → Result ℕ Refusal
 key_of w =
-    cond (same w word_eof) (Say 0)
-    (cond (leb 1 (place 1 keywords w)) (Say (2 * place 1 keywords w))
-    (cond (is_marked w) (Say (2 * place 1 keywords (unmarked w) + 1)) (Bad not_keyword)))
+    cond (same w word_eof) (Ok 0)
+    (cond (leb 1 (place 1 keywords w)) (Ok (2 * place 1 keywords w))
+    (cond (is_marked w) (Ok (2 * place 1 keywords (unmarked w) + 1)) (Err Refusal.Keyword)))
 
 -- the numbers that a word says there, and the exact mode's content for each
 unfoldable pub is_key : ℕ → Bool
@@ -62,24 +56,24 @@ is_key t = eqb t 0 || leb 1 (t / 2) && leb (t / 2) kind_most && (eqb (t % 2) 0 |
 unfoldable pub key_text : ℕ → List ℕ
 key_text t = cond (eqb t 0) word_eof (get_or keywords (t / 2 - 1) [] ++ cond (eqb (t % 2) 1) (92 ∷ []) [])
 
-abbrev pub of_key : List ℕ → Word → Token
-of_key c (Word.Is start len) = key_of (take len (drop start c))
-of_key c Word.Padded = Bad not_keyword
+abbrev pub of_key : List ℕ → Option Word → Result ℕ Refusal
+of_key c (Some w) = key_of (take w.len (drop w.start c))
+of_key c None = Err Refusal.Keyword
 
 -- letters are never empty; in exact mode a blank at an end is 9 too
-abbrev pub of_text : Word → Token
-of_text (Word.Is start len) = cond (eqb len 0) (Bad bad_letters) (Say len)
-of_text Word.Padded = Bad bad_letters
+abbrev pub of_text : Option Word → Result ℕ Refusal
+of_text (Some w) = cond (eqb w.len 0) (Err Refusal.Letters) (Ok w.len)
+of_text None = Err Refusal.Letters
 
-abbrev pub of_whole : Whole → Token
-of_whole (Whole.Is n) = Say n
-of_whole Whole.Malformed = Bad malformed
+abbrev pub of_whole : Option ℕ → Result ℕ Refusal
+of_whole (Some n) = Ok n
+of_whole None = Err Refusal.Number
 
-abbrev pub of_decimal : Decimal → Token
-of_decimal (Decimal.Is z) = Say (lift z)
-of_decimal Decimal.Malformed = Bad malformed
+abbrev pub of_decimal : Option ℤ → Result ℕ Refusal
+of_decimal (Some z) = Ok (lift z)
+of_decimal None = Err Refusal.Number
 
-unfoldable pub lex_of : Mode → Want → List ℕ → Token
+unfoldable pub lex_of : Mode → Want → List ℕ → Result ℕ Refusal
 lex_of mode Key c = of_key c (word_of mode c)
 lex_of mode Text c = of_text (word_of mode c)
 lex_of mode Int c = of_whole (integer_of mode c)

@@ -2,24 +2,16 @@
 // All of it is proved, and no public function has a `requires`.
 #![tactic(auto)]
 
-ghost use Rattle.std.specs.Prelude.{◌≡◌, ◌<◌, cond, get_or, []};
-ghost use Rattle.laws.specs.Lists.{same, place};
-ghost use Rattle.token.specs.Lex.{keywords, kind_most, lift, may_lie_outside, unmarked, is_marked, key_of, lex_of};
+ghost use Rattle.std.specs.Prelude.{◌≡◌, ◌<◌, cond};
+ghost use Rattle.laws.specs.Lists.{place};
+ghost use Rattle.token.specs.Lex.{keywords, lift, may_lie_outside, unmarked, is_marked, key_of, lex_of};
 
-use number::{Decimal, Whole, Word, integer, real, word_of};
-use record::refusal::{KEYWORD, LETTERS, NUMBER};
+use number::{integer, real, word_of};
+use record::refusal::Refusal;
 use record::{Mode, is_same};
 
-// What a content says, as one number, or the refusal's number. A keyword says twice its kind, one more where it lies
-// outside, 0 for EOF; letters their count; an integer itself; a real its thousandths lifted by 10,000,000,000.
-#[derive(Clone, Copy)]
-pub enum Token {
-    Say(usize),
-    Bad(usize),
-}
-
 // What a content is to be read as.
-#[derive(Clone, Copy)]
+#[derive(Clone, Copy, Debug, PartialEq, Eq)]
 pub enum Want {
     Key,
     Text,
@@ -39,17 +31,9 @@ pub const WORDS: [u8; 57] = *b"BORDOTESTOSIMBOLOFIDUCIALELINEARIFERIMENTO_RASTER
 
 pub const WORD_STARTS: [usize; 8] = [0, 5, 10, 17, 26, 31, 49, 57];
 
-// A word is the keyword of the kind `k + 1`.
-fn is_keyword(w: &[u8], k: usize) -> bool
-    requires { k < kind_most }
-    ensures { result ≡ same w.now (get_or keywords k []) }
-{
-    let start = WORD_STARTS[k];
-    let end = WORD_STARTS[k + 1];
-    is_same(w, &WORDS[start..end])
-}
-
-// The kind of a keyword, or 0. The tests stand in a row, as a table would be built anew at each use.
+// The kind of a keyword, or 0. The tests stand in a row: a table would be built anew at each use, and the proof of a `match`
+// on bytes falls into a case for each of them.
+#[tactic(auto, using(crate::proofs::TokenWays::kind_ways))]
 fn kind_of(w: &[u8]) -> usize
     ensures { result ≡ place 1 keywords w.now }
 {
@@ -78,52 +62,46 @@ fn kind_of(w: &[u8]) -> usize
 }
 
 // TESTO, SIMBOLO, FIDUCIALE and LINEA may lie outside.
+#[tactic(auto, unfolding(crate::specs::Lex::may_lie_outside))]
 pub fn may_lie_outside(kind: usize) -> bool
     ensures { result ≡ may_lie_outside kind }
 {
-    if kind < 2 {
-        return false;
-    }
-    if kind > 5 { false } else { true }
+    matches!(kind, 2..=5)
 }
 
 // What stands before the last byte, where there is one.
+#[tactic(auto, using(crate::proofs::TokenWays::marked_ways))]
 fn marked_kind(w: &[u8]) -> usize
     ensures { result ≡ cond (is_marked w.now) (place 1 keywords (unmarked w.now)) 0 }
 {
-    let n = w.len();
-    if n == 0 {
+    let Some((&b'\\', front)) = w.split_last() else {
         return 0;
-    }
-    if w[n - 1] != b'\\' {
-        return 0;
-    }
-    let kind = kind_of(&w[..n - 1]);
-    if may_lie_outside(kind) {
-        return kind;
-    }
-    0
+    };
+    let kind = kind_of(front);
+    if may_lie_outside(kind) { kind } else { 0 }
 }
 
 // A word where a keyword is due.
-fn key_of(w: &[u8]) -> Token
+#[tactic(auto, using(crate::proofs::TokenWays::key_ways))]
+fn key_of(w: &[u8]) -> Result<usize, Refusal>
     ensures { result ≡ key_of w.now }
 {
     if is_same(w, b"EOF") {
-        return Token::Say(0);
+        return Ok(0);
     }
     let kind = kind_of(w);
     if kind > 0 {
-        return Token::Say(2 * kind);
+        return Ok(2 * kind);
     }
     let outside = marked_kind(w);
     if outside > 0 {
-        return Token::Say(2 * outside + 1);
+        return Ok(2 * outside + 1);
     }
-    Token::Bad(KEYWORD)
+    Err(Refusal::Keyword)
 }
 
 // A real as a token.
+#[tactic(auto, using(crate::proofs::TokenWays::lift_ways))]
 pub fn lifted(z: i64) -> usize
     ensures { result ≡ lift z }
 {
@@ -136,38 +114,39 @@ pub fn lifted(z: i64) -> usize
     (z - LEAST) as usize
 }
 
-// What a content says, by what it is to be read as.
-pub fn lex(c: &[u8], mode: Mode, want: Want) -> Token
+// What a content says, as one number: a keyword twice its kind, one more where it lies outside, 0 for EOF; letters their
+// count; an integer itself; a real its thousandths lifted by 10,000,000,000.
+#[tactic(auto, unfolding(crate::specs::Lex::lex_of), using(crate::proofs::TokenWays::word_in))]
+pub fn lex(c: &[u8], mode: Mode, want: Want) -> Result<usize, Refusal>
     ensures { result ≡ lex_of mode want c.now }
 {
     match want {
         Want::Key => {
-            let Word::Is { start, len } = word_of(c, mode) else {
-                return Token::Bad(KEYWORD);
+            let Some(word) = word_of(c, mode) else {
+                return Err(Refusal::Keyword);
             };
-            let end = start + len;
-            key_of(&c[start..end])
+            key_of(&c[word.start..word.start + word.len])
         }
         Want::Text => {
-            let Word::Is { start: _, len } = word_of(c, mode) else {
-                return Token::Bad(LETTERS);
+            let Some(word) = word_of(c, mode) else {
+                return Err(Refusal::Letters);
             };
-            if len == 0 {
-                return Token::Bad(LETTERS);
+            if word.len == 0 {
+                return Err(Refusal::Letters);
             }
-            Token::Say(len)
+            Ok(word.len)
         }
         Want::Int => {
-            let Whole::Is(n) = integer(c, mode) else {
-                return Token::Bad(NUMBER);
+            let Some(n) = integer(c, mode) else {
+                return Err(Refusal::Number);
             };
-            Token::Say(n)
+            Ok(n)
         }
         Want::Real => {
-            let Decimal::Is(z) = real(c, mode) else {
-                return Token::Bad(NUMBER);
+            let Some(z) = real(c, mode) else {
+                return Err(Refusal::Number);
             };
-            Token::Say(lifted(z))
+            Ok(lifted(z))
         }
     }
 }

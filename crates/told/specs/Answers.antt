@@ -1,20 +1,15 @@
 -- The answers to questions about a sheet, as the structs of the C interface. "`row` is filled only where the papers name a row".
 -- Assumes nothing: these are definitions.
-use Rattle.std.specs.Prelude.{ℕ, ◌+◌, Bool, cond, ℤ, pos}
+use Rattle.std.specs.Prelude.{ℕ, ◌+◌, Bool, cond, ℤ, pos, Option, Some, None, Result, Ok, Err}
 use Rattle.classes.specs.Classes.{index_of}
+use Rattle.row.specs.declared.Unfound.{Unfound}
 use Rattle.border.specs.declared.Border.{Border}
-use Rattle.border.specs.declared.BorderAnswer.{BorderAnswer}
-use Rattle.border.specs.declared.BorderAnswer.TheVariants as Found
 use Rattle.border.specs.BorderAt as BorderAt
 use Rattle.border.specs.declared.Text.{Text}
-use Rattle.border.specs.declared.TextAnswer.{TextAnswer}
-use Rattle.border.specs.declared.TextAnswer.TheVariants as Said
 use Rattle.border.specs.TextAt as TextAt
-use Rattle.area.specs.declared.AreaAnswer.{AreaAnswer}
-use Rattle.area.specs.declared.AreaAnswer.TheVariants as Area
+use Rattle.area.specs.declared.AreaRefusal.{AreaRefusal}
 use Rattle.area.specs.Questions as Questions
-use Rattle.ring.specs.declared.Checked.{Checked}
-use Rattle.ring.specs.declared.Checked.TheVariants as Ring
+use Rattle.crossing.specs.declared.FaultyPair.{FaultyPair}
 use Rattle.ring.specs.RingCheck as RingCheck
 use Rattle.told.specs.declared.question.CxfBorder.{CxfBorder}
 use Rattle.told.specs.declared.question.CxfText.{CxfText}
@@ -22,13 +17,12 @@ use Rattle.told.specs.declared.question.CxfArea.{CxfArea}
 use Rattle.told.specs.declared.question.CxfRing.{CxfRing}
 
 -- a value of the border; none where it is refused
-abbrev pub of_border {ℓ} : {A : Type ℓ} → A → (Border → A) → BorderAnswer → A
-of_border none f (Found.Is b) = f b
-of_border none f Found.Missing = none
-of_border none f (Found.Refused v) = none
+abbrev pub of_border {ℓ} : {A : Type ℓ} → A → (Border → A) → Result Border Unfound → A
+of_border none f (Ok b) = f b
+of_border none f (Err e) = none
 
 -- the classes from 1 on; the other fields are the row's own
-abbrev pub border_told : BorderAnswer → CxfBorder
+abbrev pub border_told : Result Border Unfound → CxfBorder
 border_told a =
     record {
       number = BorderAt.number_of a;
@@ -46,41 +40,34 @@ border_told a =
     }
 
 -- 1 is yes; a text that is refused is neither
-abbrev pub text_flag : (Text → Bool) → TextAnswer → ℕ
-text_flag f (Said.Is t) = cond (f t) 1 0
-text_flag f Said.Missing = 0
-text_flag f (Said.Refused v) = 0
+abbrev pub text_flag : (Text → Bool) → Result Text Unfound → ℕ
+text_flag f (Ok t) = cond (f t) 1 0
+text_flag f (Err e) = 0
 
-abbrev pub text_told : TextAnswer → CxfText
+abbrev pub text_told : Result Text Unfound → CxfText
 text_told a = record { number = TextAt.number_of a; row = TextAt.row_of a; surface = text_flag (λ t. t.surface) a; centroid = text_flag (λ t. t.centroid) a }
 
-abbrev pub doubled_of : AreaAnswer → ℤ
-doubled_of (Area.Doubled d) = d
-doubled_of Area.Wide = pos 0
-doubled_of Area.Missing = pos 0
-doubled_of (Area.Refused v) = pos 0
+abbrev pub doubled_of : Result ℤ AreaRefusal → ℤ
+doubled_of (Ok d) = d
+doubled_of (Err e) = pos 0
 
-abbrev pub area_told : AreaAnswer → CxfArea
+abbrev pub area_told : Result ℤ AreaRefusal → CxfArea
 area_told a = record { number = Questions.number_of a; row = Questions.row_of a; doubled = doubled_of a }
 
 -- 1 is yes
-abbrev pub simple_of : Checked → ℕ
-simple_of Ring.Simple = 1
-simple_of (Ring.Faulty i j) = 0
-simple_of Ring.Wide = 0
-simple_of Ring.Missing = 0
-simple_of (Ring.Refused v) = 0
+abbrev pub simple_of : Result (Option FaultyPair) AreaRefusal → ℕ
+simple_of (Ok None) = 1
+simple_of (Ok (Some p)) = 0
+simple_of (Err e) = 0
 
 -- an edge of the faulty pair, where the ring is not simple
-abbrev pub of_pair : (ℕ → ℕ → ℕ) → Checked → ℕ
-of_pair f (Ring.Faulty i j) = f i j
-of_pair f Ring.Simple = 0
-of_pair f Ring.Wide = 0
-of_pair f Ring.Missing = 0
-of_pair f (Ring.Refused v) = 0
+abbrev pub of_pair : (FaultyPair → ℕ) → Result (Option FaultyPair) AreaRefusal → ℕ
+of_pair f (Ok (Some p)) = f p
+of_pair f (Ok None) = 0
+of_pair f (Err e) = 0
 
-abbrev pub ring_told : Checked → CxfRing
-ring_told a = record { number = RingCheck.number_of a; row = RingCheck.row_of a; simple = simple_of a; first = of_pair (λ i j. i) a; second = of_pair (λ i j. j) a }
+abbrev pub ring_told : Result (Option FaultyPair) AreaRefusal → CxfRing
+ring_told a = record { number = RingCheck.number_of a; row = RingCheck.row_of a; simple = simple_of a; first = of_pair (λ p. p.first) a; second = of_pair (λ p. p.second) a }
 
 -- ---- for private contracts: refused by a number and a row
 

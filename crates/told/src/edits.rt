@@ -2,9 +2,9 @@
 ghost use Rattle.std.specs.Prelude.{◌≡◌};
 ghost use Rattle.told.specs.Edits.{edit_laid, edit_told};
 
-use edit::Edited;
+use edit::Unedited;
 use made::fault_of;
-use record::refusal::NO_SUCH;
+use record::refusal::Refusal;
 
 const MOVED_OFF: usize = 24;
 
@@ -22,15 +22,15 @@ fn edit_laid(number: usize, row: usize, count: usize) -> CxfEdited
     CxfEdited { number, row, count }
 }
 
-pub fn edit_told(a: Edited) -> CxfEdited
+pub fn edit_told(a: Result<usize, Unedited>) -> CxfEdited
     ensures { result ≡ edit_told a }
 {
     match a {
-        Edited::Done(count) => edit_laid(0, 0, count),
-        Edited::Missing => edit_laid(NO_SUCH, 0, 0),
-        Edited::MovedOff => edit_laid(MOVED_OFF, 0, 0),
-        Edited::Refused(v) => {
-            let f = fault_of(v);
+        Ok(count) => edit_laid(0, 0, count),
+        Err(Unedited::Missing) => edit_laid(Refusal::NoSuch.number(), 0, 0),
+        Err(Unedited::MovedOff) => edit_laid(MOVED_OFF, 0, 0),
+        Err(Unedited::Refused(flaw)) => {
+            let f = fault_of(Err(flaw));
             edit_laid(f.number, f.row, 0)
         }
     }

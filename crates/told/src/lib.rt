@@ -11,18 +11,26 @@ pub mod sup_files;
 pub mod tallies;
 
 ghost use Rattle.std.specs.Prelude.{◌≡◌, length};
+ghost use Rattle.heading.specs.Heading.{no_header};
 ghost use Rattle.told.specs.Asked.{mode_of, header_of};
-ghost use Rattle.told.specs.Told.{reading_of, read_told, write_told};
+ghost use Rattle.told.specs.Told.{reading_of, read_told, write_told, record_told, real_told, listed_told};
 
 use heading::Header;
+use listing::NoRoom;
 use made::fault_of;
-use reader::{Answer, Needs, Outcome};
-use record::Mode;
-use record::refusal::{NO_ROOM, TOO_LONG};
-use writer::Written;
+use reader::{Needs, Reading, Unread};
+use record::refusal::Refusal;
+use record::{Found, Mode};
+use writer::Unwritten;
+
+const NO_HEADER: Header = Header {
+    kind: 0,
+    name: [0; 11],
+    scale: 0,
+};
 
 #[repr(C)]
-#[derive(Clone, Copy)]
+#[derive(Clone, Copy, Default)]
 pub struct CxfReading {
     pub number: usize,
     pub nth: usize,
@@ -81,110 +89,133 @@ pub struct CxfListed {
 pub fn mode_of(mode: usize) -> Mode
     ensures { result ≡ mode_of mode }
 {
-    if mode == 0 {
-        return Mode::Loose;
+    match mode {
+        0 => Mode::Loose,
+        2 => Mode::Former,
+        _ => Mode::Exact,
     }
-    if mode == 2 {
-        return Mode::Former;
-    }
-    Mode::Exact
 }
 
 // A name of another length than 11 is a wrong name: no header, which is refused 6.
+#[tactic(auto, unfolding(crate::specs::Asked::header_of))]
 pub fn header_of(kind: usize, name: &[u8], scale: i64) -> Header
     ensures { result ≡ header_of kind name.now scale }
 {
-    let mut held = [0; 11];
-    if name.len() != 11 {
-        return Header {
-            kind: 0,
-            name: held,
-            scale: 0,
-        };
-    }
-    let mut i = 0;
-    while i < 11 {
-        held[i] = name[i];
-        i += 1;
-    }
-    Header {
-        kind,
-        name: held,
-        scale,
+    match name.try_into() {
+        Ok(name) => Header { kind, name, scale },
+        Err(_) => NO_HEADER,
     }
 }
 
-// The answer's numbers, counts and header side by side.
-fn laid_out(
-    number: usize,
-    nth: usize,
-    offset: usize,
-    column: usize,
-    counts: Needs,
-    header: Header,
-) -> CxfReading
-    ensures { result ≡ reading_of number nth offset column counts header }
+// The counts of a sheet, with no header beside them.
+fn counted(number: usize, counts: Needs) -> CxfReading
+    ensures { result ≡ reading_of number 0 0 0 counts no_header }
 {
-    let name = header.name;
     CxfReading {
         number,
-        nth,
-        offset,
-        column,
         rows: counts.rows,
         letters: counts.letters,
         islands: counts.islands,
         points: counts.points,
-        kind: header.kind,
-        scale: header.scale,
-        name,
+        ..CxfReading::default()
     }
 }
 
-pub fn reading_of(o: Outcome) -> CxfReading
-    ensures { result ≡ read_told o }
+pub fn reading_of(answer: Result<Reading, Unread>) -> CxfReading
+    ensures { result ≡ read_told answer }
 {
-    let answer = o.answer;
-    let header = o.header;
-    let column = o.column;
-    let none = Needs {
-        rows: 0,
-        letters: 0,
-        islands: 0,
-        points: 0,
-    };
     match answer {
-        Answer::Read(used) => laid_out(0, 0, 0, column, used, header),
-        Answer::NoRoom(needed) => laid_out(NO_ROOM, 0, 0, column, needed, header),
-        Answer::Refused {
-            number,
-            record,
-            offset,
-        } => laid_out(number, record, offset, column, none, header),
+        Ok(Reading { header, needs }) => {
+            let Header { kind, name, scale } = header;
+            CxfReading {
+                kind,
+                scale,
+                name,
+                ..counted(0, needs)
+            }
+        }
+        Err(Unread::NoRoom(needs)) => counted(Refusal::NoRoom.number(), needs),
+        Err(Unread::Refused(stopped, column)) => CxfReading {
+            number: stopped.refusal.number(),
+            nth: stopped.record,
+            offset: stopped.offset,
+            column,
+            ..CxfReading::default()
+        },
     }
 }
 
-pub fn written_of(w: Written) -> CxfWritten
+pub fn record_told(answer: Result<Found, Refusal>) -> CxfRecord
+    ensures { result ≡ record_told answer }
+{
+    match answer {
+        Ok(found) => CxfRecord {
+            number: 0,
+            start: found.start,
+            length: found.len,
+            next: found.next,
+        },
+        Err(refusal) => CxfRecord {
+            number: refusal.number(),
+            start: 0,
+            length: 0,
+            next: 0,
+        },
+    }
+}
+
+// A number, or the column where its content is malformed.
+pub fn number_told(answer: Result<i64, usize>) -> CxfNumber
+    ensures { result ≡ real_told answer }
+{
+    match answer {
+        Ok(value) => CxfNumber {
+            number: 0,
+            column: 0,
+            value,
+        },
+        Err(column) => CxfNumber {
+            number: Refusal::Number.number(),
+            column,
+            value: 0,
+        },
+    }
+}
+
+// The length of a text that was written, or that needs more room.
+pub fn listed_told(answer: Result<usize, NoRoom>) -> CxfListed
+    ensures { result ≡ listed_told answer }
+{
+    match answer {
+        Ok(length) => CxfListed { number: 0, length },
+        Err(NoRoom(length)) => CxfListed {
+            number: Refusal::NoRoom.number(),
+            length,
+        },
+    }
+}
+
+pub fn written_of(w: Result<usize, Unwritten>) -> CxfWritten
     ensures { result ≡ write_told w }
 {
     match w {
-        Written::Wrote(used) => CxfWritten {
+        Ok(used) => CxfWritten {
             number: 0,
             row: 0,
             length: used,
         },
-        Written::TooLong => CxfWritten {
-            number: TOO_LONG,
+        Err(Unwritten::TooLong) => CxfWritten {
+            number: Refusal::TooLong.number(),
             row: 0,
             length: 0,
         },
-        Written::NoRoom(needed) => CxfWritten {
-            number: NO_ROOM,
+        Err(Unwritten::NoRoom(needed)) => CxfWritten {
+            number: Refusal::NoRoom.number(),
             row: 0,
             length: needed,
         },
-        Written::Refused(v) => {
-            let f = fault_of(v);
+        Err(Unwritten::Refused(flaw)) => {
+            let f = fault_of(Err(flaw));
             CxfWritten {
                 number: f.number,
                 row: f.row,

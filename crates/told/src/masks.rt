@@ -3,8 +3,8 @@ ghost use Rattle.std.specs.Prelude.{◌≡◌};
 ghost use Rattle.told.specs.Masks.{mask_figures_laid, mask_figures_of, mask_told};
 
 use made::fault_of;
-use mask::{Mask, MaskAnswer};
-use record::refusal::{NO_SUCH, OFF_TILE, TOO_WIDE};
+use mask::{Mask, Unmasked};
+use record::refusal::Refusal;
 
 const BAD_SIDE: usize = 26;
 
@@ -35,17 +35,17 @@ fn mask_laid(number: usize, row: usize, covered: usize) -> MaskFigures
     }
 }
 
-fn mask_figures(a: MaskAnswer) -> MaskFigures
+fn mask_figures(a: Result<usize, Unmasked>) -> MaskFigures
     ensures { result ≡ mask_figures_of a }
 {
     match a {
-        MaskAnswer::Drawn(covered) => mask_laid(0, 0, covered),
-        MaskAnswer::BadSide => mask_laid(BAD_SIDE, 0, 0),
-        MaskAnswer::Wide => mask_laid(TOO_WIDE, 0, 0),
-        MaskAnswer::OffGrid => mask_laid(OFF_TILE, 0, 0),
-        MaskAnswer::Missing => mask_laid(NO_SUCH, 0, 0),
-        MaskAnswer::Refused(v) => {
-            let f = fault_of(v);
+        Ok(covered) => mask_laid(0, 0, covered),
+        Err(Unmasked::BadSide) => mask_laid(BAD_SIDE, 0, 0),
+        Err(Unmasked::Wide) => mask_laid(Refusal::TooWide.number(), 0, 0),
+        Err(Unmasked::OffGrid) => mask_laid(Refusal::OffTile.number(), 0, 0),
+        Err(Unmasked::Missing) => mask_laid(Refusal::NoSuch.number(), 0, 0),
+        Err(Unmasked::Refused(flaw)) => {
+            let f = fault_of(Err(flaw));
             mask_laid(f.number, f.row, 0)
         }
     }
@@ -54,8 +54,8 @@ fn mask_figures(a: MaskAnswer) -> MaskFigures
 pub fn mask_told(m: Mask) -> CxfMask
     ensures { result ≡ mask_told m }
 {
-    let answer = m.answer;
-    let f = mask_figures(answer);
+    let f = mask_figures(m.answer);
+    // A proof of a literal takes an array by a variable alone.
     let rows = m.rows;
     CxfMask {
         number: f.number,

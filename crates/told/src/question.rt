@@ -1,14 +1,14 @@
 // Answers to questions about a sheet that is handed in (document 01, "Border classes", "Areas" and "Ring check"), laid out.
-ghost use Rattle.std.specs.Prelude.{◌≡◌, cond};
-ghost use Rattle.border.specs.declared.BorderAnswer.TheVariants.{Is};
+ghost use Rattle.std.specs.Prelude.{◌≡◌, Ok};
 ghost use Rattle.told.specs.Answers.{no_border, border_told, text_told, area_told, no_ring, ring_told};
 
-use area::AreaAnswer;
-use border::{Border, BorderAnswer, TextAnswer};
+use area::AreaRefusal;
+use border::{Border, Text};
 use classes::index_of;
+use crossing::FaultyPair;
 use made::fault_of;
-use record::refusal::{NO_SUCH, TOO_WIDE};
-use ring::Checked;
+use record::refusal::Refusal;
+use row::Unfound;
 
 #[repr(C)]
 #[derive(Clone, Copy)]
@@ -74,14 +74,12 @@ fn border_refused(number: usize, row: usize) -> CxfBorder
 }
 
 fn border_laid(b: Border) -> CxfBorder
-    ensures { result ≡ border_told (Is b) }
+    ensures { result ≡ border_told (Ok b) }
 {
-    let class = b.class;
-    let place = index_of(class) + 1;
     CxfBorder {
         number: 0,
         row: 0,
-        class: place,
+        class: index_of(b.class) + 1,
         size: b.size,
         angle: b.angle,
         x: b.x,
@@ -94,46 +92,37 @@ fn border_laid(b: Border) -> CxfBorder
     }
 }
 
-pub fn border_of(a: BorderAnswer) -> CxfBorder
+pub fn border_of(a: Result<Border, Unfound>) -> CxfBorder
     ensures { result ≡ border_told a }
 {
     match a {
-        BorderAnswer::Is(b) => border_laid(b),
-        BorderAnswer::Missing => border_refused(NO_SUCH, 0),
-        BorderAnswer::Refused(v) => {
-            let f = fault_of(v);
+        Ok(b) => border_laid(b),
+        Err(Unfound::Missing) => border_refused(Refusal::NoSuch.number(), 0),
+        Err(Unfound::Refused(flaw)) => {
+            let f = fault_of(Err(flaw));
             border_refused(f.number, f.row)
         }
     }
 }
 
-fn flag(b: bool) -> usize
-    ensures { result ≡ cond b 1 0 }
-{
-    if b {
-        return 1;
-    }
-    0
-}
-
-pub fn text_of(a: TextAnswer) -> CxfText
+pub fn text_of(a: Result<Text, Unfound>) -> CxfText
     ensures { result ≡ text_told a }
 {
     match a {
-        TextAnswer::Is(t) => CxfText {
+        Ok(t) => CxfText {
             number: 0,
             row: 0,
-            surface: flag(t.surface),
-            centroid: flag(t.centroid),
+            surface: usize::from(t.surface),
+            centroid: usize::from(t.centroid),
         },
-        TextAnswer::Missing => CxfText {
-            number: NO_SUCH,
+        Err(Unfound::Missing) => CxfText {
+            number: Refusal::NoSuch.number(),
             row: 0,
             surface: 0,
             centroid: 0,
         },
-        TextAnswer::Refused(v) => {
-            let f = fault_of(v);
+        Err(Unfound::Refused(flaw)) => {
+            let f = fault_of(Err(flaw));
             CxfText {
                 number: f.number,
                 row: f.row,
@@ -144,27 +133,27 @@ pub fn text_of(a: TextAnswer) -> CxfText
     }
 }
 
-pub fn area_of(a: AreaAnswer) -> CxfArea
+pub fn area_of(a: Result<i64, AreaRefusal>) -> CxfArea
     ensures { result ≡ area_told a }
 {
     match a {
-        AreaAnswer::Doubled(d) => CxfArea {
+        Ok(doubled) => CxfArea {
             number: 0,
             row: 0,
-            doubled: d,
+            doubled,
         },
-        AreaAnswer::Wide => CxfArea {
-            number: TOO_WIDE,
+        Err(AreaRefusal::Wide) => CxfArea {
+            number: Refusal::TooWide.number(),
             row: 0,
             doubled: 0,
         },
-        AreaAnswer::Missing => CxfArea {
-            number: NO_SUCH,
+        Err(AreaRefusal::Missing) => CxfArea {
+            number: Refusal::NoSuch.number(),
             row: 0,
             doubled: 0,
         },
-        AreaAnswer::Refused(v) => {
-            let f = fault_of(v);
+        Err(AreaRefusal::Refused(flaw)) => {
+            let f = fault_of(Err(flaw));
             CxfArea {
                 number: f.number,
                 row: f.row,
@@ -186,28 +175,28 @@ fn ring_refused(number: usize, row: usize) -> CxfRing
     }
 }
 
-pub fn ring_of(a: Checked) -> CxfRing
+pub fn ring_of(a: Result<Option<FaultyPair>, AreaRefusal>) -> CxfRing
     ensures { result ≡ ring_told a }
 {
     match a {
-        Checked::Simple => CxfRing {
+        Ok(None) => CxfRing {
             number: 0,
             row: 0,
             simple: 1,
             first: 0,
             second: 0,
         },
-        Checked::Faulty(first, second) => CxfRing {
+        Ok(Some(pair)) => CxfRing {
             number: 0,
             row: 0,
             simple: 0,
-            first,
-            second,
+            first: pair.first,
+            second: pair.second,
         },
-        Checked::Wide => ring_refused(TOO_WIDE, 0),
-        Checked::Missing => ring_refused(NO_SUCH, 0),
-        Checked::Refused(v) => {
-            let f = fault_of(v);
+        Err(AreaRefusal::Wide) => ring_refused(Refusal::TooWide.number(), 0),
+        Err(AreaRefusal::Missing) => ring_refused(Refusal::NoSuch.number(), 0),
+        Err(AreaRefusal::Refused(flaw)) => {
+            let f = fault_of(Err(flaw));
             ring_refused(f.number, f.row)
         }
     }

@@ -2,8 +2,8 @@
 ghost use Rattle.std.specs.Prelude.{◌≡◌};
 ghost use Rattle.told.specs.SupChecks.{checked_laid, checked_told};
 
-use record::refusal::PAST_LIMIT;
-use supcheck::SupChecked;
+use record::refusal::Refusal;
+use supcheck::Unaccepted;
 use tally::refused_of;
 
 #[repr(C)]
@@ -22,16 +22,16 @@ fn checked_laid(number: usize, row: usize, line: usize) -> CxfSupChecked
     CxfSupChecked { number, row, line }
 }
 
-pub fn checked_told(a: SupChecked) -> CxfSupChecked
+pub fn checked_told(a: Result<(), Unaccepted>) -> CxfSupChecked
     ensures { result ≡ checked_told a }
 {
     match a {
-        SupChecked::Accepted => checked_laid(0, 0, 0),
-        SupChecked::Refused(refusal) => {
-            let f = refused_of(refusal);
+        Ok(()) => checked_laid(0, 0, 0),
+        Err(Unaccepted::Refused(untallied)) => {
+            let f = refused_of(Err(untallied));
             checked_laid(f.number, f.row, 0)
         }
-        SupChecked::PastTotal => checked_laid(PAST_LIMIT, 0, 0),
-        SupChecked::WrongLine(line) => checked_laid(WRONG_LINE, 0, line),
+        Err(Unaccepted::PastTotal) => checked_laid(Refusal::PastLimit.number(), 0, 0),
+        Err(Unaccepted::WrongLine(line)) => checked_laid(WRONG_LINE, 0, line),
     }
 }

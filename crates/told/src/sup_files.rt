@@ -2,8 +2,8 @@
 ghost use Rattle.std.specs.Prelude.{◌≡◌};
 ghost use Rattle.told.specs.SupFiles.{sup_laid, sup_told};
 
-use record::refusal::{BAD_DATE, LONG_CODE, NO_ROOM, PAST_LIMIT, WIDE_FIGURE};
-use sup::SupAnswer;
+use record::refusal::Refusal;
+use sup::NoSup;
 use tally::refused_of;
 
 #[repr(C)]
@@ -26,19 +26,19 @@ fn sup_laid(number: usize, row: usize, line: usize, length: usize) -> CxfSup
     }
 }
 
-pub fn sup_told(a: SupAnswer) -> CxfSup
+pub fn sup_told(a: Result<usize, NoSup>) -> CxfSup
     ensures { result ≡ sup_told a }
 {
     match a {
-        SupAnswer::Wrote(used) => sup_laid(0, 0, 0, used),
-        SupAnswer::NoRoom(needed) => sup_laid(NO_ROOM, 0, 0, needed),
-        SupAnswer::Refused(refusal) => {
-            let f = refused_of(refusal);
+        Ok(used) => sup_laid(0, 0, 0, used),
+        Err(NoSup::NoRoom(needed)) => sup_laid(Refusal::NoRoom.number(), 0, 0, needed),
+        Err(NoSup::Refused(untallied)) => {
+            let f = refused_of(Err(untallied));
             sup_laid(f.number, f.row, 0, 0)
         }
-        SupAnswer::BadDate => sup_laid(BAD_DATE, 0, 0, 0),
-        SupAnswer::CodeTooLong(row) => sup_laid(LONG_CODE, row, 0, 0),
-        SupAnswer::PastTotal => sup_laid(PAST_LIMIT, 0, 0, 0),
-        SupAnswer::WideFigure(line) => sup_laid(WIDE_FIGURE, 0, line, 0),
+        Err(NoSup::BadDate) => sup_laid(Refusal::BadDate.number(), 0, 0, 0),
+        Err(NoSup::CodeTooLong(row)) => sup_laid(Refusal::LongCode.number(), row, 0, 0),
+        Err(NoSup::PastTotal) => sup_laid(Refusal::PastLimit.number(), 0, 0, 0),
+        Err(NoSup::WideFigure(line)) => sup_laid(Refusal::WideFigure.number(), 0, line, 0),
     }
 }

@@ -1,8 +1,8 @@
 // A tally that is handed in, and tallies laid out (document 01, "Areas").
-ghost use Rattle.std.specs.Prelude.{◌≡◌, ◌<◌, length, get_or, pos};
+ghost use Rattle.std.specs.Prelude.{◌≡◌};
 ghost use Rattle.told.specs.Tallies.{tally_in, tally_laid, tally_told, take_told};
 
-use tally::{Refusal, Taken, Tally, empty, refused_of};
+use tally::{Taken, Tally, Untallied, empty, refused_of};
 
 #[repr(C)]
 #[derive(Clone, Copy)]
@@ -14,33 +14,21 @@ pub struct CxfTally {
 
 const FIGURES: usize = 24;
 
-fn figure_at(s: &[i64], i: usize) -> i64
-    requires { i < length s.now }
-    ensures { result ≡ get_or s.now i (pos 0) }
-{
-    s[i]
-}
-
 // The tally that is handed in. Of another length than 24 it is no tally: each figure is negative, which is refused 18.
+#[tactic(auto, unfolding(crate::specs::Tallies::tally_in))]
 pub fn tally_in(s: &[i64]) -> Tally
     ensures { result ≡ tally_in s.now }
 {
-    let mut figures = [-1i64; 24];
-    if s.len() != FIGURES {
-        return Tally { figures };
+    Tally {
+        figures: s.try_into().unwrap_or([-1; 24]),
     }
-    let mut i = 0;
-    while i < FIGURES {
-        figures[i] = figure_at(s, i);
-        i += 1;
-    }
-    Tally { figures }
 }
 
-fn laid(t: Tally, r: Refusal) -> CxfTally
-    ensures { result ≡ tally_laid t r }
+fn laid(t: Tally, outcome: Result<(), Untallied>) -> CxfTally
+    ensures { result ≡ tally_laid t outcome }
 {
-    let f = refused_of(r);
+    let f = refused_of(outcome);
+    // A proof of a literal takes an array by a variable alone.
     let figures = t.figures;
     CxfTally {
         number: f.number,
@@ -52,9 +40,7 @@ fn laid(t: Tally, r: Refusal) -> CxfTally
 pub fn tally_told(taken: Taken) -> CxfTally
     ensures { result ≡ tally_told taken }
 {
-    let tally = taken.tally;
-    let refusal = taken.refusal;
-    laid(tally, refusal)
+    laid(taken.tally, taken.outcome)
 }
 
 // The answer to a tally of so many figures.
@@ -62,8 +48,7 @@ pub fn take_told(count: usize, taken: Taken) -> CxfTally
     ensures { result ≡ take_told count taken }
 {
     if count != FIGURES {
-        let refusal = taken.refusal;
-        return laid(empty(), refusal);
+        return laid(empty(), taken.outcome);
     }
     tally_told(taken)
 }

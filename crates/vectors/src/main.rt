@@ -8,39 +8,24 @@
 
 ghost use Rattle.std.specs.Prelude.{◌≤◌, length};
 
-use heading::Header;
-use reader::{Answer, read_as};
-use record::{Mode, is_same};
+use made::{Lent, Sheet};
+use reader::{Reading, read_as};
+use record::Mode;
 use std::io;
 use std::io::{Print, Read};
-use tile::{Tile, tile_point};
-use writer::{Written, write};
+use tile::tile_point;
+use writer::write;
 
 // How much of standard input is looked at.
 const INPUT_ROOM: u64 = 65536;
 
 // How many bytes of `out` hold the sheet's text; 0 where it is refused.
-fn store(
-    header: Header,
-    count: usize,
-    rows: &[i64],
-    letters: &[u8],
-    islands: &[u16],
-    points: &[i64],
-    out: &mut [u8],
-) -> usize
+fn store(sheet: &Sheet<'_>, out: &mut [u8]) -> usize
     ensures { result ≤ length out.new }
 {
-    match write(header, count, rows, letters, islands, points, out) {
-        Written::Wrote(n) => {
-            if n <= out.len() {
-                return n;
-            }
-            0
-        }
-        Written::TooLong => 0,
-        Written::NoRoom(_) => 0,
-        Written::Refused(_) => 0,
+    match write(sheet, out) {
+        Ok(n) => n.min(out.len()),
+        Err(_) => 0,
     }
 }
 
@@ -52,7 +37,7 @@ fn pad(mode: Mode, src: &[u8], out: &mut [u8]) -> usize
     let mut letters = [0u8; 256];
     let mut islands = [0u16; 16];
     let mut points = [0i64; 2048];
-    let outcome = read_as(
+    let answer = read_as(
         mode,
         src,
         &mut rows,
@@ -60,12 +45,22 @@ fn pad(mode: Mode, src: &[u8], out: &mut [u8]) -> usize
         &mut islands,
         &mut points,
     );
-    let header = outcome.header;
-    let answer = outcome.answer;
     match answer {
-        Answer::Read(used) => store(header, used.rows, &rows, &letters, &islands, &points, out),
-        Answer::NoRoom(_) => 0,
-        Answer::Refused { .. } => 0,
+        Ok(Reading { header, needs }) => {
+            let lent = Lent {
+                rows: &rows,
+                letters: &letters,
+                islands: &islands,
+                points: &points,
+            };
+            let sheet = Sheet {
+                header,
+                count: needs.rows,
+                lent,
+            };
+            store(&sheet, out)
+        }
+        Err(_) => 0,
     }
 }
 
@@ -73,7 +68,7 @@ fn print_sheet(rt: &HostRuntime, src: &[u8], text: &mut [u8], again: &mut [u8]) 
     let n = pad(Mode::Former, src, text);
     rt.write_all(&text[..n])?;
     let m = pad(Mode::Exact, &text[..n], again);
-    if is_same(&text[..n], &again[..m]) {
+    if &text[..n] == &again[..m] {
         rt.write_all(b"read again in exact mode, written again: the same bytes\n")?;
     }
     Ok(())
@@ -81,14 +76,14 @@ fn print_sheet(rt: &HostRuntime, src: &[u8], text: &mut [u8], again: &mut [u8]) 
 
 fn print_tile(rt: &HostRuntime) -> io::Result<()> {
     match tile_point(0, 512, 1000, 0) {
-        Tile::Outside => {}
-        Tile::At(o) => {
+        Some(o) => {
             if o.east == 3.90625 {
                 if o.south == 2.0 {
                     rt.write_all(b"3.90625 2.0\n")?;
                 }
             }
         }
+        None => {}
     }
     Ok(())
 }

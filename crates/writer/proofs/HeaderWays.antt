@@ -12,7 +12,8 @@ use Rattle.spelling.specs.Spelling.{real_text}
 use Rattle.spelling.proofs.SpellingLaws.{real-length}
 use Rattle.heading.specs.declared.Header.{Header}
 use Rattle.header.specs.Header.{first_words}
-use Rattle.heading.proofs.HeadingLaws.{IsHeader}
+use Rattle.heading.specs.Heading.{is_header}
+use Rattle.heading.proofs.HeadingLaws.{IsHeader, header_is}
 use Rattle.layout.specs.Sheet.{line, header_text}
 use Rattle.writer.specs.Put.{Put}
 use Rattle.writer.proofs.Putting.{Putting, putting-start, putting-room, putting-on}
@@ -69,6 +70,11 @@ module _ (h : Header) (w : IsHeader h) where
       go : (x : Bool) → eqb h.kind 1 ≡ x → length (header_text h) ≤ 44
       go true e = omega (arith, header-short (eqb-true h.kind 1 e))
       go false e = omega (arith, header-long (eqb-false h.kind 1 e))
+
+pub header_sizes : (h : Header) → is_header h ≡ true → (h.kind ≡ 1 → 34 ≡ length (header_text h)) × ((h.kind ≡ 1 → ⊥) → 44 ≡ length (header_text h))
+header_sizes h e = (header-short h (header_is h e), header-long h (header_is h e))
+
+pub ruleset lengths = (header_sizes)
 
 -- ---- its records, one behind the other
 

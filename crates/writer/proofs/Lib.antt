@@ -5,6 +5,6 @@ pub mod Putting
 pub mod RowFacts
 mod RowWays
 mod Sizes
-mod Walk
+pub mod Walk
 mod HeaderWays
 pub mod SheetWays

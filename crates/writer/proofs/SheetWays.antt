@@ -15,24 +15,19 @@ use Rattle.record.specs.Refusals.{file_most}
 use Rattle.heading.specs.declared.Header.{Header}
 use Rattle.heading.specs.Heading.{is_header}
 use Rattle.sheet.specs.Tables.{Tables}
-use Rattle.made.specs.declared.Verdict.{Verdict}
-use Rattle.made.specs.declared.Verdict.TheVariants.{Fine, BadHeader}
+use Rattle.std.specs.Prelude.{Ok, Err}
+use Rattle.made.specs.declared.Flaw.TheVariants.{BadHeader}
 use Rattle.made.specs.Made.{none_before, judge_rows, judge_of}
-use Rattle.writer.specs.declared.Written.TheVariants.{Wrote, TooLong, NoRoom}
+use Rattle.writer.specs.declared.Unwritten.TheVariants.{TooLong, NoRoom}
 use Rattle.layout.specs.Sheet.{line, rows_text, header_text, sheet_text}
-use Rattle.writer.specs.Write.{written_after, write_of}
+use Rattle.writer.specs.Write.{written_after}
 use Rattle.writer.specs.Put.{Put}
 use Rattle.writer.proofs.Putting.{Putting, putting-start, putting-room, putting-on, putting-last}
 
 module _ (h : Header) (count : ℕ) (t : Tables) where
-  pub judged-is : judge_of Exact h count t ≡ Fine → (is_header h ≡ true) × (judge_rows Exact count none_before t ≡ Fine)
+  pub judged-is : judge_of Exact h count t ≡ Ok tt → (is_header h ≡ true) × (judge_rows Exact count none_before t ≡ Ok tt)
   unfolding judge_of
-  judged-is e = cond-first (is_header h) (judge_rows Exact count none_before t) BadHeader Fine (λ z. let y : ◌≡◌ {A = ℕ} 0 1 = cc in omega arith) e
-
-  -- the answer is the verdict's that the code found
-  pub written-by : {v w : Verdict} → v ≡ judge_of Exact h count t → v ≡ w → (room : ℕ) → written_after w (length (sheet_text h count t)) room ≡ write_of h count t room
-  unfolding write_of
-  written-by e f room = ap (λ (x : Verdict). written_after x (length (sheet_text h count t)) room) (sym f ∙ e)
+  judged-is e = cond-first (is_header h) (judge_rows Exact count none_before t) (Err BadHeader) (Ok tt) (λ z. let y : ◌≡◌ {A = ℕ} 0 1 = cc in omega arith) e
 
   abbrev end : List ℕ
   end = line (text "EOF")
@@ -76,18 +71,18 @@ module _ (h : Header) (count : ℕ) (t : Tables) where
 -- ---- the answers, by the needed length as the code has it
 
 module _ (size room needed : ℕ) (q : needed ≡ min size (file_most + 1)) where
-  pub wrote-long : file_most < needed → TooLong ≡ written_after Fine size room
+  pub wrote-long : file_most < needed → Err TooLong ≡ written_after (Ok tt) size room
   wrote-long h = rw (lt-leb size file_most (omega arith))
 
   module _ (h : needed ≤ file_most) where
     size_is : size ≡ needed
     size_is = omega arith
 
-    pub wrote-tight : room < needed → NoRoom needed ≡ written_after Fine size room
+    pub wrote-tight : room < needed → Err (NoRoom needed) ≡ written_after (Ok tt) size room
     wrote-tight k = rw (size_is, le-leb needed file_most h, lt-leb needed room k)
 
     pub wrote-room : needed ≤ room → size ≤ room
     wrote-room k = omega (arith, size_is)
 
-    pub wrote-whole : needed ≤ room → Wrote needed ≡ written_after Fine size room
+    pub wrote-whole : needed ≤ room → Ok needed ≡ written_after (Ok tt) size room
     wrote-whole k = rw (size_is, le-leb needed file_most h, le-leb needed room k)

@@ -1,95 +1,112 @@
--- The walks over the rows, one that measures and one that writes. Assumes nothing.
-use Prim.Native.Nat.{ℕ, ◌+◌, ◌-◌, ◌≤◌, ◌<◌, min}
-use mathlib.Core.Path.{◌≡◌, refl, ap}
-use mathlib.Core.List.{List, [], ◌++◌}
-use mathlib.Core.Bool.{true}
+-- The loops over the rows, one that measures and one that writes. Assumes nothing.
+use Rattle.std.proofs.Common.{◌≡◌, ℕ, suc, ◌+◌, ◌-◌, ◌≤◌, ◌<◌, List, [], ◌++◌, length, true, Ok, refl, ap, ◌∙◌, arith, length-append}
+use Prim.Native.Nat.{min}
 use native.Mathlib.Nat.{sub-zero}
-use native.Mathlib.Omega.{arith}
-use lib.ListN.{length, length-append}
-use Rattle.laws.specs.Lists.{tail}
+use Rattle.record.specs.declared.Mode.{Mode}
 use Rattle.record.specs.declared.Mode.TheVariants.{Exact}
 use Rattle.record.specs.Refusals.{file_most}
 use Rattle.sheet.specs.Tables.{Tables}
-use Rattle.made.specs.declared.Verdict.TheVariants.{Fine}
-use Rattle.made.specs.Made.{are_numbers, none_before, judge_rows}
-use Rattle.row.specs.declared.Stand.{Stand}
+use Rattle.made.specs.Made.{rest_of, is_made, are_numbers, Before, none_before, past_row, judge_rows}
+use Rattle.made.proofs.UsedLaws.{fine-on}
 use Rattle.layout.specs.Sheet.{row_text, rows_text}
-use Rattle.row.specs.Walk.{left_at, next_stand}
 use Rattle.writer.specs.Put.{Put, row_size}
-use Rattle.row.specs.Walk.{first_stand}
-use Rattle.row.proofs.Walk.{Walk, walk_start, walk-made, walk-on, one_more, tails_at, tails-are, left-next}
 use Rattle.writer.proofs.Putting.{Putting, putting-start, putting-room, putting-on, putting-end}
 use Rattle.writer.proofs.RowFacts.{row_is}
 use Rattle.writer.proofs.Sizes.{row-size, row-most}
 
--- ---- what is to be written, by its first row
+-- ---- k of `count` rows are passed, and u is left: the rows there are fine behind what stands before them
 
-module _ {t : Tables} {count : ℕ} {d : Stand} {k : ℕ} (w : Walk Exact t count d k) (h : k < count) where
-  pub walk-numbers : are_numbers (tail t.rows d.row) ≡ true
-  walk-numbers = (row_is (tails_at t d) (walk-made w h)).numbers
+pub record Passing (mode : Mode) (count k : ℕ) (u : Tables) : Type 0 where
+  pub before : Before
+  pub fine : judge_rows mode (count - k) before u ≡ Ok tt
 
-  pub rows-here : rows_text (count - k) (left_at t d) ≡ row_text (tails_at t d) ++ rows_text (count - (k + 1)) (left_at t (next_stand t.rows d))
+pub passing_start : (mode : Mode) (t : Tables) (count : ℕ) → judge_rows mode count none_before t ≡ Ok tt → Passing mode count 0 t
+passing_start mode t count e = record { before = none_before; fine = rw (sub-zero count) e }
+
+module _ {mode : Mode} {count k : ℕ} {u : Tables} (w : Passing mode count k u) (h : k < count) where
+  pub one_more : count - k ≡ suc (count - (k + 1))
+  one_more = omega arith
+
+  first : judge_rows mode (suc (count - (k + 1))) w.before u ≡ Ok tt
+  first = rw one_more at w.fine
+
+  pub passing-made : is_made u ≡ true
+  passing-made = (fine-on mode (count - (k + 1)) w.before u first).0
+
+  passing-numbers : are_numbers u.rows ≡ true
+  passing-numbers = (row_is u passing-made).numbers
+
+  pub passing-on : Passing mode count (k + 1) (rest_of u)
+  passing-on = record { before = past_row w.before u; fine = (fine-on mode (count - (k + 1)) w.before u first).1 }
+
+  -- what is to be written, by its first row
+  rows-here : rows_text (count - k) u ≡ row_text u ++ rows_text (count - (k + 1)) (rest_of u)
   unfolding rows_text
-  rows-here = rw (one_more w h, tails-are t d, left-next t d)
+  rows-here = rw one_more
 
 rows-over : (t : Tables) (count k : ℕ) → count ≤ k → rows_text (count - k) t ≡ []
 unfolding rows_text
 rows-over t count k h = let z : count - k ≡ 0 = omega arith in rw z
 
--- ---- the walk that measures, behind `start` bytes
+-- ---- the loop that measures, behind `start` bytes
 
-pub record Measured (t : Tables) (count start : ℕ) (d : Stand) (total k : ℕ) : Type 0 where
-  pub walk : Walk Exact t count d k
+pub record Measured (t : Tables) (count start : ℕ) (u : Tables) (total k : ℕ) : Type 0 where
+  pub passing : Passing Exact count k u
   pub small : total ≤ file_most
-  pub sum : start + length (rows_text count t) ≡ total + length (rows_text (count - k) (left_at t d))
+  pub sum : start + length (rows_text count t) ≡ total + length (rows_text (count - k) u)
 
-pub measured-start : (t : Tables) (count start : ℕ) → start ≤ file_most → judge_rows Exact count none_before t ≡ Fine → Measured t count start first_stand start 0
-measured-start t count start h e = record { walk = walk_start Exact t count e; small = h; sum = rw (sub-zero count) }
+pub measured-start : (t : Tables) (count start : ℕ) → start ≤ file_most → judge_rows Exact count none_before t ≡ Ok tt → Measured t count start t start 0
+measured-start t count start h e = record { passing = passing_start Exact t count e; small = h; sum = rw (sub-zero count) }
 
-module _ {t : Tables} {count start : ℕ} {d : Stand} {total k : ℕ} (m : Measured t count start d total k) where
-  module _ (h : k < count) {r : ℕ} (q : r ≡ row_size (tail t.rows d.row)) where
-    measured-row : start + length (rows_text count t) ≡ total + r + length (rows_text (count - (k + 1)) (left_at t (next_stand t.rows d)))
-    measured-row =
-        omega (
-          arith,
-          m.sum,
-          ap length (rows-here m.walk h),
-          length-append (row_text (tails_at t d)) (rows_text (count - (k + 1)) (left_at t (next_stand t.rows d))),
-          row-size (tails_at t d) (walk-made m.walk h),
-          q,
-        )
+module _ {t : Tables} {count start : ℕ} {u : Tables} {total k : ℕ} (m : Measured t count start u total k) where
+  module _ (h : k < count) where
+    pub measured-numbers : are_numbers u.rows ≡ true
+    measured-numbers = passing-numbers m.passing h
 
-    pub measured-most : r < 400000
-    measured-most = omega (arith, q, row-most (tail t.rows d.row) (walk-numbers m.walk h))
+    module _ {r : ℕ} (q : r ≡ row_size u.rows) where
+      measured-row : start + length (rows_text count t) ≡ total + r + length (rows_text (count - (k + 1)) (rest_of u))
+      measured-row =
+          omega (
+            arith,
+            m.sum,
+            ap length (rows-here m.passing h),
+            length-append (row_text u) (rows_text (count - (k + 1)) (rest_of u)),
+            row-size u (passing-made m.passing h),
+            q,
+          )
 
-    pub measured-on : (e : Stand) → e ≡ next_stand t.rows d → total + r ≤ file_most → Measured t count start e (total + r) (k + 1)
-    measured-on e f s = rw f (record { walk = walk-on m.walk h (next_stand t.rows d) refl; small = s; sum = measured-row })
+      pub measured-most : r < 400000
+      measured-most = omega (arith, q, row-most u.rows (passing-numbers m.passing h))
 
-    pub measured-high : file_most < total + r → file_most + 1 ≡ min (start + length (rows_text count t)) (file_most + 1)
-    measured-high s = omega (arith, measured-row)
+      pub measured-on : (v : Tables) → v ≡ rest_of u → total + r ≤ file_most → Measured t count start v (total + r) (k + 1)
+      measured-on v f s = rw f (record { passing = passing-on m.passing h; small = s; sum = measured-row })
+
+      pub measured-high : file_most < total + r → file_most + 1 ≡ min (start + length (rows_text count t)) (file_most + 1)
+      measured-high s = omega (arith, measured-row)
 
   pub measured-end : count ≤ k → total ≡ min (start + length (rows_text count t)) (file_most + 1)
-  measured-end h = omega (arith, m.sum, m.small, ap length (rows-over (left_at t d) count k h))
+  measured-end h = omega (arith, m.sum, m.small, ap length (rows-over u count k h))
 
--- ---- the walk that writes
+-- ---- the loop that writes
 
-pub record Writing (t : Tables) (count : ℕ) (l : List ℕ) (at : ℕ) (d : Stand) (out : List ℕ) (next k : ℕ) : Type 0 where
-  pub walk : Walk Exact t count d k
-  pub puts : Putting l at (rows_text count t) out next (rows_text (count - k) (left_at t d))
+pub record Writing (t : Tables) (count : ℕ) (l : List ℕ) (at : ℕ) (u : Tables) (out : List ℕ) (next k : ℕ) : Type 0 where
+  pub passing : Passing Exact count k u
+  pub puts : Putting l at (rows_text count t) out next (rows_text (count - k) u)
 
-pub writing_start : (t : Tables) (count : ℕ) (l : List ℕ) (at : ℕ) → judge_rows Exact count none_before t ≡ Fine → at + length (rows_text count t) ≤ length l
-    → Writing t count l at first_stand l at 0
-writing_start t count l at e h = record { walk = walk_start Exact t count e; puts = rw (sub-zero count) (putting-start l at (rows_text count t) h) }
+pub writing_start : (t : Tables) (count : ℕ) (l : List ℕ) (at : ℕ) → judge_rows Exact count none_before t ≡ Ok tt → at + length (rows_text count t) ≤ length l
+    → Writing t count l at t l at 0
+writing_start t count l at e h = record { passing = passing_start Exact t count e; puts = rw (sub-zero count) (putting-start l at (rows_text count t) h) }
 
-module _ {t : Tables} {count : ℕ} {l : List ℕ} {at : ℕ} {d : Stand} {out : List ℕ} {next k : ℕ} (m : Writing t count l at d out next k) where
+module _ {t : Tables} {count : ℕ} {l : List ℕ} {at : ℕ} {u : Tables} {out : List ℕ} {next k : ℕ} (m : Writing t count l at u out next k) where
   module _ (h : k < count) where
-    pub writing-room : next + length (row_text (tails_at t d)) ≤ length out
-    writing-room = putting-room m.puts (row_text (tails_at t d)) _ (rows-here m.walk h)
+    pub writing-made : is_made u ≡ true
+    writing-made = passing-made m.passing h
 
-    pub writing-on : {e : Stand} {x : List ℕ} {r : ℕ} → e ≡ next_stand t.rows d → Put out next (row_text (tails_at t d)) x r
-        → Writing t count l at e x r (k + 1)
-    writing-on {e} {x} {r} f p =
-        rw f (record { walk = walk-on m.walk h (next_stand t.rows d) refl; puts = putting-on m.puts (row_text (tails_at t d)) _ (rows-here m.walk h) p })
+    pub writing-room : next + length (row_text u) ≤ length out
+    writing-room = putting-room m.puts (row_text u) _ (rows-here m.passing h)
+
+    pub writing-on : {v : Tables} {x : List ℕ} {r : ℕ} → v ≡ rest_of u → Put out next (row_text u) x r → Writing t count l at v x r (k + 1)
+    writing-on {v} {x} {r} f p = rw f (record { passing = passing-on m.passing h; puts = putting-on m.puts (row_text u) _ (rows-here m.passing h) p })
 
   pub writing-end : count ≤ k → Put l at (rows_text count t) out next
-  writing-end h = putting-end m.puts (rows-over (left_at t d) count k h)
+  writing-end h = putting-end m.puts (rows-over u count k h)

@@ -21,15 +21,15 @@ use Rattle.sheet.specs.Reading.{sheet, meaning, reading}
 use Rattle.sheet.proofs.Meaning.{reading-meaning}
 use Rattle.record.proofs.RecordLaws.{former-widest}
 use Rattle.sheet.proofs.Modes.{reading-widens}
-use Rattle.made.specs.declared.Verdict.{Verdict}
-use Rattle.made.specs.declared.Verdict.TheVariants.{Fine, BadHeader}
-use Rattle.made.specs.declared.Verdict.TheVariants as Verdict
+use Rattle.std.specs.Prelude.{Result, Ok, Err}
+use Rattle.made.specs.declared.Flaw.{Flaw}
+use Rattle.made.specs.declared.Flaw.TheVariants.{BadHeader}
 use Rattle.made.specs.Made.{none_before, judge_rows, judge_of, used_of}
 use Rattle.made.proofs.UsedLaws.{behind_of, used-front, used-behind, judge-used, judge-alike, Long, fine-long}
 use Rattle.layout.specs.Sheet.{sheet_text}
 use Rattle.writer.specs.Write.{written_after, write_of, output_of, number_of}
-use Rattle.writer.specs.declared.Written.{Written}
-use Rattle.writer.specs.declared.Written.TheVariants.{Wrote, TooLong, NoRoom, Refused}
+use Rattle.writer.specs.declared.Unwritten.{Unwritten}
+use Rattle.writer.specs.declared.Unwritten.TheVariants.{TooLong, NoRoom}
 use Rattle.layout.proofs.WrittenLaws.{sheet-meaning, written-then-read}
 use Rattle.layout.proofs.ReadMade.{reading-made}
 use Rattle.layout.proofs.ReadWritten.{read-written}
@@ -37,13 +37,13 @@ use Rattle.layout.proofs.UsedLaws.{text-used, read-used}
 
 -- ---- every reading's result is well made
 
-pub judged-fine : (mode : Mode) (h : Header) (count : ℕ) (t : Tables) → is_header h ≡ true → judge_rows mode count none_before t ≡ Fine → judge_of mode h count t ≡ Fine
+pub judged-fine : (mode : Mode) (h : Header) (count : ℕ) (t : Tables) → is_header h ≡ true → judge_rows mode count none_before t ≡ Ok tt → judge_of mode h count t ≡ Ok tt
 unfolding judge_of
 judged-fine mode h count t e q = rw e q
 
 -- in every mode (in exact mode with listed codes), and its tables hold nothing but what its rows use
 pub comes-made : (mode : Mode) (bs : List ℕ) (h : Header) (o : Tables) → meaning mode bs ≡ sheet h o
-    → (judge_of mode h (row_count o) o ≡ Fine) × (used_of (row_count o) o ≡ o)
+    → (judge_of mode h (row_count o) o ≡ Ok tt) × (used_of (row_count o) o ≡ o)
 comes-made mode bs h o e = let m = reading-made mode bs h o e in (judged-fine mode h (row_count o) o m.0 m.1, m.2)
 
 -- ---- well made, exactly: "the rows and tables could come from a loose reading, the file length limit apart, and every table is long enough"
@@ -58,16 +58,16 @@ pub record CouldCome (mode : Mode) (h : Header) (count : ℕ) (t : Tables) : Typ
   pub counted : row_count elements ≡ count
 
 module _ (mode : Mode) (h : Header) (count : ℕ) (t : Tables) where
-  pub rows-fine : judge_of mode h count t ≡ Fine → judge_rows mode count none_before t ≡ Fine
+  pub rows-fine : judge_of mode h count t ≡ Ok tt → judge_rows mode count none_before t ≡ Ok tt
   unfolding judge_of
-  rows-fine e = (cond-first (is_header h) (judge_rows mode count none_before t) BadHeader Fine (λ z. let y : ◌≡◌ {A = ℕ} 0 1 = cc in omega arith) e).1
+  rows-fine e = (cond-first (is_header h) (judge_rows mode count none_before t) (Err BadHeader) (Ok tt) (λ z. let y : ◌≡◌ {A = ℕ} 0 1 = cc in omega arith) e).1
 
   -- every table of a well made sheet is long enough
-  pub made-long : judge_of mode h count t ≡ Fine → Long count t
+  pub made-long : judge_of mode h count t ≡ Ok tt → Long count t
   made-long e = fine-long mode count none_before t (rows-fine e)
 
   -- **well made, exactly**, one way: in every mode (in exact mode with listed codes)
-  pub made-comes : judge_of mode h count t ≡ Fine → CouldCome mode h count t
+  pub made-comes : judge_of mode h count t ≡ Ok tt → CouldCome mode h count t
   made-comes e =
       record {
         bytes = sheet_text h count t;
@@ -79,7 +79,7 @@ module _ (mode : Mode) (h : Header) (count : ℕ) (t : Tables) where
       }
 
   -- and the other way
-  pub comes-fine : CouldCome mode h count t → judge_of mode h count t ≡ Fine
+  pub comes-fine : CouldCome mode h count t → judge_of mode h count t ≡ Ok tt
   comes-fine c =
       let o = c.elements in
       sym (ap₂ (λ (n : ℕ) (x : Tables). judge_of mode h n x) c.counted c.begins)
@@ -98,64 +98,60 @@ write-used h n t room = rw (judge-used Exact h n t, text-used h n t)
 
 module _ (h : Header) (count : ℕ) (t : Tables) (room : ℕ) where
   -- a sheet with nothing against it, whose text keeps the limit and fits, is written
-  pub write-fine : judge_of Exact h count t ≡ Fine → length (sheet_text h count t) ≤ file_most → length (sheet_text h count t) ≤ room
-      → write_of h count t room ≡ Wrote (length (sheet_text h count t))
+  pub write-fine : judge_of Exact h count t ≡ Ok tt → length (sheet_text h count t) ≤ file_most → length (sheet_text h count t) ≤ room
+      → write_of h count t room ≡ Ok (length (sheet_text h count t))
   unfolding write_of
   write-fine e l r = rw (e, le-leb (length (sheet_text h count t)) file_most l, le-leb (length (sheet_text h count t)) room r)
 
 -- **a refusal alters nothing**: whatever its number, the output is as it was
-pub refused-output : (w : Written) (s l : List ℕ) → (number_of w ≡ 0 → ⊥) → output_of w s l ≡ l
-refused-output (Wrote n) s l f = absurd (f refl)
-refused-output TooLong s l f = refl
-refused-output (NoRoom n) s l f = refl
-refused-output (Refused v) s l f = refl
+pub refused-output : (w : Result ℕ Unwritten) (s l : List ℕ) → (number_of w ≡ 0 → ⊥) → output_of w s l ≡ l
+refused-output (Ok n) s l f = absurd (f refl)
+refused-output (Err e) s l f = refl
 
 -- **what was written** had nothing against it, kept the limit and found room
-pub record WroteOnly (v : Verdict) (size room n : ℕ) : Type 0 where
-  pub fine : v ≡ Verdict.Fine
+pub record WroteOnly (v : Result Unit Flaw) (size room n : ℕ) : Type 0 where
+  pub fine : v ≡ Ok tt
   pub fits : size ≤ file_most
   pub space : size ≤ room
   pub long : n ≡ size
 
-pub wrote-only : (v : Verdict) (size room n : ℕ) → written_after v size room ≡ Wrote n → WroteOnly v size room n
-wrote-only Verdict.Fine size room n e =
-    let a = cond-first (leb size file_most) (cond (leb size room) (Wrote size) (NoRoom size)) TooLong (Wrote n) (λ z. let y : ◌≡◌ {A = ℕ} 0 1 = cc in omega arith) e in
-    let b = cond-first (leb size room) (Wrote size) (NoRoom size) (Wrote n) (λ z. let y : ◌≡◌ {A = ℕ} 0 1 = cc in omega arith) a.1 in
-    let w : Wrote size ≡ Wrote n = b.1 in
+pub wrote-only : (v : Result Unit Flaw) (size room n : ℕ) → written_after v size room ≡ Ok n → WroteOnly v size room n
+wrote-only (Ok u) size room n e =
+    let a = cond-first (leb size file_most) (cond (leb size room) (Ok size) (Err (NoRoom size))) (Err TooLong) (Ok n) (λ z. let y : ◌≡◌ {A = ℕ} 0 1 = cc in omega arith) e in
+    let b = cond-first (leb size room) (Ok size) (Err (NoRoom size)) (Ok n) (λ z. let y : ◌≡◌ {A = ℕ} 0 1 = cc in omega arith) a.1 in
+    let w : ◌≡◌ {A = Result ℕ Unwritten} (Ok size) (Ok n) = b.1 in
     record { fine = refl; fits = leb-true size file_most a.0; space = leb-true size room b.0; long = cc }
-wrote-only Verdict.BadHeader size room n e = absurd (let y : ◌≡◌ {A = ℕ} 0 1 = cc in omega arith)
-wrote-only (Verdict.Faulty k) size room n e = absurd (let y : ◌≡◌ {A = ℕ} 0 1 = cc in omega arith)
-wrote-only (Verdict.Unlisted k) size room n e = absurd (let y : ◌≡◌ {A = ℕ} 0 1 = cc in omega arith)
+wrote-only (Err f) size room n e = absurd (let y : ◌≡◌ {A = ℕ} 0 1 = cc in omega arith)
 
 -- **written then read**: writing a well made sheet that uses listed codes, where it fits, gives bytes that the exact mode reads back as that same sheet
-pub written_read : (h : Header) (count : ℕ) (t : Tables) → judge_of Exact h count t ≡ Fine → length (sheet_text h count t) ≤ file_most
+pub written_read : (h : Header) (count : ℕ) (t : Tables) → judge_of Exact h count t ≡ Ok tt → length (sheet_text h count t) ≤ file_most
     → reading Exact (sheet_text h count t) ≡ sheet h (used_of count t)
 written_read h count t e l = written-then-read h count t e l
 
 -- **read then written**: writing what the exact mode accepted, given room, gives its very bytes
 pub read-write : (bs : List ℕ) (h : Header) (o : Tables) (room : ℕ) (l : List ℕ) → reading Exact bs ≡ sheet h o → length bs ≤ room
-    → (write_of h (row_count o) o room ≡ Wrote (length bs)) × (output_of (write_of h (row_count o) o room) (sheet_text h (row_count o) o) l ≡ over bs l)
+    → (write_of h (row_count o) o room ≡ Ok (length bs)) × (output_of (write_of h (row_count o) o room) (sheet_text h (row_count o) o) l ≡ over bs l)
 read-write bs h o room l e r =
     let m = reading-meaning Exact bs h o e in
     let q : sheet_text h (row_count o) o ≡ bs = read-written bs h o m.1 in
-    let f : judge_of Exact h (row_count o) o ≡ Fine = (comes-made Exact bs h o m.1).0 in
-    let w : write_of h (row_count o) o room ≡ Wrote (length bs) =
-    write-fine h (row_count o) o room f (rw q m.0) (rw q r) ∙ ap (λ (x : List ℕ). Wrote (length x)) q in
+    let f : judge_of Exact h (row_count o) o ≡ Ok tt = (comes-made Exact bs h o m.1).0 in
+    let w : write_of h (row_count o) o room ≡ Ok (length bs) =
+    write-fine h (row_count o) o room f (rw q m.0) (rw q r) ∙ ap (λ (x : List ℕ). Ok (length x)) q in
     (w, rw (w, q))
 
 -- **read then written**, of the tables as the reading left them, over any old contents
 pub read-write-over : (bs : List ℕ) (h : Header) (o old : Tables) (room : ℕ) (l : List ℕ) → reading Exact bs ≡ sheet h o → length bs ≤ room
-    → (write_of h (row_count o) (over_of o old) room ≡ Wrote (length bs)) × (output_of (write_of h (row_count o) (over_of o old) room) (sheet_text h (row_count o) (over_of o old)) l ≡ over bs l)
+    → (write_of h (row_count o) (over_of o old) room ≡ Ok (length bs)) × (output_of (write_of h (row_count o) (over_of o old) room) (sheet_text h (row_count o) (over_of o old)) l ≡ over bs l)
 read-write-over bs h o old room l e r =
     let n = row_count o in
     let u : used_of n (over_of o old) ≡ o = read-used Exact bs h o _ (reading-meaning Exact bs h o e).1 in
     let w : write_of h n (over_of o old) room ≡ write_of h n o room = sym (write-used h n (over_of o old) room) ∙ ap (λ (x : Tables). write_of h n x room) u in
     let s : sheet_text h n (over_of o old) ≡ sheet_text h n o = sym (text-used h n (over_of o old)) ∙ ap (sheet_text h n) u in
     let z = read-write bs h o room l e r in
-    (w ∙ z.0, ap₂ (λ (x : Written) (y : List ℕ). output_of x y l) w s ∙ z.1)
+    (w ∙ z.0, ap₂ (λ (x : Result ℕ Unwritten) (y : List ℕ). output_of x y l) w s ∙ z.1)
 
 -- **what was read is well made**, in every mode, on the tables as the reading leaves them: the premise of every question that is asked of a row alone
-pub read-fine-over : (mode : Mode) (bs : List ℕ) (h : Header) (o old : Tables) → reading mode bs ≡ sheet h o → judge_of Loose h (row_count o) (over_of o old) ≡ Fine
+pub read-fine-over : (mode : Mode) (bs : List ℕ) (h : Header) (o old : Tables) → reading mode bs ≡ sheet h o → judge_of Loose h (row_count o) (over_of o old) ≡ Ok tt
 read-fine-over mode bs h o old e =
     let l = (reading-meaning Former bs h o (reading-widens mode Former (former-widest mode) bs h o e)).1 in
     judge-alike Loose Former refl h (row_count o) (over_of o old)

@@ -3,7 +3,7 @@
 // refusal alters nothing, and past the text nothing is altered.
 #![tactic(auto)]
 
-ghost use Rattle.std.specs.Prelude.{◌≡◌, true, [], ◌+◌, ◌-◌, ◌*◌, ◌≤◌, ◌<◌, min, length, get_or};
+ghost use Rattle.std.specs.Prelude.{◌≡◌, true, [], ◌+◌, ◌-◌, ◌*◌, ◌≤◌, ◌<◌, min, length, get_or, Ok};
 ghost use Rattle.laws.specs.Lists.{over};
 ghost use Rattle.record.specs.Refusals.{file_most};
 ghost use Rattle.record.specs.declared.Mode.TheVariants.{Exact};
@@ -13,28 +13,34 @@ ghost use Rattle.token.specs.Lex.{key_text, kind_most};
 ghost use Rattle.kinds.specs.Kinds.{schedule, letters_place, want_at};
 ghost use Rattle.header.specs.Header.{first_words};
 ghost use Rattle.heading.specs.Heading.{is_header};
-ghost use Rattle.made.specs.declared.Verdict.TheVariants.{Fine};
-ghost use Rattle.made.specs.Made.{tables_of, has_field, are_numbers, sum, are_reals, is_made, none_before, judge_rows, judge_of};
+ghost use Rattle.made.specs.Made.{tables, tables_of, has_field, are_numbers, sum, are_reals, is_made, none_before, judge_rows, judge_of};
 ghost use Rattle.layout.specs.Sheet.{line, field_text, fields_text, integers_text, reals_text, row_text, rows_text, header_text, sheet_text};
+ghost use Rattle.writer.specs.declared.Unwritten.TheVariants.{Refused};
 ghost use Rattle.writer.specs.Write.{written_after, write_of, output_of};
 ghost use Rattle.row.specs.Walk.{cell_in};
 ghost use Rattle.writer.specs.Put.{Put, row_size};
 
 use heading::Header;
 use kinds::{field_at, want_at};
-use made::{Verdict, count_at, judge};
+use made::{Flaw, Lent, Sheet, count_at, judge, rest_of};
 use record::{FILE_MOST, Mode};
-use row::{Stand, stand_next};
 use spelling::{put_bytes, spell_integer, spell_real};
 use token::{WORD_STARTS, WORDS, Want};
 
-// The length that was written; too long for a file (1); no room (14), with the needed length; or what is wrong with the sheet.
-#[derive(Clone, Copy)]
-pub enum Written {
-    Wrote(usize),
+// Why nothing is written: too long for a file (1); no room (14), with the needed length; or what is wrong with the sheet.
+#[derive(Clone, Copy, Debug, PartialEq, Eq)]
+pub enum Unwritten {
     TooLong,
     NoRoom(usize),
-    Refused(Verdict),
+    Refused(Flaw),
+}
+
+impl From<Flaw> for Unwritten {
+    ghost from_gives = { λ f r. r ≡ Refused f };
+
+    fn from(flaw: Flaw) -> Unwritten {
+        Unwritten::Refused(flaw)
+    }
 }
 
 const LETTERS_PLACE: usize = 9;
@@ -48,12 +54,6 @@ const FRAMES: [usize; 8] = [0, 97, 57, 57, 75, 19, 22, 24];
 
 // The bytes of the EOF record.
 const END_LENGTH: usize = 5;
-
-fn wide(n: u16) -> usize
-    ensures { result ≡ n }
-{
-    n as usize
-}
 
 // A record with this content.
 fn put_line(out: &mut [u8], at: usize, s: &[u8]) -> usize
@@ -114,6 +114,7 @@ fn put_field(out: &mut [u8], at: usize, rows: &[i64], letters: &[u8], place: usi
 }
 
 // The records of a row's fields, in the schedule's order.
+// `field_at` answers 0 behind the last field: a range that is left by a test is no plainer than this count.
 fn put_fields(out: &mut [u8], at: usize, rows: &[i64], letters: &[u8]) -> usize
     requires rows_value { (are_numbers rows.now ≡ true) × (cell_in rows.now letters_place ≤ length letters.now) }
     requires rows_in_bounds { at + length (fields_text (tables_of rows.now letters.now [] []) (get_or schedule (cell_in rows.now 0) [])) ≤ length out.old }
@@ -138,10 +139,8 @@ fn put_islands(out: &mut [u8], at: usize, s: &[u16]) -> usize
     ensures { Put out.old at (integers_text s.now) out.new result }
 {
     let mut next = at;
-    let mut i = 0;
-    while i < s.len() {
-        next = put_integer(out, next, wide(s[i]));
-        i += 1;
+    for &n in s {
+        next = put_integer(out, next, usize::from(n));
     }
     next
 }
@@ -152,72 +151,37 @@ fn put_points(out: &mut [u8], at: usize, s: &[i64]) -> usize
     ensures { Put out.old at (reals_text s.now) out.new result }
 {
     let mut next = at;
-    let mut i = 0;
-    while i < s.len() {
-        next = put_real(out, next, s[i]);
-        i += 1;
+    for &z in s {
+        next = put_real(out, next, z);
     }
     next
 }
 
 // The section of the first row: its keyword, its fields, its island counts, its points.
-fn put_row(
-    out: &mut [u8],
-    at: usize,
-    rows: &[i64],
-    letters: &[u8],
-    islands: &[u16],
-    points: &[i64],
-) -> usize
-    requires points_value { is_made (tables_of rows.now letters.now islands.now points.now) ≡ true }
-    requires points_in_bounds { at + length (row_text (tables_of rows.now letters.now islands.now points.now)) ≤ length out.old }
-    ensures { Put out.old at (row_text (tables_of rows.now letters.now islands.now points.now)) out.new result }
+fn put_row(out: &mut [u8], at: usize, part: &Lent<'_>) -> usize
+    requires part_value { is_made (tables part.now) ≡ true }
+    requires part_in_bounds { at + length (row_text (tables part.now)) ≤ length out.old }
+    ensures { Put out.old at (row_text (tables part.now)) out.new result }
 {
-    let key_end = put_key(out, at, count_at(rows, 0), count_at(rows, 1));
-    let fields_end = put_fields(out, key_end, rows, letters);
-    let i = count_at(rows, ISLANDS_PLACE);
-    let islands_end = put_islands(out, fields_end, &islands[..i]);
-    let p = 2 * count_at(rows, VERTICES_PLACE);
-    put_points(out, islands_end, &points[..p])
+    let key_end = put_key(out, at, count_at(part.rows, 0), count_at(part.rows, 1));
+    let fields_end = put_fields(out, key_end, part.rows, part.letters);
+    let i = count_at(part.rows, ISLANDS_PLACE);
+    let islands_end = put_islands(out, fields_end, &part.islands[..i]);
+    let p = 2 * count_at(part.rows, VERTICES_PLACE);
+    put_points(out, islands_end, &part.points[..p])
 }
 
 // The sections of all rows.
-fn put_rows(
-    out: &mut [u8],
-    at: usize,
-    count: usize,
-    rows: &[i64],
-    letters: &[u8],
-    islands: &[u16],
-    points: &[i64],
-) -> usize
-    requires points_value { judge_rows Exact count none_before (tables_of rows.now letters.now islands.now points.now) ≡ Fine }
-    requires points_in_bounds { at + length (rows_text count (tables_of rows.now letters.now islands.now points.now)) ≤ length out.old }
-    ensures { Put out.old at (rows_text count (tables_of rows.now letters.now islands.now points.now)) out.new result }
+fn put_rows(out: &mut [u8], at: usize, count: usize, lent: &Lent<'_>) -> usize
+    requires lent_value { judge_rows Exact count none_before (tables lent.now) ≡ Ok tt }
+    requires lent_in_bounds { at + length (rows_text count (tables lent.now)) ≤ length out.old }
+    ensures { Put out.old at (rows_text count (tables lent.now)) out.new result }
 {
-    let mut d = Stand {
-        row: 0,
-        letters: 0,
-        islands: 0,
-        points: 0,
-    };
+    let mut left = *lent;
     let mut next = at;
-    let mut k = 0;
-    while k < count {
-        let r = d.row;
-        let l = d.letters;
-        let i = d.islands;
-        let p = d.points;
-        next = put_row(
-            out,
-            next,
-            &rows[r..],
-            &letters[l..],
-            &islands[i..],
-            &points[p..],
-        );
-        d = stand_next(rows, d);
-        k += 1;
+    for _ in 0..count {
+        next = put_row(out, next, &left);
+        left = rest_of(&left);
     }
     next
 }
@@ -235,33 +199,18 @@ fn row_length(rows: &[i64]) -> usize
 }
 
 // The bytes of all rows' sections, behind `start` bytes; one more than a file may have where they are too many.
-fn rows_length(
-    start: usize,
-    count: usize,
-    rows: &[i64],
-    letters: &[u8],
-    islands: &[u16],
-    points: &[i64],
-) -> usize
-    requires { (start ≤ file_most) × (judge_rows Exact count none_before (tables_of rows.now letters.now islands.now points.now) ≡ Fine) }
-    ensures { result ≡ min (start + length (rows_text count (tables_of rows.now letters.now islands.now points.now))) (file_most + 1) }
+fn rows_length(start: usize, count: usize, lent: &Lent<'_>) -> usize
+    requires { (start ≤ file_most) × (judge_rows Exact count none_before (tables lent.now) ≡ Ok tt) }
+    ensures { result ≡ min (start + length (rows_text count (tables lent.now))) (file_most + 1) }
 {
-    let mut d = Stand {
-        row: 0,
-        letters: 0,
-        islands: 0,
-        points: 0,
-    };
+    let mut left = *lent;
     let mut total = start;
-    let mut k = 0;
-    while k < count {
-        let r = d.row;
-        total += row_length(&rows[r..]);
+    for _ in 0..count {
+        total += row_length(left.rows);
         if total > FILE_MOST {
             return FILE_MOST + 1;
         }
-        d = stand_next(rows, d);
-        k += 1;
+        left = rest_of(&left);
     }
     total
 }
@@ -285,103 +234,63 @@ fn put_header(out: &mut [u8], at: usize, header: Header) -> usize
     requires { (is_header header ≡ true) × (at + length (header_text header) ≤ length out.old) }
     ensures { Put out.old at (header_text header) out.new result }
 {
-    let kind = header.kind;
-    let name = header.name;
-    let scale = header.scale;
-    let first_end = put_first(out, at, kind);
-    let name_end = put_line(out, first_end, &name);
-    put_real(out, name_end, scale)
+    let first_end = put_first(out, at, header.kind);
+    let name_end = put_line(out, first_end, &header.name);
+    put_real(out, name_end, header.scale)
 }
 
 // The bytes of the header.
+#[tactic(auto, using(crate::proofs::HeaderWays::lengths))]
 fn header_length(header: Header) -> usize
     requires { is_header header ≡ true }
     ensures { result ≡ length (header_text header) }
 {
-    let kind = header.kind;
-    if kind == 1 {
-        return 34;
-    }
-    44
+    if header.kind == 1 { 34 } else { 44 }
 }
 
 // The bytes of the sheet; one more than a file may have where they are too many.
-fn sheet_length(
-    header: Header,
-    count: usize,
-    rows: &[i64],
-    letters: &[u8],
-    islands: &[u16],
-    points: &[i64],
-) -> usize
-    requires { judge_of Exact header count (tables_of rows.now letters.now islands.now points.now) ≡ Fine }
-    ensures { result ≡ min (length (sheet_text header count (tables_of rows.now letters.now islands.now points.now))) (file_most + 1) }
+fn sheet_length(sheet: &Sheet<'_>) -> usize
+    requires { judge_of Exact sheet.now.header sheet.now.count (tables sheet.now.lent) ≡ Ok tt }
+    ensures { result ≡ min (length (sheet_text sheet.now.header sheet.now.count (tables sheet.now.lent))) (file_most + 1) }
 {
-    let start = header_length(header) + END_LENGTH;
-    rows_length(start, count, rows, letters, islands, points)
+    let start = header_length(sheet.header) + END_LENGTH;
+    rows_length(start, sheet.count, &sheet.lent)
 }
 
 // The header, the sections, `EOF`.
-fn put_sheet(
-    out: &mut [u8],
-    header: Header,
-    count: usize,
-    rows: &[i64],
-    letters: &[u8],
-    islands: &[u16],
-    points: &[i64],
-)
-    requires points_value { judge_of Exact header count (tables_of rows.now letters.now islands.now points.now) ≡ Fine }
-    requires points_in_bounds { length (sheet_text header count (tables_of rows.now letters.now islands.now points.now)) ≤ length out.old }
-    ensures { out.new ≡ over (sheet_text header count (tables_of rows.now letters.now islands.now points.now)) out.old }
+fn put_sheet(sheet: &Sheet<'_>, out: &mut [u8])
+    requires sheet_value { judge_of Exact sheet.now.header sheet.now.count (tables sheet.now.lent) ≡ Ok tt }
+    requires sheet_in_bounds { length (sheet_text sheet.now.header sheet.now.count (tables sheet.now.lent)) ≤ length out.old }
+    ensures { out.new ≡ over (sheet_text sheet.now.header sheet.now.count (tables sheet.now.lent)) out.old }
 {
-    let header_end = put_header(out, 0, header);
-    let rows_end = put_rows(out, header_end, count, rows, letters, islands, points);
+    let header_end = put_header(out, 0, sheet.header);
+    let rows_end = put_rows(out, header_end, sheet.count, &sheet.lent);
     put_line(out, rows_end, b"EOF");
 }
 
 // The length, the room, then the text of a sheet that was judged.
-fn write_judged(
-    header: Header,
-    count: usize,
-    rows: &[i64],
-    letters: &[u8],
-    islands: &[u16],
-    points: &[i64],
-    out: &mut [u8],
-) -> Written
-    requires { judge_of Exact header count (tables_of rows.now letters.now islands.now points.now) ≡ Fine }
-    ensures value { result ≡ written_after Fine (length (sheet_text header count (tables_of rows.now letters.now islands.now points.now))) (length out.old) }
-    ensures out_after { out.new ≡ output_of result (sheet_text header count (tables_of rows.now letters.now islands.now points.now)) out.old }
+fn write_judged(sheet: &Sheet<'_>, out: &mut [u8]) -> Result<usize, Unwritten>
+    requires { judge_of Exact sheet.now.header sheet.now.count (tables sheet.now.lent) ≡ Ok tt }
+    ensures value { result ≡ written_after (Ok tt) (length (sheet_text sheet.now.header sheet.now.count (tables sheet.now.lent))) (length out.old) }
+    ensures out_after { out.new ≡ output_of result (sheet_text sheet.now.header sheet.now.count (tables sheet.now.lent)) out.old }
 {
-    let needed = sheet_length(header, count, rows, letters, islands, points);
+    let needed = sheet_length(sheet);
     if needed > FILE_MOST {
-        return Written::TooLong;
+        return Err(Unwritten::TooLong);
     }
     if needed > out.len() {
-        return Written::NoRoom(needed);
+        return Err(Unwritten::NoRoom(needed));
     }
-    put_sheet(out, header, count, rows, letters, islands, points);
-    Written::Wrote(needed)
+    put_sheet(sheet, out);
+    Ok(needed)
 }
 
 // Writes a sheet to the start of `out`, where it is well made, its codes are listed and there is room.
-pub fn write(
-    header: Header,
-    count: usize,
-    rows: &[i64],
-    letters: &[u8],
-    islands: &[u16],
-    points: &[i64],
-    out: &mut [u8],
-) -> Written
-    ensures value { result ≡ write_of header count (tables_of rows.now letters.now islands.now points.now) (length out.old) }
-    ensures out_after { out.new ≡ output_of result (sheet_text header count (tables_of rows.now letters.now islands.now points.now)) out.old }
+#[tactic(auto, unfolding(crate::specs::Write::write_of))]
+pub fn write(sheet: &Sheet<'_>, out: &mut [u8]) -> Result<usize, Unwritten>
+    ensures value { result ≡ write_of sheet.now.header sheet.now.count (tables sheet.now.lent) (length out.old) }
+    ensures out_after { out.new ≡ output_of result (sheet_text sheet.now.header sheet.now.count (tables sheet.now.lent)) out.old }
 {
-    match judge(Mode::Exact, header, count, rows, letters, islands, points) {
-        Verdict::Fine => write_judged(header, count, rows, letters, islands, points, out),
-        Verdict::BadHeader => Written::Refused(Verdict::BadHeader),
-        Verdict::Faulty(k) => Written::Refused(Verdict::Faulty(k)),
-        Verdict::Unlisted(k) => Written::Refused(Verdict::Unlisted(k)),
-    }
+    judge(Mode::Exact, sheet)?;
+    write_judged(sheet, out)
 }

@@ -9,17 +9,17 @@ use Rattle.cml.proofs.pairs_size.Goals as goal
 pub loop-i-init : goal.loop-i-init
 loop-i-init c = (zero-add _, c.requires.2, omega arith, zero-le)
 
-pub overflow_mul-x : goal.overflow_mul-x
-overflow_mul-x c = omega (arith, c.loop-i-test.true, c.requires.0)
+pub overflow_mul-i : goal.overflow_mul-i
+overflow_mul-i c = omega (arith, c.loop-i-test.true, c.requires.0)
 
 pub bounds-s-i : goal.bounds-s-i
 bounds-s-i c = omega (arith, c.loop-i-test.true, c.requires.1)
 
-pub overflow_mul-y : goal.overflow_mul-y
-overflow_mul-y c = omega (arith, c.loop-i-test.true, c.requires.0)
+pub overflow_mul-i-in-loop-i : goal.overflow_mul-i-in-loop-i
+overflow_mul-i-in-loop-i c = omega (arith, c.loop-i-test.true, c.requires.0)
 
-pub overflow_add-y : goal.overflow_add-y
-overflow_add-y c = omega (arith, c.loop-i-test.true, c.requires.0)
+pub overflow_add-i : goal.overflow_add-i
+overflow_add-i c = omega (arith, c.loop-i-test.true, c.requires.0)
 
 pub bounds-s-i-in-loop-i : goal.bounds-s-i-in-loop-i
 bounds-s-i-in-loop-i c = omega (arith, c.loop-i-test.true, c.requires.1)

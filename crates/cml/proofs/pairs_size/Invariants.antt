@@ -9,6 +9,3 @@ use Rattle.cml.proofs.pairs_size.Given as goal
 
 abbrev pub invariant-loop-i : goal.invariant-loop-i
 invariant-loop-i l = (l.total + (l.i + gaps_to l.i) + length (spaced_text (2 * l.i) (drop (2 * l.i) l.s)) ≡ length (spaced_text 0 l.s)) × (are_reals (drop (2 * l.i) l.s) ≡ true) × (l.total ≤ 24 * l.i) × (l.i ≤ l.n)
-
-abbrev pub decreases-loop-i : goal.decreases-loop-i
-decreases-loop-i l = l.n - l.i

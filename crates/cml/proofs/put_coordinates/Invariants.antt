@@ -10,6 +10,3 @@ use Rattle.cml.proofs.put_coordinates.Given as goal
 
 abbrev pub invariant-loop-j : goal.invariant-loop-j
 invariant-loop-j l = Putting l.initial.out l.at (spaced_text 0 l.s) l.out l.next (spaced_text l.j (drop l.j l.s)) × (are_reals (drop l.j l.s) ≡ true)
-
-abbrev pub decreases-loop-j : goal.decreases-loop-j
-decreases-loop-j l = length l.s - l.j

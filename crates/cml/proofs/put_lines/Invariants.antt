@@ -1,11 +1,7 @@
 -- `put_lines` meets its contract: a walk over the rows. Assumes nothing.
-use Prim.Native.Nat.{◌-◌}
-use Rattle.made.specs.Made.{tables_of}
+use Rattle.made.specs.Made.{tables}
 use Rattle.cml.proofs.Walk.{Writing}
 use Rattle.cml.proofs.put_lines.Given as goal
 
-abbrev pub invariant-loop-k : goal.invariant-loop-k
-invariant-loop-k l = Writing (tables_of l.rows l.letters l.islands l.points) l.count l.initial.out l.d l.out l.next l.k
-
-abbrev pub decreases-loop-k : goal.decreases-loop-k
-decreases-loop-k l = l.count - l.k
+abbrev pub invariant-loop : goal.invariant-loop
+invariant-loop l = Writing (tables l.lent) l.count l.initial.out (tables l.left) l.out l.next l.counter

@@ -5,7 +5,7 @@ use Rattle.listing.proofs.ListLaws.{wrote-within}
 use Rattle.convert.proofs.main.Goals as goal
 
 pub slice_bounds-text-end : goal.slice_bounds-text-end
-slice_bounds-text-end c = wrote-within _ (replicate 53248 0) _ _ c.convert_text.ensures.value c.convert_text.ensures.out_after _ c.in-Wrote.is
+slice_bounds-text-end c = wrote-within _ (replicate 53248 0) _ _ c.convert_text.ensures.value c.convert_text.ensures.out_after _ c.in-Ok.is
 
 pub slice_bounds-write_all-end : goal.slice_bounds-write_all-end
-slice_bounds-write_all-end c = part_count _ _ (wrote-within _ (replicate 53248 0) _ _ c.convert_text.ensures.value c.convert_text.ensures.out_after _ c.in-Wrote.is)
+slice_bounds-write_all-end c = part_count _ _ (wrote-within _ (replicate 53248 0) _ _ c.convert_text.ensures.value c.convert_text.ensures.out_after _ c.in-Ok.is)

@@ -25,11 +25,11 @@ returns-then-s-lt0 c =
     let f : lt_z u.result (pos 0) ≡ true = cc (back u.result u.type_inv) in
     cc (back w.result w.type_inv, side_right u.result w.result e f)
 
-pub returns : goal.returns
+pub returns-else-s-lt0 : goal.returns-else-s-lt0
 unfolding beside-line
-returns c =
+returns-else-s-lt0 c =
     let u = c.side_of-s in
     let w = c.side_of-t in
     let e : lt_z (pos 0) u.result ≡ false = cc (back u.result u.type_inv) in
     let f : lt_z u.result (pos 0) ≡ false = cc (back u.result u.type_inv) in
-    cc (side-on u.result w.result e f)
+    cc (back u.result u.type_inv, side-on u.result w.result e f)

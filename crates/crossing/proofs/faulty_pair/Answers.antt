@@ -3,7 +3,7 @@ use Prim.Native.Nat.{◌+◌}
 use native.Mathlib.Omega.{arith}
 use Rattle.crossing.proofs.EdgeLaws.{close-as, faulty-itself, faulty-next, faulty-ends, faulty-other, not_first, not_last}
 use Rattle.crossing.proofs.faulty_pair.Goals as goal
-use Rattle.crossing.proofs.faulty_pair.Goals.{then-i-eq0+else-j-edges, else-i-eq0}
+use Rattle.crossing.proofs.faulty_pair.Goals.{else-i-eq0-via-then-i-eq0+else-j-edges, else-i-eq0-via-else-i-eq0}
 
 pub returns-then-i-j : goal.returns-then-i-j
 returns-then-i-j c =
@@ -59,8 +59,8 @@ returns c =
     let e =
     faulty-other c.args.points.now c.args.from c.args.edges i j
     c.if-i-j.false c.if-i-j-2.false
-    (elim c.if-i-eq0.branch [
-      | then-i-eq0+else-j-edges w ↦ not_last c.args.points.now c.args.from c.args.edges i j w.if-j-edges.false
-      | else-i-eq0 w ↦ not_first c.args.points.now c.args.from c.args.edges i j w.if-i-eq0.false
+    (elim c.else-i-eq0.branch [
+      | else-i-eq0-via-then-i-eq0+else-j-edges w ↦ not_last c.args.points.now c.args.from c.args.edges i j w.if-j-edges.false
+      | else-i-eq0-via-else-i-eq0 w ↦ not_first c.args.points.now c.args.from c.args.edges i j w.if-i-eq0.false
     ]) in
     cc

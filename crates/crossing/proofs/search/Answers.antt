@@ -8,6 +8,8 @@ use borrow.Author.Count.{below_none, below_more}
 use Rattle.crossing.specs.Search.{faulty-pair, second-edge}
 use Rattle.crossing.proofs.SkipLaws.{row_on}
 use Rattle.crossing.proofs.SearchLaws.{row-none, pair_found, none_found}
+use Rattle.crossing.proofs.VerdictLaws.{searched-none, searched_faulty}
+use Rattle.crossing.proofs.search.Goals.{else-rows-test, then-rows-test+then-loop-j-test+then-faulty_pair}
 use Rattle.crossing.proofs.search.Goals as goal
 
 pub block_length-size-requires : goal.block_length-size-requires
@@ -77,14 +79,19 @@ rows-preserved c =
           (row-none c.args.points.now c.args.from c.args.edges r.i (omega arith) (λ k x y. l.invariant.2 k (omega arith) x)),
     )
 
-pub returns-after-rows : goal.returns-after-rows
-returns-after-rows c =
+pub returns-then-i-edges : goal.returns-then-i-edges
+returns-then-i-edges c =
     let r = c.rows in
-    none_found c.args.points.now c.args.from c.args.edges r.i r.j (omega arith) r.invariant.1
+    searched-none c.args.points.now c.args.from c.args.edges r.i r.j (none_found c.args.points.now c.args.from c.args.edges r.i r.j c.if-i-edges.true r.invariant.1) (omega arith)
 
-pub returns-then-faulty_pair : goal.returns-then-faulty_pair
-returns-then-faulty_pair c =
-    let r = c.rows in
-    let l = c.loop-j in
-    pair_found c.args.points.now c.args.from c.args.edges r.i l.j (omega arith) (omega arith) r.invariant.1
-    (λ k x y. l.invariant.2 k y x) (sym c.faulty_pair.ensures ∙ c.if-faulty_pair.true)
+pub returns : goal.returns
+returns c =
+    elim c.rows-test.branch [
+      | else-rows-test w ↦ absurd (c.if-i-edges.false (omega arith))
+      | then-rows-test+then-loop-j-test+then-faulty_pair w ↦
+          let r = c.rows in
+          let l = w.loop-j in
+          rw w.j-is (searched_faulty c.args.points.now c.args.from c.args.edges r.i l.j
+          (pair_found c.args.points.now c.args.from c.args.edges r.i l.j (omega arith) (omega arith) r.invariant.1
+          (λ k x y. l.invariant.2 k y x) (sym w.faulty_pair.ensures ∙ w.if-faulty_pair.true)) (omega arith))
+    ]

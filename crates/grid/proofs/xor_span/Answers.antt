@@ -10,8 +10,8 @@ loop-r-init c = span-start _ _ _ _ _ c.ranges.nx c.ranges.nv c.ranges.sx c.range
 pub height-requires : goal.height-requires
 height-requires c = (c.requires.8, turn-row _ _ _ _ _ _ _ _ _ c.loop-r.invariant c.loop-r-test.true)
 
-pub crossing_bits-bits-requires : goal.crossing_bits-bits-requires
-crossing_bits-bits-requires c = let p = c.requires in let f = c.ranges in span-asks _ _ _ _ _ f.nx f.nv f.sx f.sv p.1 p.2 p.3 p.4 p.7 p.8 _ _ _ _ c.loop-r.invariant c.loop-r-test.true _ c.height.ensures c.height.type_inv
+pub crossing_bits-requires : goal.crossing_bits-requires
+crossing_bits-requires c = let p = c.requires in let f = c.ranges in span-asks _ _ _ _ _ f.nx f.nv f.sx f.sv p.1 p.2 p.3 p.4 p.7 p.8 _ _ _ _ c.loop-r.invariant c.loop-r-test.true _ c.height.ensures c.height.type_inv
 
 pub offset_bounds-rows-r : goal.offset_bounds-rows-r
 offset_bounds-rows-r c = let h = turn-row _ _ _ _ _ _ _ _ _ c.loop-r.invariant c.loop-r-test.true in record { fits = omega arith }
@@ -19,20 +19,14 @@ offset_bounds-rows-r c = let h = turn-row _ _ _ _ _ _ _ _ _ c.loop-r.invariant c
 pub bounds-rows-r : goal.bounds-rows-r
 bounds-rows-r c = turn-room _ _ _ _ _ _ _ _ _ c.loop-r.invariant c.loop-r-test.true
 
-pub offset_bounds-rows-r-in-loop-r : goal.offset_bounds-rows-r-in-loop-r
-offset_bounds-rows-r-in-loop-r c = let h = turn-row _ _ _ _ _ _ _ _ _ c.loop-r.invariant c.loop-r-test.true in record { fits = omega arith }
-
 pub bounds-rows-r-in-loop-r : goal.bounds-rows-r-in-loop-r
 bounds-rows-r-in-loop-r c = turn-room _ _ _ _ _ _ _ _ _ c.loop-r.invariant c.loop-r-test.true
-
-pub overflow_add-r : goal.overflow_add-r
-overflow_add-r c = let h = turn-row _ _ _ _ _ _ _ _ _ c.loop-r.invariant c.loop-r-test.true in record { fits = omega arith }
 
 pub loop-r-smaller : goal.loop-r-smaller
 loop-r-smaller c = let h = c.loop-r-test.true in omega arith
 
 pub loop-r-preserved : goal.loop-r-preserved
-loop-r-preserved c = let p = c.requires in let f = c.ranges in span-on _ _ _ _ _ f.nx f.nv f.sx f.sv p.1 p.2 p.3 p.4 p.7 p.8 _ _ _ _ c.loop-r.invariant c.loop-r-test.true _ c.height.ensures c.height.type_inv _ c.crossing_bits-bits.ensures
+loop-r-preserved c = let p = c.requires in let f = c.ranges in span-on _ _ _ _ _ f.nx f.nv f.sx f.sv p.1 p.2 p.3 p.4 p.7 p.8 _ _ _ _ c.loop-r.invariant c.loop-r-test.true _ c.height.ensures c.height.type_inv _ c.crossing_bits.ensures
 
 pub shape_of-rows : goal.shape_of-rows
 shape_of-rows c = let h = c.loop-r.invariant.sized in search rules

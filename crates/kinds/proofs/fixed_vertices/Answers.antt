@@ -8,4 +8,4 @@ returns-then-kind-gt-KINDS c = fixed-none _ c.if-kind-gt-KINDS.true
 
 pub returns : goal.returns
 unfolding fixed_vertices fixed
-returns c = c.wide.ensures
+returns c = c.from.ensures

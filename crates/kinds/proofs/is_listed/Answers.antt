@@ -6,4 +6,4 @@ pub returns-then-code-gt-CODE_MOST : goal.returns-then-code-gt-CODE_MOST
 returns-then-code-gt-CODE_MOST c = listed-past _ _ c.if-code-gt-CODE_MOST.true
 
 pub returns : goal.returns
-returns c = listed-is _ _ _ c.codes-n.ensures c.if-code-gt-CODE_MOST.false
+returns c = listed-is _ _ _ c.codes.ensures c.if-code-gt-CODE_MOST.false

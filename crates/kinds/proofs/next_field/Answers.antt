@@ -6,4 +6,4 @@ pub returns-then-place-ge-OWN_WIDTH : goal.returns-then-place-ge-OWN_WIDTH
 returns-then-place-ge-OWN_WIDTH c = next-no-place _ _ c.if-place-ge-OWN_WIDTH.true
 
 pub returns : goal.returns
-returns c = next-is _ _ _ c.nexts-n.ensures c.if-place-ge-OWN_WIDTH.false
+returns c = next-is _ _ _ c.nexts.ensures c.if-place-ge-OWN_WIDTH.false

@@ -5,7 +5,7 @@ use Rattle.listing.proofs.ListLaws.{wrote-within}
 use Rattle.list.proofs.main.Goals as goal
 
 pub slice_bounds-text-end : goal.slice_bounds-text-end
-slice_bounds-text-end c = wrote-within _ (replicate 640 0) _ _ c.list_text.ensures.value c.list_text.ensures.out_after _ c.in-Wrote.is
+slice_bounds-text-end c = wrote-within _ (replicate 640 0) _ _ c.list_text.ensures.value c.list_text.ensures.out_after _ c.in-Ok.is
 
 pub slice_bounds-write_all-end : goal.slice_bounds-write_all-end
-slice_bounds-write_all-end c = part_count _ _ (wrote-within _ (replicate 640 0) _ _ c.list_text.ensures.value c.list_text.ensures.out_after _ c.in-Wrote.is)
+slice_bounds-write_all-end c = part_count _ _ (wrote-within _ (replicate 640 0) _ _ c.list_text.ensures.value c.list_text.ensures.out_after _ c.in-Ok.is)

@@ -8,13 +8,13 @@ pub put_refused-requires : goal.put_refused-requires
 put_refused-requires c = refused-fits _ _ _ _ _ c.requires.1
 
 pub put_used-requires : goal.put_used-requires
-put_used-requires c = record { used_fits = read_fits c.args.src.now _ c.requires.0 enough-tables _ c.read_as-outcome.ensures.value _ c.in-Read.is (replicate 4380 (pos 0)) _ (replicate 8192 0) _ (replicate 4096 0) _ (replicate 1365 (pos 0)) _ c.read_as-outcome.ensures.rows_after c.read_as-outcome.ensures.letters_after c.read_as-outcome.ensures.islands_after c.read_as-outcome.ensures.points_after; points_in_bounds = room-same (read-sheet c.args.src.now _ c.requires.0 enough-tables _ c.read_as-outcome.ensures.value _ c.in-Read.is (replicate 4380 (pos 0)) _ (replicate 8192 0) _ (replicate 4096 0) _ (replicate 1365 (pos 0)) _ c.read_as-outcome.ensures.rows_after c.read_as-outcome.ensures.letters_after c.read_as-outcome.ensures.islands_after c.read_as-outcome.ensures.points_after) _ (read-fits-in c.args.src.now _ c.requires.1) }
+put_used-requires c = record { used_fits = read_fits c.args.src.now _ c.requires.0 enough-tables _ c.read_as-answer.ensures.value _ _ c.in-Ok.is (replicate 4380 (pos 0)) _ (replicate 8192 0) _ (replicate 4096 0) _ (replicate 1365 (pos 0)) _ c.read_as-answer.ensures.rows_after c.read_as-answer.ensures.letters_after c.read_as-answer.ensures.islands_after c.read_as-answer.ensures.points_after; points_in_bounds = room-same (read-sheet c.args.src.now _ c.requires.0 enough-tables _ c.read_as-answer.ensures.value _ _ c.in-Ok.is (replicate 4380 (pos 0)) _ (replicate 8192 0) _ (replicate 4096 0) _ (replicate 1365 (pos 0)) _ c.read_as-answer.ensures.rows_after c.read_as-answer.ensures.letters_after c.read_as-answer.ensures.islands_after c.read_as-answer.ensures.points_after) _ (read-fits-in c.args.src.now _ c.requires.1) }
 
-pub returns-in-Refused : goal.returns-in-Refused
-returns-in-Refused c = put_same (read-refused c.args.src.now _ c.requires.0 enough-tables _ c.read_as-outcome.ensures.value _ _ _ c.in-Refused.is) c.put_refused.ensures
+pub returns-in-Err-Refused : goal.returns-in-Err-Refused
+returns-in-Err-Refused c = put_same (read-refused c.args.src.now _ c.requires.0 enough-tables _ c.read_as-answer.ensures.value _ c.in-Err-Refused.is _ _ _ _ (rw c.in-Err-Refused.is at c.in-Err-Refused.field-0-is) _ c.number.ensures) c.put_refused.ensures
 
-pub returns-in-NoRoom : goal.returns-in-NoRoom
-returns-in-NoRoom c = absurd (read_short c.args.src.now _ c.requires.0 enough-tables _ c.read_as-outcome.ensures.value _ c.in-NoRoom.is)
+pub returns-in-Err-NoRoom : goal.returns-in-Err-NoRoom
+returns-in-Err-NoRoom c = absurd (read_short c.args.src.now _ c.requires.0 enough-tables _ c.read_as-answer.ensures.value _ c.in-Err-NoRoom.is _ (rw c.in-Err-NoRoom.is at c.in-Err-NoRoom.field-0-is))
 
-pub returns-in-Read : goal.returns-in-Read
-returns-in-Read c = put_same (read-sheet c.args.src.now _ c.requires.0 enough-tables _ c.read_as-outcome.ensures.value _ c.in-Read.is (replicate 4380 (pos 0)) _ (replicate 8192 0) _ (replicate 4096 0) _ (replicate 1365 (pos 0)) _ c.read_as-outcome.ensures.rows_after c.read_as-outcome.ensures.letters_after c.read_as-outcome.ensures.islands_after c.read_as-outcome.ensures.points_after) c.put_used.ensures
+pub returns-in-Ok : goal.returns-in-Ok
+returns-in-Ok c = put_same (read-sheet c.args.src.now _ c.requires.0 enough-tables _ c.read_as-answer.ensures.value _ _ c.in-Ok.is (replicate 4380 (pos 0)) _ (replicate 8192 0) _ (replicate 4096 0) _ (replicate 1365 (pos 0)) _ c.read_as-answer.ensures.rows_after c.read_as-answer.ensures.letters_after c.read_as-answer.ensures.islands_after c.read_as-answer.ensures.points_after) c.put_used.ensures

@@ -5,14 +5,14 @@ use native.Mathlib.Nat.{zero-add}
 use mathlib.Core.Path.{sym}
 use Rattle.mask.proofs.covered_in.Goals as goal
 
-pub loop-i-init : goal.loop-i-init
-loop-i-init c = (omega arith, sym (zero-add _), omega arith)
+pub loop-row-init : goal.loop-row-init
+loop-row-init c = (sym (zero-add _), omega arith)
 
 pub overflow_add-n : goal.overflow_add-n
-overflow_add-n c = let k = c.ones_of-n.ensures.1 in let l = c.loop-i.invariant in omega (arith, l.0, l.2, c.requires)
+overflow_add-n c = let k = c.ones_of-n.ensures.1 in let l = c.loop-row.invariant in let h = c.loop-row-test.true in omega (arith, l.1, c.requires)
 
-pub loop-i-preserved : goal.loop-i-preserved
-loop-i-preserved c = let l = c.loop-i.invariant in let h = c.loop-i-test.true in (omega arith, count-on _ _ _ l.1 h _ c.ones_of-n.ensures.0, omega (arith, l.2, c.ones_of-n.ensures.1))
+pub loop-row-preserved : goal.loop-row-preserved
+loop-row-preserved c = let l = c.loop-row.invariant in (count-on _ _ _ l.0 c.loop-row-test.true _ c.ones_of-n.ensures.0, omega (arith, l.1, c.ones_of-n.ensures.1))
 
 pub returns : goal.returns
-returns c = count-over _ _ _ c.loop-i.invariant.1 c.loop-i-test.false
+returns c = count-over _ _ _ c.loop-row.invariant.0 c.loop-row-test.false

@@ -1,33 +1,26 @@
--- `mask::turn_islands` meets its contract: the loop's invariant is `Islanding`. Assumes nothing.
-use mathlib.Core.Bool.{not}
-use mathlib.Core.Path.{sym, ◌∙◌, ap}
+-- `mask::turn_islands` meets its contract. Assumes nothing.
+use mathlib.Core.Path.{sym, ◌∙◌}
 use native.Mathlib.Omega.{arith}
 use Rattle.mask.proofs.TurnWays.{islands-room, islands-sized, islands-on, turn-start, turn-off, turn-all}
 use Rattle.mask.proofs.turn_islands.Goals as goal
 
-pub loop-i-init : goal.loop-i-init
-loop-i-init c = turn-start _ _ _ _ _ _ c.ranges.cx c.ranges.cy _ c.requires
-
-pub shape_of-rows-then-not-ring : goal.shape_of-rows-then-not-ring
-shape_of-rows-then-not-ring c = c.loop-i.invariant.holds.sized ∙ sym c.requires.sized
-
-pub returns-then-not-ring : goal.returns-then-not-ring
-returns-then-not-ring c = turn-off _ _ _ _ _ _ c.ranges.cx c.ranges.cy _ _ _ c.loop-i.invariant c.loop-i-test.true _ c.wide-n.ensures _ c.ring_cells-ring.ensures (ap not c.if-not-ring.true)
-
-pub turn_over-requires : goal.turn_over-requires
-turn_over-requires c = (c.loop-i.invariant.holds.sized, islands-sized _ _ _ _ _ _ _ _ _ c.loop-i.invariant c.loop-i-test.true _ c.wide-n.ensures _ c.ring_cells-ring.ensures (ap not c.if-not-ring.false))
-
-pub overflow_add-at : goal.overflow_add-at
-overflow_add-at c = omega (arith, islands-room _ _ _ _ _ _ _ _ _ c.loop-i.invariant c.loop-i-test.true _ c.wide-n.ensures _ c.ring_cells-ring.ensures (ap not c.if-not-ring.false))
-
-pub loop-i-smaller : goal.loop-i-smaller
-loop-i-smaller c = let h = c.loop-i-test.true in omega arith
-
-pub loop-i-preserved : goal.loop-i-preserved
-loop-i-preserved c = islands-on _ _ _ _ _ _ _ _ _ c.loop-i.invariant c.loop-i-test.true _ c.wide-n.ensures _ c.ring_cells-ring.ensures (ap not c.if-not-ring.false) _ c.turn_over.ensures
-
-pub shape_of-rows : goal.shape_of-rows
-shape_of-rows c = c.loop-i.invariant.holds.sized ∙ sym c.requires.sized
+pub loop-size-init : goal.loop-size-init
+loop-size-init c = turn-start _ _ _ _ _ _ c.ranges.cx c.ranges.cy _ c.requires
 
 pub returns : goal.returns
-returns c = turn-all _ _ _ _ _ _ c.ranges.cx c.ranges.cy _ _ _ c.loop-i.invariant c.loop-i-test.false
+returns c = turn-all _ _ _ _ _ _ c.ranges.cx c.ranges.cy _ _ _ c.loop-size.invariant c.loop-size-test.false
+
+pub turn_over-requires : goal.turn_over-requires
+turn_over-requires c = (c.loop-size.invariant.holds.sized, islands-sized _ _ _ _ _ _ _ _ _ c.loop-size.invariant c.loop-size-test.true _ c.from-n.ensures _ c.ring_cells.ensures _ c.in-Some.is)
+
+pub overflow_add-at : goal.overflow_add-at
+overflow_add-at c = omega (arith, islands-room _ _ _ _ _ _ _ _ _ c.loop-size.invariant c.loop-size-test.true _ c.from-n.ensures _ c.ring_cells.ensures _ c.in-Some.is)
+
+pub loop-size-preserved : goal.loop-size-preserved
+loop-size-preserved c = islands-on _ _ _ _ _ _ _ _ _ c.loop-size.invariant c.loop-size-test.true _ c.from-n.ensures _ c.ring_cells.ensures _ c.in-Some.is _ c.turn_over.ensures
+
+pub returns-in_default : goal.returns-in_default
+returns-in_default c = turn-off _ _ _ _ _ _ c.ranges.cx c.ranges.cy _ _ _ c.loop-size.invariant c.loop-size-test.true _ c.from-n.ensures _ c.ring_cells.ensures c.in_default.is
+
+pub shape_of-rows : goal.shape_of-rows
+shape_of-rows c = c.loop-size.invariant.holds.sized ∙ sym c.requires.sized

@@ -1,35 +1,16 @@
--- `mask::turn_over` meets its contract: the loop's invariant is `Overing`. Assumes nothing.
+-- `mask::turn_over` meets its contract. Assumes nothing.
 use mathlib.Core.Path.{sym, ◌∙◌}
-use native.Mathlib.Omega.{arith}
 use Rattle.mask.proofs.TurnWays.{over-start, over-room, over-on, over_done}
 use Rattle.mask.proofs.turn_over.Goals as goal
 
 pub loop-r-init : goal.loop-r-init
 loop-r-init c = over-start _ _ c.requires.0
 
-pub offset_bounds-rows-r : goal.offset_bounds-rows-r
-offset_bounds-rows-r c = record { fits = omega (arith, c.loop-r-test.true) }
-
 pub bounds-rows-r : goal.bounds-rows-r
 bounds-rows-r c = over-room _ _ _ _ c.loop-r.invariant c.loop-r-test.true
 
-pub offset_bounds-cells-r : goal.offset_bounds-cells-r
-offset_bounds-cells-r c = record { fits = omega (arith, c.loop-r-test.true) }
-
-pub bounds-cells-r : goal.bounds-cells-r
-bounds-cells-r c = omega (arith, c.requires.1, c.loop-r-test.true)
-
-pub offset_bounds-rows-r-in-loop-r : goal.offset_bounds-rows-r-in-loop-r
-offset_bounds-rows-r-in-loop-r c = record { fits = omega (arith, c.loop-r-test.true) }
-
 pub bounds-rows-r-in-loop-r : goal.bounds-rows-r-in-loop-r
 bounds-rows-r-in-loop-r c = over-room _ _ _ _ c.loop-r.invariant c.loop-r-test.true
-
-pub overflow_add-r : goal.overflow_add-r
-overflow_add-r c = record { fits = omega (arith, c.loop-r-test.true) }
-
-pub loop-r-smaller : goal.loop-r-smaller
-loop-r-smaller c = let h = c.loop-r-test.true in omega arith
 
 pub loop-r-preserved : goal.loop-r-preserved
 loop-r-preserved c = over-on _ _ _ _ c.loop-r.invariant c.loop-r-test.true

@@ -1,27 +1,14 @@
 -- `order::first_long` meets its contract: none of the rows behind has one. Assumes nothing.
 use mathlib.Core.List.{[]}
-use native.Mathlib.Omega.{arith}
 use Rattle.made.specs.Made.{tables_of}
 use Rattle.order.proofs.LongWays.{looking-start, looking-found, looking-on, looking-end}
 use Rattle.order.proofs.first_long.Goals as goal
 
-pub first_stand-d-requires : goal.first_stand-d-requires
-first_stand-d-requires c = tt
-
 pub loop-k-init : goal.loop-k-init
 loop-k-init c = looking-start c.args.header c.args.count (tables_of c.args.rows.now c.args.letters.now [] []) c.first_stand-d.result c.first_stand-d.ensures
 
-pub is_long-requires : goal.is_long-requires
-is_long-requires c = tt
-
 pub returns-then-is_long : goal.returns-then-is_long
 returns-then-is_long c = looking-found c.loop-k.invariant c.loop-k-test.true _ c.is_long.ensures c.if-is_long.true
-
-pub stand_next-d-requires : goal.stand_next-d-requires
-stand_next-d-requires c = tt
-
-pub loop-k-smaller : goal.loop-k-smaller
-loop-k-smaller c = omega (arith, c.loop-k-test.true)
 
 pub loop-k-preserved : goal.loop-k-preserved
 loop-k-preserved c = looking-on c.loop-k.invariant c.loop-k-test.true _ c.is_long.ensures c.if-is_long.false c.stand_next-d.result c.stand_next-d.ensures

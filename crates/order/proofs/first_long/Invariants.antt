@@ -1,5 +1,4 @@
 -- `order::first_long` meets its contract: none of the rows behind has one. Assumes nothing.
-use Prim.Native.Nat.{◌-◌}
 use mathlib.Core.List.{[]}
 use Rattle.made.specs.Made.{tables_of}
 use Rattle.order.proofs.LongWays.{Looking}
@@ -7,6 +6,3 @@ use Rattle.order.proofs.first_long.Given as goal
 
 abbrev pub invariant-loop-k : goal.invariant-loop-k
 invariant-loop-k l = Looking l.header l.count (tables_of l.rows l.letters [] []) l.d l.k
-
-abbrev pub decreases-loop-k : goal.decreases-loop-k
-decreases-loop-k l = l.count - l.k

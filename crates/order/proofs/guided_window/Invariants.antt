@@ -2,7 +2,7 @@
 -- made once more, unguided. The first inner loop finds the place, the second carries each item one place on. Assumes nothing.
 use Prim.Native.Nat.{◌+◌, ◌-◌}
 use mathlib.Core.Bool.{cond}
-use Rattle.made.specs.Made.{tables_of}
+use Rattle.made.specs.Made.{tables}
 use Rattle.order.specs.SupOrder.{goes_before}
 use Rattle.order.specs.Windows.{window_width}
 use Rattle.order.proofs.GuideLaws.{up_to}
@@ -12,22 +12,16 @@ use Rattle.order.proofs.WindowWays.{Filling}
 use Rattle.order.proofs.guided_window.Given as goal
 
 abbrev pub invariant-loop-low : goal.invariant-loop-low
-invariant-loop-low l = Halving (goes_before (tables_of l.rows l.letters l.islands l.points)) l.d l.items l.n l.low l.high
+invariant-loop-low l = Halving (goes_before (tables l.sheet.lent)) l.d l.items l.n l.low l.high
 
 abbrev pub decreases-loop-low : goal.decreases-loop-low
 decreases-loop-low l = l.high - l.low
 
 abbrev pub invariant-loop-i : goal.invariant-loop-i
-invariant-loop-i l = Shifting (window_width + 1) l.initial.items l.n l.initial.i l.initial.carried l.items l.carried l.i
+invariant-loop-i l = Shifting (window_width + 1) l.initial.items l.n l.low l.d l.items l.carried l.i
 
-abbrev pub decreases-loop-i : goal.decreases-loop-i
-decreases-loop-i l = l.n - l.i
-
-abbrev pub invariant-loop-k : goal.invariant-loop-k
-invariant-loop-k l = Filling l.header l.count (tables_of l.rows l.letters l.islands l.points) l.since (up_to (tables_of l.rows l.letters l.islands l.points) l.guide l.guided) l.items l.n l.d l.k
-
-abbrev pub decreases-loop-k : goal.decreases-loop-k
-decreases-loop-k l = l.count - l.k
+abbrev pub invariant-loop : goal.invariant-loop
+invariant-loop l = Filling l.sheet.header l.sheet.count (tables l.sheet.lent) l.since (up_to (tables l.sheet.lent) l.guide l.guided) l.items l.n l.d l.counter
 
 abbrev pub invariant-loop-d : goal.invariant-loop-d
 invariant-loop-d l = Unit

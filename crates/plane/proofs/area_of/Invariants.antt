@@ -1,10 +1,6 @@
 -- `plane::area_of` meets its contract. The loop's invariant: vertices 0 to k are near the first, and the sum is that over the edges up to k. Assumes nothing.
-use Prim.Native.Nat.{◌-◌}
 use Rattle.plane.proofs.AreaWays.{Summed}
 use Rattle.plane.proofs.area_of.Given as goal
 
 abbrev pub invariant-loop-k : goal.invariant-loop-k
 invariant-loop-k l = Summed l.points l.from l.count l.x1 l.y1 l.s l.k
-
-abbrev pub decreases-loop-k : goal.decreases-loop-k
-decreases-loop-k l = l.count - l.k

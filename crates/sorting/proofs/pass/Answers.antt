@@ -1,5 +1,4 @@
 -- `pass` meets its contract: see `Passing`. Assumes nothing.
-use native.Mathlib.Omega.{arith}
 use Rattle.sorting.proofs.SortedLaws.{exchanges-length}
 use Rattle.sorting.proofs.SinkLaws.{passing-start, passing-in, passing-on, passing-end}
 use Rattle.sorting.proofs.pass.Goals as goal
@@ -9,12 +8,6 @@ loop-i-init c = passing-start _ _
 
 pub sink-requires : goal.sink-requires
 sink-requires c = (c.requires.0, passing-in c.loop-i.invariant _ c.requires.1 c.loop-i-test.true)
-
-pub overflow_add-i : goal.overflow_add-i
-overflow_add-i c = let k = c.loop-i-test.true in omega (arith, c.ranges.n)
-
-pub loop-i-smaller : goal.loop-i-smaller
-loop-i-smaller c = let k = c.loop-i-test.true in omega arith
 
 pub loop-i-preserved : goal.loop-i-preserved
 loop-i-preserved c = passing-on c.loop-i.invariant c.sink.ensures.exchanges c.sink.ensures.in_order

@@ -1,19 +1,10 @@
 -- `put_lead` meets its contract: one step of `Placing`, or two.
 use native.Mathlib.Omega.{arith}
-use Rattle.spelling.proofs.Ways.{placing-start, placing-end, two-room, two_at, placing-both}
+use Rattle.spelling.proofs.Ways.{placing-start, placing-end, placing-both}
 use Rattle.spelling.proofs.put_lead.Goals as goal
 
 pub returns-then-n-lt10 : goal.returns-then-n-lt10
 returns-then-n-lt10 c = placing-end _ _ _ _ _ _ (placing-start c.args.text.now c.args.end c.args.n c.requires.0 c.requires.1 c.requires.2) _ c.glyph.ensures c.if-n-lt10.true
-
-pub overflow_sub-text-3 : goal.overflow_sub-text-3
-overflow_sub-text-3 c = two-room _ _ _ _ _ _ (placing-start c.args.text.now c.args.end c.args.n c.requires.0 c.requires.1 c.requires.2) _ c.ones.ensures c.if-n-lt10.false
-
-pub bounds-text-end-3 : goal.bounds-text-end-3
-bounds-text-end-3 c = two_at _ _ _ _ _ _ (placing-start c.args.text.now c.args.end c.args.n c.requires.0 c.requires.1 c.requires.2) _ c.ones.ensures c.if-n-lt10.false
-
-pub overflow_sub-result-2 : goal.overflow_sub-result-2
-overflow_sub-result-2 c = two-room _ _ _ _ _ _ (placing-start c.args.text.now c.args.end c.args.n c.requires.0 c.requires.1 c.requires.2) _ c.ones.ensures c.if-n-lt10.false
 
 pub returns : goal.returns
 returns c =

@@ -1,6 +1,6 @@
 -- `put_real` meets its contract: over blanks its characters end at the twelfth.
-use Rattle.spelling.proofs.BareWays.{real_asks, real-made}
 use borrow.Author.Rules.{rules}
+use Rattle.spelling.proofs.BareWays.{real_asks, real-made}
 use Rattle.spelling.proofs.put_real.Goals as goal
 
 pub put_round-requires : goal.put_round-requires

@@ -1,7 +1,7 @@
 -- `put_round` meets its contract: places, digits and sign, each before the last.
+use borrow.Author.Rules.{rules}
 use Rattle.spelling.proofs.Ways.{back}
 use Rattle.spelling.proofs.BareWays.{ends, bare-some, bare-below, bare-fits, bare-made}
-use borrow.Author.Rules.{rules}
 use Rattle.spelling.proofs.put_round.Goals as goal
 
 pub put_digits-first-requires : goal.put_digits-first-requires

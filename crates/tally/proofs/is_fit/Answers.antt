@@ -3,11 +3,11 @@ use Rattle.tally.proofs.TallyWays.{fit-ways}
 use borrow.Author.Rules.{rules}
 use Rattle.tally.proofs.is_fit.Goals as goal
 
-pub returns-then-not-is_figure : goal.returns-then-not-is_figure
-returns-then-not-is_figure c = search (fit-ways, rules)
-
 pub overflow_sub-result : goal.overflow_sub-result
 overflow_sub-result c = search (fit-ways, rules)
 
-pub returns : goal.returns
-returns c = search (fit-ways, rules)
+pub returns-then-is_figure : goal.returns-then-is_figure
+returns-then-is_figure c = search (fit-ways, rules)
+
+pub returns-else-is_figure : goal.returns-else-is_figure
+returns-else-is_figure c = search (fit-ways, rules)

@@ -8,8 +8,8 @@ slice_bounds-write_all-end-2 c = part_count _ _ c.pad-n.ensures
 pub slice_bounds-pad-end-2 : goal.slice_bounds-pad-end-2
 slice_bounds-pad-end-2 c = part_count _ _ c.pad-n.ensures
 
-pub slice_bounds-is_same-end-2 : goal.slice_bounds-is_same-end-2
-slice_bounds-is_same-end-2 c = part_count _ _ c.pad-n.ensures
+pub slice_bounds-eq-end-2 : goal.slice_bounds-eq-end-2
+slice_bounds-eq-end-2 c = part_count _ _ c.pad-n.ensures
 
-pub slice_bounds-is_same-end-4 : goal.slice_bounds-is_same-end-4
-slice_bounds-is_same-end-4 c = part_count _ _ c.pad-m.ensures
+pub slice_bounds-eq-end-4 : goal.slice_bounds-eq-end-4
+slice_bounds-eq-end-4 c = part_count _ _ c.pad-m.ensures

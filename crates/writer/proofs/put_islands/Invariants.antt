@@ -6,8 +6,5 @@ use Rattle.layout.specs.Sheet.{integers_text}
 use Rattle.writer.proofs.Putting.{Putting}
 use Rattle.writer.proofs.put_islands.Given as goal
 
-abbrev pub invariant-loop-i : goal.invariant-loop-i
-invariant-loop-i l = Putting l.initial.out l.at (integers_text l.s) l.out l.next (integers_text (drop l.i l.s)) × (sum (drop l.i l.s) ≤ 9999)
-
-abbrev pub decreases-loop-i : goal.decreases-loop-i
-decreases-loop-i l = length l.s - l.i
+abbrev pub invariant-loop-n : goal.invariant-loop-n
+invariant-loop-n l = Putting l.initial.out l.at (integers_text l.s) l.out l.next (integers_text (drop l.n-index l.s)) × (sum (drop l.n-index l.s) ≤ 9999)

@@ -8,8 +8,5 @@ use Rattle.layout.specs.Sheet.{reals_text}
 use Rattle.writer.proofs.Putting.{Putting}
 use Rattle.writer.proofs.put_points.Given as goal
 
-abbrev pub invariant-loop-i : goal.invariant-loop-i
-invariant-loop-i l = Putting l.initial.out l.at (reals_text l.s) l.out l.next (reals_text (drop l.i l.s)) × (are_reals (drop l.i l.s) ≡ true)
-
-abbrev pub decreases-loop-i : goal.decreases-loop-i
-decreases-loop-i l = length l.s - l.i
+abbrev pub invariant-loop-z : goal.invariant-loop-z
+invariant-loop-z l = Putting l.initial.out l.at (reals_text l.s) l.out l.next (reals_text (drop l.z-index l.s)) × (are_reals (drop l.z-index l.s) ≡ true)

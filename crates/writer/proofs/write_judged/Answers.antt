@@ -11,7 +11,7 @@ pub returns-then-needed-out : goal.returns-then-needed-out
 returns-then-needed-out c = record { value = wrote-tight _ (length c.args.out.now) _ c.sheet_length-needed.ensures c.if-needed-gt-FILE_MOST.false c.if-needed-out.true; out_after = refl }
 
 pub put_sheet-requires : goal.put_sheet-requires
-put_sheet-requires c = record { points_value = c.requires; points_in_bounds = wrote-room _ (length c.args.out.now) _ c.sheet_length-needed.ensures c.if-needed-gt-FILE_MOST.false c.if-needed-out.false }
+put_sheet-requires c = record { sheet_value = c.requires; sheet_in_bounds = wrote-room _ (length c.args.out.now) _ c.sheet_length-needed.ensures c.if-needed-gt-FILE_MOST.false c.if-needed-out.false }
 
 pub returns : goal.returns
 returns c = record { value = wrote-whole _ (length c.args.out.now) _ c.sheet_length-needed.ensures c.if-needed-gt-FILE_MOST.false c.if-needed-out.false; out_after = c.put_sheet.ensures }

@@ -1,4 +1,5 @@
 -- `crossing::blocks::is_beyond` meets its contract: one lemma of BoxLaws for each answer. Assumes nothing.
+use mathlib.Core.Path.{◌∙◌}
 use Prim.Native.Nat.{◌+◌}
 use lib.ListN.{get_or}
 use lib.IntN.{pos}
@@ -13,11 +14,11 @@ pub returns-then-boxes-at : goal.returns-then-boxes-at
 returns-then-boxes-at c =
     let w = c.lower in
     let high = get_or c.args.boxes.now (c.args.at + 1) (pos 0) in
-    beyond-above (get_or c.args.boxes.now c.args.at (pos 0)) high c.args.a c.args.b
+    c.if-boxes-at.true ∙ beyond-above (get_or c.args.boxes.now c.args.at (pos 0)) high c.args.a c.args.b
     (rw (to_z-of_z {w = w64} {z = high} (search rules), back w.result w.type_inv, w.ensures, to_z-of_z c.ranges.a, to_z-of_z c.ranges.b) at c.if-boxes-at.true)
 
-pub returns : goal.returns
-returns c =
+pub returns-else-boxes-at : goal.returns-else-boxes-at
+returns-else-boxes-at c =
     let w = c.lower in
     let v = c.higher in
     let low = get_or c.args.boxes.now c.args.at (pos 0) in

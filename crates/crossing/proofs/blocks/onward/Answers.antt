@@ -11,13 +11,6 @@ pub returns-then-j-i : goal.returns-then-j-i
 returns-then-j-i c =
     skip-none (faulty-pair c.args.points.now c.args.from c.args.edges c.args.i) c.args.j c.args.edges c.requires.1
 
-pub overflow_add-j : goal.overflow_add-j
-overflow_add-j c = omega arith
-
-pub returns-then-j-edges : goal.returns-then-j-edges
-returns-then-j-edges c =
-    skip-none (faulty-pair c.args.points.now c.args.from c.args.edges c.args.i) c.args.j c.args.edges c.requires.1
-
 pub next_meeting-requires : goal.next_meeting-requires
 next_meeting-requires c = (
   record { place = c.args.i; among = omega arith; held = c.requires.2; narrow = c.requires.3; start = c.requires.4; end = c.requires.5 },

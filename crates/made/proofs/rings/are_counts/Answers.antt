@@ -1,16 +1,10 @@
--- `made::are_counts` meets its contract: the ways are in `TableWays`. Assumes nothing.
-use Rattle.made.proofs.TableWays.{count-ways}
-use borrow.Author.Rules.{rules}
+-- `made::are_counts`: of the kinds that are no borders only lines have a count. Assumes nothing.
+use Rattle.std.proofs.Common.{rules}
+use Rattle.made.proofs.FieldWays.{count_ways}
 use Rattle.made.proofs.rings.are_counts.Goals as goal
 
-pub returns-then-kind-eq1 : goal.returns-then-kind-eq1
-returns-then-kind-eq1 c = search (count-ways, rules)
+pub returns-in-5 : goal.returns-in-5
+returns-in-5 c = search (count_ways, rules)
 
-pub returns-then-v-lt2 : goal.returns-then-v-lt2
-returns-then-v-lt2 c = search (count-ways, rules)
-
-pub returns-else-v-lt2 : goal.returns-else-v-lt2
-returns-else-v-lt2 c = search (count-ways, rules)
-
-pub returns : goal.returns
-returns c = search (count-ways, rules)
+pub returns-in_default : goal.returns-in_default
+returns-in_default c = search (count_ways, rules)

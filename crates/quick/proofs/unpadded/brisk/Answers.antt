@@ -1,26 +1,16 @@
 -- `quick::brisk` meets its contract. Assumes nothing.
-use Rattle.quick.proofs.Leading.{brisk-inside, plus-small, brisk-plus, minus-small, brisk-minus}
+use Rattle.quick.proofs.Leading.{plus-small, brisk-plus, minus-small, brisk-minus}
 use Rattle.std.proofs.Common.{arith, rules}
-use Rattle.quick.proofs.Twelve.{never}
 use Rattle.quick.proofs.unpadded.brisk.Goals as goal
 
-pub returns-then-k-t : goal.returns-then-k-t
-returns-then-k-t c = λ h. never h
-
-pub returns-then-n-lt1 : goal.returns-then-n-lt1
-returns-then-n-lt1 c = λ h. never h
-
-pub overflow_add-result : goal.overflow_add-result
-overflow_add-result c = omega (arith, brisk-inside c.args.t.now c.all_blanks-k.result c.minus.result c.body-w.result.len c.body-w.result.value c.all_blanks-k.ensures.0 c.if-k-t.false c.minus.ensures c.body-w.ensures c.if-n-lt1.false)
-
 pub overflow_add-result-then-a-k : goal.overflow_add-result-then-a-k
-overflow_add-result-then-a-k c = omega (arith, plus-small c.args.t.now c.all_blanks-k.result c.minus.result c.body-w.result.len c.body-w.result.value c.all_blanks-k.ensures.0 c.if-k-t.false c.minus.ensures c.body-w.ensures c.if-n-lt1.false c.if-a-k.true)
+overflow_add-result-then-a-k c = omega (arith, plus-small c.args.t.now c.all_blanks-k.result c.minus.result c.body-n.result.len c.body-n.result.value c.all_blanks-k.ensures.0 c.if-k-t.false c.minus.ensures c.body-n.ensures c.if-n-lt1.false c.if-a-k.true)
 
 pub returns-then-a-k : goal.returns-then-a-k
-returns-then-a-k c = brisk-plus c.args.t.now c.all_blanks-k.result c.minus.result c.body-w.result.len c.body-w.result.value c.all_blanks-k.ensures.0 c.if-k-t.false c.minus.ensures c.body-w.ensures c.if-n-lt1.false c.if-a-k.true
+returns-then-a-k c = brisk-plus c.args.t.now c.all_blanks-k.result c.minus.result c.body-n.result.len c.body-n.result.value c.all_blanks-k.ensures.0 c.if-k-t.false c.minus.ensures c.body-n.ensures c.if-n-lt1.false c.if-a-k.true
 
 pub overflow_sub-result : goal.overflow_sub-result
-overflow_sub-result c = omega (arith, minus-small c.args.t.now c.all_blanks-k.result c.minus.result c.body-w.result.len c.body-w.result.value c.all_blanks-k.ensures.0 c.if-k-t.false c.minus.ensures c.body-w.ensures c.if-n-lt1.false c.if-a-k.false (search rules))
+overflow_sub-result c = omega (arith, minus-small c.args.t.now c.all_blanks-k.result c.minus.result c.body-n.result.len c.body-n.result.value c.all_blanks-k.ensures.0 c.if-k-t.false c.minus.ensures c.body-n.ensures c.if-n-lt1.false c.if-a-k.false (search rules))
 
 pub returns : goal.returns
-returns c = brisk-minus c.args.t.now c.all_blanks-k.result c.minus.result c.body-w.result.len c.body-w.result.value c.all_blanks-k.ensures.0 c.if-k-t.false c.minus.ensures c.body-w.ensures c.if-n-lt1.false c.if-a-k.false (search rules)
+returns c = brisk-minus c.args.t.now c.all_blanks-k.result c.minus.result c.body-n.result.len c.body-n.result.value c.all_blanks-k.ensures.0 c.if-k-t.false c.minus.ensures c.body-n.ensures c.if-n-lt1.false c.if-a-k.false (search rules)

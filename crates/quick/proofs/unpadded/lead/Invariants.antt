@@ -1,10 +1,6 @@
 -- `quick::lead` meets its contract. Assumes nothing.
 use Rattle.quick.specs.Brisk.{Leads}
-use Rattle.std.proofs.Common.{◌-◌}
 use Rattle.quick.proofs.unpadded.lead.Given as goal
 
 abbrev pub invariant-loop-i : goal.invariant-loop-i
-invariant-loop-i l = Leads l.u l.i l.v
-
-abbrev pub decreases-loop-i : goal.decreases-loop-i
-decreases-loop-i l = 8 - l.i
+invariant-loop-i l = Leads l.u l.i l.value

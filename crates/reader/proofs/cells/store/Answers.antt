@@ -28,17 +28,17 @@ put_word-requires c = (rw (c.in-Field.is, eq-eqb _ _ c.if-place-eq-LETTERS_PLACE
 pub put_island-requires : goal.put_island-requires
 put_island-requires c = omega (arith, rw c.in-Island.is at c.requires.put_room, rw c.in-Island.is at c.requires.t_le_token_most.1)
 
-pub overflow_mul-np : goal.overflow_mul-np
-overflow_mul-np c = omega (arith, rw c.in-X.is at c.requires.put_room)
+pub overflow_mul-a-in-X : goal.overflow_mul-a-in-X
+overflow_mul-a-in-X c = omega (arith, rw c.in-X.is at c.requires.put_room)
 
 pub put_real-requires : goal.put_real-requires
 put_real-requires c = omega (arith, rw c.in-X.is at c.requires.put_room, c.requires.t_le_token_most.0)
 
-pub overflow_mul-np-in-Y : goal.overflow_mul-np-in-Y
-overflow_mul-np-in-Y c = omega (arith, rw c.in-Y.is at c.requires.put_room)
+pub overflow_mul-a-in-Y : goal.overflow_mul-a-in-Y
+overflow_mul-a-in-Y c = omega (arith, rw c.in-Y.is at c.requires.put_room)
 
-pub overflow_add-np : goal.overflow_add-np
-overflow_add-np c = omega (arith, rw c.in-Y.is at c.requires.put_room)
+pub overflow_add-a-in-Y : goal.overflow_add-a-in-Y
+overflow_add-a-in-Y c = omega (arith, rw c.in-Y.is at c.requires.put_room)
 
 pub put_real-requires-in-Y : goal.put_real-requires-in-Y
 put_real-requires-in-Y c = omega (arith, rw c.in-Y.is at c.requires.put_room, c.requires.t_le_token_most.0)

@@ -6,8 +6,8 @@ use Rattle.reader.specs.Columns.{due_from}
 use Rattle.reader.proofs.Aiming.{Stands}
 use Rattle.reader.proofs.first_pass.judge.Given as goal
 
-abbrev pub invariant-loop-stand : goal.invariant-loop-stand
-invariant-loop-stand l = Stands l.mode l.src (walk_from l.mode l.src l.start) (due_from l.mode l.src l.start) l.d
+abbrev pub invariant-loop-turn : goal.invariant-loop-turn
+invariant-loop-turn l = Stands l.mode l.src (walk_from l.mode l.src l.start) (due_from l.mode l.src l.start) l.d
 
-abbrev pub decreases-loop-stand : goal.decreases-loop-stand
-decreases-loop-stand l = length l.src - l.d.at
+abbrev pub decreases-loop-turn : goal.decreases-loop-turn
+decreases-loop-turn l = length l.src - l.d.at

@@ -1,20 +1,13 @@
 -- `reader::first_at` meets its contract. Assumes nothing.
 use Rattle.reader.proofs.Running.{first-mid, first-end, first-is}
 use native.Mathlib.Omega.{arith}
-use Rattle.quick.proofs.Twelve.{never}
 use Rattle.reader.proofs.first_runs.first_at.Goals as goal
-
-pub returns-then-a-eq0 : goal.returns-then-a-eq0
-returns-then-a-eq0 c = λ h. never h
 
 pub overflow_add-mid : goal.overflow_add-mid
 overflow_add-mid c = omega (arith, first-mid c.args.mode c.args.src.now c.args.at c.real_at-a.result c.real_at-a.result c.real_at-a.ensures c.if-a-eq0.false)
-
-pub returns-then-b-eq0 : goal.returns-then-b-eq0
-returns-then-b-eq0 c = λ h. never h
 
 pub overflow_add-result : goal.overflow_add-result
 overflow_add-result c = omega (arith, first-end c.args.mode c.args.src.now c.args.at c.real_at-a.result c.real_at-b.result c.real_at-a.ensures c.if-a-eq0.false c.real_at-b.ensures c.if-b-eq0.false)
 
 pub returns : goal.returns
-returns c = λ h. first-is c.args.mode c.args.src.now c.args.at c.real_at-a.result c.real_at-b.result c.real_at-a.ensures c.if-a-eq0.false c.real_at-b.ensures c.if-b-eq0.false
+returns c = first-is c.args.mode c.args.src.now c.args.at c.real_at-a.result c.real_at-b.result c.real_at-a.ensures c.if-a-eq0.false c.real_at-b.ensures c.if-b-eq0.false

@@ -15,11 +15,11 @@ past_at-requires c = shut-asks c.args.mode c.args.src.now c.args.d c.args.r c.ar
 pub returns-then-not-is_ending : goal.returns-then-not-is_ending
 returns-then-not-is_ending c = shut-still c.args.mode c.args.src.now c.args.d c.args.r c.args.k c.args.at c.requires _ c.past_at.ensures
 
-pub past_at-requires-then-next-eq0 : goal.past_at-requires-then-next-eq0
-past_at-requires-then-next-eq0 c = shut-asks c.args.mode c.args.src.now c.args.d c.args.r c.args.k c.args.at c.requires
+pub past_at-requires-in_default : goal.past_at-requires-in_default
+past_at-requires-in_default c = shut-asks c.args.mode c.args.src.now c.args.d c.args.r c.args.k c.args.at c.requires
 
-pub returns-then-next-eq0 : goal.returns-then-next-eq0
-returns-then-next-eq0 c = shut-still c.args.mode c.args.src.now c.args.d c.args.r c.args.k c.args.at c.requires _ c.past_at-then-next-eq0.ensures
+pub returns-in_default : goal.returns-in_default
+returns-in_default c = shut-still c.args.mode c.args.src.now c.args.d c.args.r c.args.k c.args.at c.requires _ c.past_at-in_default.ensures
 
 pub overflow_add-k : goal.overflow_add-k
 overflow_add-k c = omega (arith, c.requires.points)
@@ -28,7 +28,7 @@ pub ended_at-requires : goal.ended_at-requires
 ended_at-requires c = ended-asks c.args.mode c.args.src.now c.args.d c.args.r c.args.k c.args.at c.requires
 
 pub returns-then-is_shut : goal.returns-then-is_shut
-returns-then-is_shut c = shut-on c.args.mode c.args.src.now c.args.d c.args.r c.args.k c.args.at c.requires (c.is_ending.ensures (not-false _ (ap not c.if-not-is_ending.false))) c.first_at-f.result.x c.first_at-f.result.y c.first_at-f.result.next c.first_at-f.ensures c.if-next-eq0.false c.is_shut.result c.is_shut.ensures c.if-is_shut.true _ c.ended_at.ensures
+returns-then-is_shut c = shut-on c.args.mode c.args.src.now c.args.d c.args.r c.args.k c.args.at c.requires (c.is_ending.ensures (not-false _ (ap not c.if-not-is_ending.false))) c.in-Some.f.x c.in-Some.f.y c.in-Some.f.next c.in-Some.ensures c.is_shut.result c.is_shut.ensures c.if-is_shut.true _ c.ended_at.ensures
 
 pub past_at-requires-2 : goal.past_at-requires-2
 past_at-requires-2 c = shut-asks c.args.mode c.args.src.now c.args.d c.args.r c.args.k c.args.at c.requires

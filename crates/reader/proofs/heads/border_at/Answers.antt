@@ -4,7 +4,6 @@ use mathlib.Core.Path.{ap}
 use native.Mathlib.Omega.{arith}
 use borrow.Author.Tests.{not-false}
 use Rattle.quick.proofs.Places.{real-inside}
-use Rattle.reader.proofs.HeadWays.{unseen, some_of}
 use Rattle.reader.proofs.HeadTurns.{key-inside}
 use Rattle.reader.proofs.HeadTrust.{border-trust, border-read}
 use Rattle.reader.proofs.heads.border_at.Goals as goal
@@ -12,29 +11,14 @@ use Rattle.reader.proofs.heads.border_at.Goals as goal
 pub overflow_add-word : goal.overflow_add-word
 overflow_add-word c = omega (arith, (key-inside c.requires.key_says.0).1)
 
-pub returns-then-lead-eq0 : goal.returns-then-lead-eq0
-returns-then-lead-eq0 c = λ h. unseen _ _ _ _ _ c.no_head.ensures h
-
-pub angle_at-a-requires : goal.angle_at-a-requires
-angle_at-a-requires c = λ b x. (border-trust c.args.mode c.args.src.now c.args.at c.args.key.width c.args.key.token c.requires.key_says.0 c.args.judged c.requires.vouched.0 b x c.requires.key_says.1 (c.lead_at-lead.ensures (some_of _ c.if-lead-eq0.false))).angle
-
-pub returns-then-a-eq0 : goal.returns-then-a-eq0
-returns-then-a-eq0 c = λ h. unseen _ _ _ _ _ c.no_head-then-a-eq0.ensures h
+pub angle_at-requires : goal.angle_at-requires
+angle_at-requires c = λ b x. (border-trust c.args.mode c.args.src.now c.args.at c.args.key.width c.args.key.token c.requires.key_says.0 c.args.judged c.requires.vouched.0 b x c.requires.key_says.1 c.in_ok-lead.ensures).angle
 
 pub overflow_add-lead : goal.overflow_add-lead
-overflow_add-lead c = omega (arith, (real-inside (c.angle_at-a.ensures (some_of _ c.if-a-eq0.false))).1)
+overflow_add-lead c = omega (arith, (real-inside c.in_ok-a.ensures).1)
 
-pub points_at-p-requires : goal.points_at-p-requires
-points_at-p-requires c = record { at_in_bounds = ((real-inside (c.angle_at-a.ensures (some_of _ c.if-a-eq0.false))).1, c.requires.vouched.1); usual = λ b x. (border-trust c.args.mode c.args.src.now c.args.at c.args.key.width c.args.key.token c.requires.key_says.0 c.args.judged c.requires.vouched.0 b x c.requires.key_says.1 (c.lead_at-lead.ensures (some_of _ c.if-lead-eq0.false))).points (c.angle_at-a.ensures (some_of _ c.if-a-eq0.false)) }
-
-pub returns-then-p-eq0 : goal.returns-then-p-eq0
-returns-then-p-eq0 c = λ h. unseen _ _ _ _ _ c.no_head-then-p-eq0.ensures h
-
-pub returns-then-counts-eq0 : goal.returns-then-counts-eq0
-returns-then-counts-eq0 c = λ h. unseen _ _ _ _ _ c.no_head-then-counts-eq0.ensures h
-
-pub returns-then-not-is_countable : goal.returns-then-not-is_countable
-returns-then-not-is_countable c = λ h. unseen _ _ _ _ _ c.no_head-then-not-is_countable.ensures h
+pub points_at-requires : goal.points_at-requires
+points_at-requires c = record { at_in_bounds = ((real-inside c.in_ok-a.ensures).1, c.requires.vouched.1); usual = λ b x. (border-trust c.args.mode c.args.src.now c.args.at c.args.key.width c.args.key.token c.requires.key_says.0 c.args.judged c.requires.vouched.0 b x c.requires.key_says.1 c.in_ok-lead.ensures).points c.in_ok-a.ensures }
 
 pub returns : goal.returns
-returns c = λ h. border-read c.args.mode c.args.src.now c.args.at c.args.key.width c.args.key.token c.requires.key_says.0 c.args.judged c.requires.key_says.1 (c.lead_at-lead.ensures (some_of _ c.if-lead-eq0.false)) (c.angle_at-a.ensures (some_of _ c.if-a-eq0.false)) (c.points_at-p.ensures (some_of _ c.if-p-eq0.false)) (c.counts_at-counts.ensures (some_of _ c.if-counts-eq0.false)) (c.is_countable.ensures (not-false _ (ap not c.if-not-is_countable.false)))
+returns c = border-read c.args.mode c.args.src.now c.args.at c.args.key.width c.args.key.token c.requires.key_says.0 c.args.judged c.requires.key_says.1 c.in_ok-lead.ensures c.in_ok-a.ensures c.in_ok-p.ensures c.in_ok-counts.ensures (c.is_countable.ensures (not-false _ (ap not c.if-not-is_countable.false)))

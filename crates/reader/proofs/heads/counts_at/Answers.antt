@@ -1,20 +1,13 @@
 -- `reader::counts_at` meets its contract. Assumes nothing.
 use native.Mathlib.Omega.{arith}
-use Rattle.quick.proofs.Twelve.{never}
 use Rattle.reader.proofs.HeadWays.{counts-mid, counts_end, counts-is}
 use Rattle.reader.proofs.heads.counts_at.Goals as goal
 
-pub returns-then-a-eq0 : goal.returns-then-a-eq0
-returns-then-a-eq0 c = λ h. never h
-
 pub overflow_add-mid : goal.overflow_add-mid
-overflow_add-mid c = omega (arith, counts-mid c.args.mode c.args.src.now c.args.at c.integer_said-a.result c.integer_said-a.result c.if-a-eq0.false c.integer_said-a.ensures)
-
-pub returns-then-b-eq0 : goal.returns-then-b-eq0
-returns-then-b-eq0 c = λ h. never h
+overflow_add-mid c = omega (arith, counts-mid c.args.mode c.args.src.now c.args.at c.in_ok-a.a c.in_ok-a.a c.in_ok-a.ensures)
 
 pub overflow_add-result : goal.overflow_add-result
-overflow_add-result c = omega (arith, counts_end c.args.mode c.args.src.now c.args.at c.integer_said-a.result c.integer_said-b.result c.if-a-eq0.false c.integer_said-a.ensures c.integer_said-b.ensures c.if-b-eq0.false)
+overflow_add-result c = omega (arith, counts_end c.args.mode c.args.src.now c.args.at c.in_ok-a.a c.in_ok-b.b c.in_ok-a.ensures c.in_ok-b.ensures)
 
 pub returns : goal.returns
-returns c = λ h. counts-is c.args.mode c.args.src.now c.args.at c.integer_said-a.result c.integer_said-b.result c.if-a-eq0.false c.integer_said-a.ensures c.integer_said-b.ensures c.if-b-eq0.false
+returns c = counts-is c.args.mode c.args.src.now c.args.at c.in_ok-a.a c.in_ok-b.b c.in_ok-a.ensures c.in_ok-b.ensures

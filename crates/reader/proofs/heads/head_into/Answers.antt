@@ -2,7 +2,6 @@
 use Rattle.reader.proofs.RowLoops.{stored-head}
 use Rattle.reader.proofs.heads.head_into.Goals as goal
 
--- src/heads.rt:671:1
 pub returns : goal.returns
 returns c =
     let stored = stored-head c.args.h c.args.src.now _ c.args.a.letters _ _ _ _ c.args.letters.now _ c.put_row.ensures c.numbers_into.ensures c.put_letters.ensures

@@ -3,21 +3,11 @@ use mathlib.Core.Bool.{not}
 use mathlib.Core.Path.{ap}
 use native.Mathlib.Omega.{arith}
 use borrow.Author.Tests.{not-false}
-use Rattle.reader.proofs.HeadWays.{unseen-head, some_of}
 use Rattle.reader.proofs.HeadTurns.{key-inside, path-head}
 use Rattle.reader.proofs.heads.path_at.Goals as goal
 
 pub overflow_add-code : goal.overflow_add-code
 overflow_add-code c = omega (arith, (key-inside c.requires.0).1)
 
-pub returns-then-counts-eq0 : goal.returns-then-counts-eq0
-returns-then-counts-eq0 c = λ h. unseen-head _ _ _ _ c.no_head.ensures h
-
-pub returns-then-not-is_taken : goal.returns-then-not-is_taken
-returns-then-not-is_taken c = λ h. unseen-head _ _ _ _ c.no_head-then-not-is_taken.ensures h
-
-pub returns-then-not-is_countable : goal.returns-then-not-is_countable
-returns-then-not-is_countable c = λ h. unseen-head _ _ _ _ c.no_head-then-not-is_countable.ensures h
-
 pub returns : goal.returns
-returns c = λ h. path-head c.args.mode c.args.src.now c.args.at c.args.key.width c.args.key.token c.requires.0 _ _ _ c.requires.1 (c.counts_at-counts.ensures (some_of _ c.if-counts-eq0.false)) (c.is_taken.ensures (not-false _ (ap not c.if-not-is_taken.false))) (c.is_countable.ensures (not-false _ (ap not c.if-not-is_countable.false)))
+returns c = path-head c.args.mode c.args.src.now c.args.at c.args.key.width c.args.key.token c.requires.0 _ _ _ c.requires.1 c.in_ok-counts.ensures (c.is_taken.ensures (not-false _ (ap not c.if-not-is_taken.false))) (c.is_countable.ensures (not-false _ (ap not c.if-not-is_countable.false)))

@@ -1,11 +1,6 @@
 -- `reader::slow_integer` meets its contract. Assumes nothing.
-use Rattle.quick.proofs.Twelve.{never}
-use Rattle.reader.proofs.HeadWays.{integer-slow}
-use borrow.Author.Rules.{rules}
+use Rattle.reader.proofs.HeadWays.{integer-slow, some_of}
 use Rattle.reader.proofs.heads.slow_integer.Goals as goal
 
-pub returns-then-at-src : goal.returns-then-at-src
-returns-then-at-src c = λ h. never h
-
 pub returns : goal.returns
-returns c = λ h. search (integer-slow, rules)
+returns c = integer-slow c.args.mode c.args.src.now c.args.at _ c.size_of-n.ensures (some_of _ c.if-width-eq0.false)

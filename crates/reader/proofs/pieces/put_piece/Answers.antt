@@ -3,22 +3,17 @@ use Rattle.reader.specs.Store.{no-turn}
 use Rattle.reader.proofs.Rows.{enters-puts, stores-puts}
 use Rattle.reader.proofs.pieces.put_piece.Goals as goal
 
--- src/pieces.rt:84:1
 pub returns-in-Due : goal.returns-in-Due
 returns-in-Due c = c.put_heads.ensures _
 
--- src/pieces.rt:84:1
 pub returns-in-Field : goal.returns-in-Field
 returns-in-Field c = enters-puts _ _ _ c.fields_into.ensures
 
--- src/pieces.rt:84:1
 pub returns-in-Island : goal.returns-in-Island
 returns-in-Island c = c.islands_into.ensures.puts _ _ _
 
--- src/pieces.rt:84:1
 pub returns-in-X : goal.returns-in-X
 returns-in-X c = stores-puts _ _ _ c.put_ring.ensures
 
--- src/pieces.rt:84:1
 pub returns-in-Y : goal.returns-in-Y
 returns-in-Y c = no-turn

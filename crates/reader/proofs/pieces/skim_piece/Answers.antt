@@ -2,6 +2,5 @@
 use Rattle.reader.specs.Turn.{still}
 use Rattle.reader.proofs.pieces.skim_piece.Goals as goal
 
--- src/pieces.rt:33:1
 pub returns-in-Y : goal.returns-in-Y
 returns-in-Y c = still

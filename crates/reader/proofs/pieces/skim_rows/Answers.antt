@@ -2,22 +2,17 @@
 use Rattle.reader.proofs.Rows.{skimmed-start, skimmed-on, skimmed-less}
 use Rattle.reader.proofs.pieces.skim_rows.Goals as goal
 
--- src/pieces.rt:61:5
 pub loop-mode-init : goal.loop-mode-init
 loop-mode-init c = skimmed-start _ _ _ c.requires
 
--- src/pieces.rt:63:13
 pub skim_piece-e-requires : goal.skim_piece-e-requires
 skim_piece-e-requires c = c.loop-mode.invariant.within
 
--- src/pieces.rt:65:13
 pub returns-then-e-at : goal.returns-then-e-at
 returns-then-e-at c = (skimmed-on c.loop-mode.invariant _ c.skim_piece-e.ensures).turns
 
--- src/pieces.rt:61:5
 pub loop-mode-smaller : goal.loop-mode-smaller
 loop-mode-smaller c = skimmed-less c.loop-mode.invariant _ c.skim_piece-e.ensures c.if-e-at.false
 
--- src/pieces.rt:61:5
 pub loop-mode-preserved : goal.loop-mode-preserved
 loop-mode-preserved c = skimmed-on c.loop-mode.invariant _ c.skim_piece-e.ensures

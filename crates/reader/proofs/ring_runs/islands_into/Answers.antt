@@ -1,4 +1,6 @@
 -- `reader::islands_into` meets its contract. Assumes nothing.
+use Rattle.std.specs.Prelude.{Ok}
+use mathlib.Core.Path.{ap, ◌∙◌}
 use Rattle.reader.proofs.RingLaws.{counting-start, counting-few, counting-is, counting-at, count-inside, counting-on}
 use native.Mathlib.Omega.{arith}
 use Rattle.reader.proofs.ring_runs.islands_into.Goals as goal
@@ -61,4 +63,4 @@ pub loop-st-smaller : goal.loop-st-smaller
 loop-st-smaller c = omega (arith, count-inside c.args.mode c.args.src.now c.args.d c.requires c.args.islands.now c.loop-st.st c.loop-st.here c.loop-st.k c.loop-st.islands c.loop-st.invariant c.size_at-size.result c.size_at-size.ensures c.if-width-eq0.false)
 
 pub loop-st-preserved : goal.loop-st-preserved
-loop-st-preserved c = counting-on c.args.mode c.args.src.now c.args.d c.requires c.args.islands.now c.loop-st.st c.loop-st.here c.loop-st.k c.loop-st.islands c.loop-st.invariant c.size_at-size.result c.size_at-size.ensures c.if-width-eq0.false _ _ _ c.in-Island.is c.step_at.result c.step_at.ensures _ c.in-Go.is _ c.put_island.ensures
+loop-st-preserved c = counting-on c.args.mode c.args.src.now c.args.d c.requires c.args.islands.now c.loop-st.st c.loop-st.here c.loop-st.k c.loop-st.islands c.loop-st.invariant c.size_at-size.result c.size_at-size.ensures c.if-width-eq0.false _ _ _ c.in-Island.is c.step_at.result c.step_at.ensures _ (c.in-Ok-Some.is ∙ ap Ok c.in-Ok-Some.field-0-is) _ c.put_island.ensures

@@ -1,4 +1,6 @@
 -- `reader::islands_skim` meets its contract. Assumes nothing.
+use Rattle.std.specs.Prelude.{Ok}
+use mathlib.Core.Path.{ap, ◌∙◌}
 use Rattle.reader.proofs.RingLaws.{counted_start, counted-few, counted_is, counted-at, said_in, counted-on}
 use native.Mathlib.Omega.{arith}
 use Rattle.reader.proofs.ring_runs.islands_skim.Goals as goal
@@ -37,4 +39,4 @@ pub loop-st-smaller : goal.loop-st-smaller
 loop-st-smaller c = omega (arith, said_in c.args.mode c.args.src.now c.args.d c.requires c.loop-st.st c.loop-st.here c.loop-st.k c.loop-st.invariant c.size_at-size.result c.size_at-size.ensures c.if-width-eq0.false)
 
 pub loop-st-preserved : goal.loop-st-preserved
-loop-st-preserved c = counted-on c.args.mode c.args.src.now c.args.d c.requires c.loop-st.st c.loop-st.here c.loop-st.k c.loop-st.invariant c.size_at-size.result c.size_at-size.ensures c.if-width-eq0.false _ _ _ c.in-Island.is c.step_at.result c.step_at.ensures _ c.in-Go.is
+loop-st-preserved c = counted-on c.args.mode c.args.src.now c.args.d c.requires c.loop-st.st c.loop-st.here c.loop-st.k c.loop-st.invariant c.size_at-size.result c.size_at-size.ensures c.if-width-eq0.false _ _ _ c.in-Island.is c.step_at.result c.step_at.ensures _ (c.in-Ok-Some.is ∙ ap Ok c.in-Ok-Some.field-0-is)

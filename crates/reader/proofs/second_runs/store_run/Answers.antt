@@ -4,7 +4,7 @@ use Rattle.reader.proofs.Running.{stored-x, stored-y, stored_on, stored-length}
 use native.Mathlib.Omega.{arith}
 use Prim.Native.Nat.{◌+◌, ◌*◌}
 use lib.ListN.{length, length-set}
-use mathlib.Core.Path.{ap}
+use mathlib.Core.Path.{◌≡◌, ap}
 use Rattle.token.specs.Lex.{unlift}
 use Rattle.reader.proofs.second_runs.store_run.Goals as goal
 
@@ -44,9 +44,6 @@ put_real-requires-in-loop-k c = (omega (arith, stored-length c.loop-k.invariant.
 pub overflow_add-here : goal.overflow_add-here
 overflow_add-here c = omega (arith, stored-y c.args.mode c.args.src.now c.args.at c.args.from c.args.points.now c.loop-k.points c.loop-k.k c.loop-k.here c.real_at-x.result c.real_at-y.result c.loop-k.invariant.1 c.real_at-x.ensures c.if-x-eq0.false c.real_at-y.ensures c.if-y-eq0.false)
 
-pub loop-k-smaller : goal.loop-k-smaller
-loop-k-smaller c = omega (arith, c.room_at-room.ensures.0, c.loop-k-test.true)
-
 pub loop-k-preserved : goal.loop-k-preserved
 loop-k-preserved c = (omega (arith, c.room_at-room.ensures.0, c.loop-k-test.true), stored_on c.args.mode c.args.src.now c.args.at c.args.from c.args.points.now c.loop-k.points c.loop-k.k c.loop-k.here c.real_at-x.result c.real_at-y.result c.loop-k.invariant.1 c.real_at-x.ensures c.if-x-eq0.false c.real_at-y.ensures c.if-y-eq0.false _ _ c.put_real.ensures c.put_real-in-loop-k.ensures)
 
@@ -54,4 +51,6 @@ pub shape_of-points : goal.shape_of-points
 shape_of-points c = stored-length c.loop-k.invariant.1
 
 pub returns : goal.returns
-returns c = c.loop-k.invariant
+returns c =
+    let z : c.loop-k.k ≡ c.room_at-room.result = omega (arith, c.loop-k-test.false) in
+    rw (← z) c.loop-k.invariant

@@ -6,8 +6,8 @@ use Rattle.reader.specs.Turn.{stand_of}
 use Rattle.reader.proofs.Rows.{Skimmed}
 use Rattle.reader.proofs.whole_rows.skim_heads.Given as goal
 
-abbrev pub invariant-loop-mode : goal.invariant-loop-mode
-invariant-loop-mode l = Skimmed l.mode l.src (stand_of Due l.initial.at l.initial.nth l.initial.ring l.initial.needs) (stand_of Due l.at l.nth l.ring l.needs)
+abbrev pub invariant-loop-h : goal.invariant-loop-h
+invariant-loop-h l = Skimmed l.mode l.src (stand_of Due l.initial.at l.initial.nth l.initial.ring l.initial.needs) (stand_of Due l.at l.nth l.ring l.needs)
 
-abbrev pub decreases-loop-mode : goal.decreases-loop-mode
-decreases-loop-mode l = length l.src - l.at
+abbrev pub decreases-loop-h : goal.decreases-loop-h
+decreases-loop-h l = length l.src - l.at

@@ -1,28 +1,13 @@
--- `are_digits` tries every byte at its place. Invariant: those before `i` passed. Assumes nothing.
-use borrow.Author.Rules.{rules}
-use Rattle.laws.proofs.ListLaws.{places}
+-- `are_digits` meets its contract: every byte is tested. Assumes nothing.
+use Rattle.std.proofs.Common.{rules, ◌∙◌}
+use Rattle.std.proofs.lemmas.Iterator.{YieldsList-from_slice}
+use Rattle.std.proofs.lemmas.Iterator.Search.{all_from_yields_List}
+use borrow.Author.Tests.{tests}
+use Rattle.number.specs.Number.{digit}
+use Rattle.sup.proofs.DateWays.{digits-listed}
 use Rattle.sup.proofs.dating.are_digits.Goals as goal
 
-pub loop-i-init : goal.loop-i-init
-loop-i-init c = search (places, rules)
-
-pub bounds-s-i : goal.bounds-s-i
-bounds-s-i c = search (places, rules)
-
-pub is_date_byte-requires : goal.is_date_byte-requires
-is_date_byte-requires c = search (places, rules)
-
-pub returns-then-not-is_date_byte : goal.returns-then-not-is_date_byte
-returns-then-not-is_date_byte c = search (places, rules)
-
-pub overflow_add-i : goal.overflow_add-i
-overflow_add-i c = search (places, rules)
-
-pub loop-i-smaller : goal.loop-i-smaller
-loop-i-smaller c = search (places, rules)
-
-pub loop-i-preserved : goal.loop-i-preserved
-loop-i-preserved c = search (places, rules)
-
 pub returns : goal.returns
-returns c = search (places, rules)
+returns c =
+    all_from_yields_List digit _ _ _ c.all.ensures.ran (YieldsList-from_slice c.args.s.now cc) (λ x b q k. search (rules, tests))
+    ∙ digits-listed 0 c.args.s.now

@@ -1,12 +1,9 @@
 -- `put_lines` meets its contract. Invariant: what is left of the lines is to come. Assumes nothing.
-use Prim.Native.Nat.{◌*◌, ◌-◌, ◌≤◌}
-use lib.ListN.{length, drop}
+use Prim.Native.Nat.{◌*◌}
+use lib.ListN.{drop}
 use Rattle.writer.proofs.Putting.{Putting}
 use Rattle.sup.specs.Printing.{named_text}
 use Rattle.sup.proofs.printing.put_lines.Given as goal
 
 abbrev pub invariant-loop-i : goal.invariant-loop-i
-invariant-loop-i l = (l.i ≤ length l.figures) × Putting l.initial.out l.at (named_text l.names l.figures) l.out l.next (named_text (drop (11 * l.i) l.names) (drop l.i l.figures))
-
-abbrev pub decreases-loop-i : goal.decreases-loop-i
-decreases-loop-i l = length l.figures - l.i
+invariant-loop-i l = Putting l.initial.out l.at (named_text l.names l.figures) l.out l.next (named_text (drop (11 * l.i) l.names) (drop l.i l.figures))

@@ -2,20 +2,14 @@
 use mathlib.Core.Bool.{not}
 use mathlib.Core.Path.{ap}
 use native.Mathlib.Omega.{arith}
-use Rattle.made.specs.Made.{tables_of}
+use Rattle.made.specs.Made.{tables}
 use Rattle.row.specs.Walk.{first_stand}
 use Rattle.order.proofs.TurnLaws.{turning-more}
 use Rattle.supcheck.proofs.WalkingWays.{counting-start, counting-end, counting-small, counting-stop, counting-on, counting-next}
 use Rattle.supcheck.proofs.walking.right_listed.Goals as goal
 
-pub guide-requires : goal.guide-requires
-guide-requires c = tt
-
-pub guided_window-w-requires : goal.guided_window-w-requires
-guided_window-w-requires c = tt
-
 pub loop-j-init : goal.loop-j-init
-loop-j-init c = counting-start c.args.header c.args.count (tables_of c.args.rows.now c.args.letters.now c.args.islands.now c.args.points.now) c.args.s.now (record { rows = omega arith; letters = omega arith; islands = omega arith; points = omega arith }) c.requires c.guided_window-w.result c.guided_window-w.ensures
+loop-j-init c = counting-start c.args.sheet.now.header c.args.sheet.now.count (tables c.args.sheet.now.lent) c.args.s.now c.sized.ensures.small c.requires c.guided_window-w.result c.guided_window-w.ensures
 
 pub offset_bounds-w-j : goal.offset_bounds-w-j
 offset_bounds-w-j c = omega (arith, c.loop-j.invariant.turns.inside)
@@ -24,31 +18,19 @@ pub bounds-w-j : goal.bounds-w-j
 bounds-w-j c = omega (arith, c.loop-j.invariant.turns.inside)
 
 pub overflow_add-i : goal.overflow_add-i
-overflow_add-i c = omega (arith, counting-small c.loop-j.invariant c.loop-j-test.true)
-
-pub line_from-requires : goal.line_from-requires
-line_from-requires c = tt
-
-pub is_right_border-requires : goal.is_right_border-requires
-is_right_border-requires c = tt
+overflow_add-i c = omega (arith, counting-small c.loop-j.invariant c.loop-j-test.true, c.sized.ensures.few)
 
 pub returns-then-not-is_right_border : goal.returns-then-not-is_right_border
 returns-then-not-is_right_border c = counting-stop c.loop-j.invariant c.loop-j-test.true first_stand _ c.line_from.ensures _ c.is_right_border.ensures (ap not c.if-not-is_right_border.true)
 
 pub overflow_add-i-in-loop-j : goal.overflow_add-i-in-loop-j
-overflow_add-i-in-loop-j c = omega (arith, counting-small c.loop-j.invariant c.loop-j-test.true)
+overflow_add-i-in-loop-j c = omega (arith, counting-small c.loop-j.invariant c.loop-j-test.true, c.sized.ensures.few)
 
 pub overflow_add-j : goal.overflow_add-j
 overflow_add-j c = omega (arith, c.loop-j.invariant.turns.inside)
 
 pub overflow_add-i-then-j-eq-WIDTH : goal.overflow_add-i-then-j-eq-WIDTH
-overflow_add-i-then-j-eq-WIDTH c = omega (arith, counting-small c.loop-j.invariant c.loop-j-test.true)
-
-pub guide-requires-then-j-eq-WIDTH : goal.guide-requires-then-j-eq-WIDTH
-guide-requires-then-j-eq-WIDTH c = tt
-
-pub guided_window-w-requires-then-j-eq-WIDTH : goal.guided_window-w-requires-then-j-eq-WIDTH
-guided_window-w-requires-then-j-eq-WIDTH c = tt
+overflow_add-i-then-j-eq-WIDTH c = omega (arith, counting-small c.loop-j.invariant c.loop-j-test.true, c.sized.ensures.few)
 
 pub loop-j-smaller-then-j-eq-WIDTH : goal.loop-j-smaller-then-j-eq-WIDTH
 loop-j-smaller-then-j-eq-WIDTH c = let h = turning-more c.loop-j.invariant.turns c.loop-j-test.true in omega arith

@@ -1,32 +1,20 @@
--- `value_of` reads the digits of a field. Invariant: `n` is what the first `i` bytes make, and the rest goes on from it. Assumes nothing.
+-- `value_of` reads the digits of a field. Invariant: `n` is what the first bytes make, and the rest goes on from it. Assumes nothing.
+use mathlib.Core.Path.{◌∙◌}
 use native.Mathlib.Omega.{arith}
-use borrow.Author.Rules.{rules}
-use Rattle.supline.proofs.ReadingWays.{valued-plus, valued-on, valued-end, reading-ways}
+use Rattle.supline.proofs.ReadingWays.{valued-start, valued-times, valued-plus, valued-on, valued-end}
 use Rattle.supline.proofs.reading.value_of.Goals as goal
 
-pub loop-i-init : goal.loop-i-init
-loop-i-init c = search (reading-ways, rules)
+pub loop-b-init : goal.loop-b-init
+loop-b-init c = valued-start _
 
 pub overflow_mul-n : goal.overflow_mul-n
-overflow_mul-n c = search (reading-ways, rules)
-
-pub bounds-s-i : goal.bounds-s-i
-bounds-s-i c = search (reading-ways, rules)
-
-pub digit_of-requires : goal.digit_of-requires
-digit_of-requires c = search (reading-ways, rules)
+overflow_mul-n c = record { fits = valued-times c.loop-b.invariant c.requires }
 
 pub overflow_add-n : goal.overflow_add-n
-overflow_add-n c = record { fits = valued-plus c.loop-i.invariant c.requires c.loop-i-test.true _ c.digit_of.ensures (omega (arith, c.shared_slice_known-in-loop-i-1.given c.loop-i.i)) }
+overflow_add-n c = record { fits = valued-plus c.loop-b.invariant c.requires c.loop-b-test.true _ (c.from.ensures ∙ c.saturating_sub.ensures) (omega (arith, c.type_inv.s c.loop-b.b-index)) }
 
-pub overflow_add-i : goal.overflow_add-i
-overflow_add-i c = search (reading-ways, rules)
-
-pub loop-i-smaller : goal.loop-i-smaller
-loop-i-smaller c = search (reading-ways, rules)
-
-pub loop-i-preserved : goal.loop-i-preserved
-loop-i-preserved c = valued-on c.loop-i.invariant c.requires c.loop-i-test.true _ c.digit_of.ensures (omega (arith, c.shared_slice_known-in-loop-i-1.given c.loop-i.i))
+pub loop-b-preserved : goal.loop-b-preserved
+loop-b-preserved c = valued-on c.loop-b.invariant c.requires c.loop-b-test.true _ (c.from.ensures ∙ c.saturating_sub.ensures) (omega (arith, c.type_inv.s c.loop-b.b-index))
 
 pub returns : goal.returns
-returns c = valued-end c.loop-i.invariant c.requires c.loop-i-test.false
+returns c = valued-end c.loop-b.invariant c.requires c.loop-b-test.false

@@ -4,8 +4,8 @@ use Rattle.laws.proofs.Bits.{back}
 use Rattle.told.proofs.ToldWays.{class-most}
 use Rattle.told.proofs.question.border_laid.Goals as goal
 
-pub overflow_add-place : goal.overflow_add-place
-overflow_add-place c = let h = class-most c.args.b.class c.index_of-place.ensures in search rules
+pub overflow_add-result : goal.overflow_add-result
+overflow_add-result c = let h = class-most c.args.b.class c.index_of.ensures in search rules
 
 pub returns : goal.returns
 returns c =
