@@ -193,14 +193,14 @@ typedef struct {
    mode, and so takes the printed layout alone: CXF_EXACT. A sheet that goes out is read so; cxf_write then gives its very bytes again.
    The room of a table is rows_len / 15 rows, letters_len letters, islands_len counts, points_len / 2 points. CXF_ROWS_MOST and
    the three beside it are enough for any file. To learn what a file needs, ask with four lengths of 0: the answer is 14 and the
-   needs (0 where the sheet has no rows). Past the used part no table is altered. Stack: 2,328 bytes. */
+   needs (0 where the sheet has no rows). Past the used part no table is altered. Stack: 2,220 bytes. */
 cxf_reading cxf_read_default(const uint8_t *src, size_t src_len,
                              int64_t *rows, size_t rows_len, uint8_t *letters, size_t letters_len,
                              uint16_t *islands, size_t islands_len, int64_t *points, size_t points_len);
 
 /* The same in a mode that is named. Name CXF_LOOSE for work on what comes in, where every sheet is to be taken that can be understood, and
    never for a sheet that goes out. CXF_FORMER is for a file of the first year that is to be converted (see above): a file without notes
-   has the same number, record and offset with it as with CXF_LOOSE. Stack: 2,344 bytes. */
+   has the same number, record and offset with it as with CXF_LOOSE. Stack: 2,220 bytes. */
 cxf_reading cxf_read(const uint8_t *src, size_t src_len, uint64_t mode,
                      int64_t *rows, size_t rows_len, uint8_t *letters, size_t letters_len,
                      uint16_t *islands, size_t islands_len, int64_t *points, size_t points_len);
@@ -373,7 +373,7 @@ typedef struct {
    each. Listed are the parcels, or the borders of class CXF_OTHER of a QUADRO D'UNIONE, by the bytes of their codes, equal codes by
    rising area. The date is eight digits: year, month, day. Refused are, in this order: the header (6), the rows (15), the tally
    (17, 18), the date (21), the first row with a listed code that is too long (22), a TOTALE beyond the tally's limit (18, with no
-   row), the first figure that is too wide (23), the room (14). Past the text out is not altered. Stack: 26,568 bytes;
+   row), the first figure that is too wide (23), the room (14). Past the text out is not altered. Stack: 26,400 bytes;
    where a figure is too wide it was not measured. */
 cxf_sup cxf_sup_write(CXF_SHEET, const uint8_t *date, size_t date_len, uint8_t *out, size_t out_len);
 
@@ -385,7 +385,7 @@ typedef struct {
 /* Whether a SUP file, whoever rounded its figures, is right for a sheet: lines, names, counts and order as cxf_sup_write has them, any date that
    it takes, each area within 1 square metre of the exact one for each border that it counts (each island for SVIL-ALL), and SBILANCIO just the
    difference of the file's TOTALE and CONFINE. Refused are the header (6), the rows (15), the tally (17, 18), a TOTALE beyond the tally's limit
-   (18, with no row), then the file (25). What cxf_sup_write writes for the sheet is right. Stack: 38,280 bytes. */
+   (18, with no row), then the file (25). What cxf_sup_write writes for the sheet is right. Stack: 38,160 bytes. */
 cxf_sup_checked cxf_sup_check(CXF_SHEET, const uint8_t *sup, size_t sup_len);
 
 /* ---- ring check ------------------------------------------------------------------------------------------------------ */
@@ -423,7 +423,7 @@ typedef struct {
    where an odd number of edges have one end north of it and the other not, and cross its height strictly east of it. Refused are,
    in this order: the header (6), the rows (15), a row that is no border (19), the side (26), a ring that is too wide (17), and then,
    with 20, a grid whose corners are not all within the real range, or a vertex of the border more than CXF_MASK_REACH from the
-   corner. Refused, all rows and covered are 0. Stack: 4,616 bytes. */
+   corner. Refused, all rows and covered are 0. Stack: 5,688 bytes. */
 cxf_mask cxf_mask_of(CXF_SHEET, uint64_t row, int64_t corner_x, int64_t corner_y, int64_t cell);
 
 /* ---- altering a sheet ------------------------------------------------------------------------------------------------ */
