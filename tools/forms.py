@@ -18,6 +18,20 @@ ENUM = re.compile(r"^(?:pub(?:\(crate\))? )?enum (\w+)[^{]*\{\n(.*?)^\}", re.M |
 TOKEN = re.compile(r"b?'(?:\\.|[^'\\])'|b?\"(?:\\.|[^\"\\])*\"|\w+|[^\w\s]")
 KEYWORDS = set("fn let mut if else while loop match return for in true false as pub struct enum impl self break continue u8 u16 u32 u64 usize i64 bool f32".split())
 
+# What a line, or a function's parameters and result, have where an older form stands; the last says whether C's side counts too.
+LINES = [
+    ("1 refusals as numbers, C's structs apart", re.compile(r"\bnumber: usize"), False),
+    ("3 loops that count by hand", re.compile(r"^\s*(?:while |loop \{|'\w+: (?:while|loop))"), True),
+    ("4 a test turned into true and false", re.compile(r"\{ (?:true|false) \} else \{ (?:true|false) \}"), True),
+    ("4 a field copied out to be used", re.compile(r"^\s*let (\w+) = \w+\.\1;"), True),
+]
+HEADS = [
+    ("5 the four tables side by side", re.compile(r"(?s)rows: &\[i64\].*points: &\[i64\]"), False),
+    ("5 a ring as a table, a vertex and a count", re.compile(r"points: &\[i64\][^)]*from: usize,\s*count: usize"), True),
+    ("6 a buffer and the place in it", re.compile(r"out: &mut \[u8\],\s*at: usize"), True),
+    ("7 functions as values", re.compile(r"\b(?:dyn|impl Fn|fn\()"), True),
+]
+
 
 def bare(text):
     return re.sub(r"//[^\n]*", "", text)
@@ -83,16 +97,11 @@ def main():
                 place("1 enums with a value in a case", "%s %s" % (path, m[1]))
         for n, line in enumerate(text.split("\n"), 1):
             here = "%s:%d" % (path, n)
-            if inner and re.search(r"\bnumber: usize", line):
-                place("1 refusals as numbers, C's structs apart", here)
+            for point, form, everywhere in LINES:
+                if (inner or everywhere) and form.search(line):
+                    place(point, here)
             if path.name == "refusal.rt" and re.match(r"pub const [A-Z_]+: usize", line):
                 place("1 refusals as numbers, C's structs apart", here)
-            if re.match(r"\s*(?:while |loop \{|'\w+: (?:while|loop))", line):
-                place("3 loops that count by hand", here)
-            if re.search(r"\{ (?:true|false) \} else \{ (?:true|false) \}", line):
-                place("4 a test turned into true and false", here)
-            if re.match(r"\s*let (\w+) = \w+\.\1;", line):
-                place("4 a field copied out to be used", here)
         for name, head, body, n in functions(text):
             here = "%s:%d %s" % (path, n, name)
             tokens = TOKEN.findall(body)
@@ -100,16 +109,11 @@ def main():
                 shapes[shape(tokens)].append(here)
             if re.search(r"-> bool\b", head) and "&mut [" in head and inner:
                 place("1 true or false beside a table that is lent", here)
-            if re.search(r"points: &\[i64\]", head) and re.search(r"rows: &\[i64\]", head) and inner:
-                place("5 the four tables side by side", here)
-            if re.search(r"points: &\[i64\][^)]*from: usize,\s*count: usize", head):
-                place("5 a ring as a table, a vertex and a count", here)
-            if re.search(r"out: &mut \[u8\],\s*at: usize", head):
-                place("6 a buffer and the place in it", here)
+            for point, form, everywhere in HEADS:
+                if (inner or everywhere) and form.search(head):
+                    place(point, here)
             if re.match(r"\{\s*\w+ as \w+\s*\}$", body):
                 place("2 the same conversion again", here)
-            if re.search(r"\b(?:dyn|impl Fn|fn\()", head):
-                place("7 functions as values", here)
         for m in re.finditer(r"^(?:pub )?const (\w+)_STARTS: ", text, re.M):
             place("6 a list and where each part of it begins", "%s %s_STARTS" % (path, m[1]))
     for alike in shapes.values():

@@ -19,8 +19,14 @@ fn print_listing(rt: &HostRuntime, src: &[u8]) -> io::Result<()> {
     }
 }
 
+// A byte 0 at the end ends the last input; where there is nothing there is no input.
 fn print_listings(rt: &HostRuntime, src: &[u8]) -> io::Result<()> {
-    for input in src.split(|&b| b == 0) {
+    let inputs = match src {
+        [] => return Ok(()),
+        [front @ .., 0] => front,
+        _ => src,
+    };
+    for input in inputs.split(|&b| b == 0) {
         print_listing(rt, input)?;
     }
     Ok(())
