@@ -193,14 +193,14 @@ typedef struct {
    mode, and so takes the printed layout alone: CXF_EXACT. A sheet that goes out is read so; cxf_write then gives its very bytes again.
    The room of a table is rows_len / 15 rows, letters_len letters, islands_len counts, points_len / 2 points. CXF_ROWS_MOST and
    the three beside it are enough for any file. To learn what a file needs, ask with four lengths of 0: the answer is 14 and the
-   needs (0 where the sheet has no rows). Past the used part no table is altered. Stack: 2,220 bytes. */
+   needs (0 where the sheet has no rows). Past the used part no table is altered. Stack: 2,204 bytes. */
 cxf_reading cxf_read_default(const uint8_t *src, size_t src_len,
                              int64_t *rows, size_t rows_len, uint8_t *letters, size_t letters_len,
                              uint16_t *islands, size_t islands_len, int64_t *points, size_t points_len);
 
 /* The same in a mode that is named. Name CXF_LOOSE for work on what comes in, where every sheet is to be taken that can be understood, and
    never for a sheet that goes out. CXF_FORMER is for a file of the first year that is to be converted (see above): a file without notes
-   has the same number, record and offset with it as with CXF_LOOSE. Stack: 2,220 bytes. */
+   has the same number, record and offset with it as with CXF_LOOSE. Stack: 2,204 bytes. */
 cxf_reading cxf_read(const uint8_t *src, size_t src_len, uint64_t mode,
                      int64_t *rows, size_t rows_len, uint8_t *letters, size_t letters_len,
                      uint16_t *islands, size_t islands_len, int64_t *points, size_t points_len);
@@ -297,12 +297,12 @@ typedef struct {
    CXF_EXACT accepts; two files come out as equal bytes exactly when they are the same sheet, header values and elements
    (examples/repeats.c). After the header (6) the rows are judged in order, each for
    15 and then for its code (10), so a 10 in row 0 comes before a 15 in row 1; then whether the file would be too long (1), then
-   the room (14). Past the text out is not altered. Stack: 784 bytes. */
+   the room (14). Past the text out is not altered. Stack: 760 bytes. */
 cxf_written cxf_write(CXF_SHEET, uint8_t *out, size_t out_len);
 
 /* Writes the LINEA rows of a sheet as elements of CML, one a line ending in LF, with no outer document: valenza CONSOLID, esterconf SI where
    the row is outside, else NO, cod, n.vert; then COORD of at most 1000 vertices each. A sheet without lines gives no bytes. 6, 15, 1, then
-   14; a code that is not listed is copied. Past the text out is not altered. Stack: 544 bytes. */
+   14; a code that is not listed is copied. Past the text out is not altered. Stack: 584 bytes. */
 cxf_written cxf_cml_lines(CXF_SHEET, uint8_t *out, size_t out_len);
 
 /* ---- borders and texts ----------------------------------------------------------------------------------------------- */
@@ -317,7 +317,7 @@ typedef struct {
     uint64_t letters, islands, vertices;
 } cxf_border;
 
-/* A row that is a border, and its class. A row that is none is refused 19. Stack: 512 bytes. */
+/* A row that is a border, and its class. A row that is none is refused 19. Stack: 584 bytes. */
 cxf_border cxf_border_at(CXF_SHEET, uint64_t row);
 
 typedef struct {
@@ -326,7 +326,7 @@ typedef struct {
     uint64_t centroid;      /* 1 where it is a TESTO of size 0: a raster parcel's centroid. A row may be both */
 } cxf_text;
 
-/* Of any row: one that is no TESTO answers 0 and 0, and is not refused. Stack: 448 bytes. */
+/* Of any row: one that is no TESTO answers 0 and 0, and is not refused. Stack: 520 bytes. */
 cxf_text cxf_text_at(CXF_SHEET, uint64_t row);
 
 /* ---- areas ----------------------------------------------------------------------------------------------------------- */
@@ -337,10 +337,10 @@ typedef struct {
 } cxf_area;
 
 /* One ring of a border, judged alone: ring 0 is the outer one, ring i is island i. 17, or 19 where there is no such ring.
-   Stack: 624 bytes. */
+   Stack: 584 bytes. */
 cxf_area cxf_ring_area(CXF_SHEET, uint64_t row, uint64_t ring);
 
-/* The outer ring less the islands: below 0 where the islands are larger. Stack: 496 bytes. */
+/* The outer ring less the islands: below 0 where the islands are larger. Stack: 520 bytes. */
 cxf_area cxf_net_area(CXF_SHEET, uint64_t row);
 
 /* ---- tallies --------------------------------------------------------------------------------------------------------- */
@@ -352,12 +352,12 @@ typedef struct {
     int64_t figures[CXF_FIGURES];
 } cxf_tally;
 
-/* All borders of a sheet. Refused 17 or 18 it names the row; refused at all, its figures are 0. Stack: 1,672 bytes. */
+/* All borders of a sheet. Refused 17 or 18 it names the row; refused at all, its figures are 0. Stack: 1,792 bytes. */
 cxf_tally cxf_tally_sheet(CXF_SHEET);
 
 /* A running tally by value: the tally with the border of a row taken, or as it was and the refusal. Begin with 24 zeros. The
    tally handed in is judged after 6, 15 and 19: a figure that is negative or too large, or a figures_len other than 24 (the
-   answer's figures are then 0), is refused 18; then come 17, and 18 of the border. Stack: 1,096 bytes. */
+   answer's figures are then 0), is refused 18; then come 17, and 18 of the border. Stack: 1,248 bytes. */
 cxf_tally cxf_tally_take(const int64_t *figures, size_t figures_len, CXF_SHEET, uint64_t row);
 
 /* ---- SUP files ------------------------------------------------------------------------------------------------------- */
@@ -373,7 +373,7 @@ typedef struct {
    each. Listed are the parcels, or the borders of class CXF_OTHER of a QUADRO D'UNIONE, by the bytes of their codes, equal codes by
    rising area. The date is eight digits: year, month, day. Refused are, in this order: the header (6), the rows (15), the tally
    (17, 18), the date (21), the first row with a listed code that is too long (22), a TOTALE beyond the tally's limit (18, with no
-   row), the first figure that is too wide (23), the room (14). Past the text out is not altered. Stack: 26,400 bytes;
+   row), the first figure that is too wide (23), the room (14). Past the text out is not altered. Stack: 26,416 bytes;
    where a figure is too wide it was not measured. */
 cxf_sup cxf_sup_write(CXF_SHEET, const uint8_t *date, size_t date_len, uint8_t *out, size_t out_len);
 
@@ -385,7 +385,7 @@ typedef struct {
 /* Whether a SUP file, whoever rounded its figures, is right for a sheet: lines, names, counts and order as cxf_sup_write has them, any date that
    it takes, each area within 1 square metre of the exact one for each border that it counts (each island for SVIL-ALL), and SBILANCIO just the
    difference of the file's TOTALE and CONFINE. Refused are the header (6), the rows (15), the tally (17, 18), a TOTALE beyond the tally's limit
-   (18, with no row), then the file (25). What cxf_sup_write writes for the sheet is right. Stack: 38,160 bytes. */
+   (18, with no row), then the file (25). What cxf_sup_write writes for the sheet is right. Stack: 38,272 bytes. */
 cxf_sup_checked cxf_sup_check(CXF_SHEET, const uint8_t *sup, size_t sup_len);
 
 /* ---- ring check ------------------------------------------------------------------------------------------------------ */
@@ -397,7 +397,7 @@ typedef struct {
 } cxf_ring;
 
 /* Whether no edge of a ring has equal ends, neighbours share only their vertex, and other edges share no point.
-   Stack: 1,616 bytes. */
+   Stack: 1,544 bytes. */
 cxf_ring cxf_ring_check(CXF_SHEET, uint64_t row, uint64_t ring);
 
 /* ---- tile points ----------------------------------------------------------------------------------------------------- */
@@ -440,12 +440,12 @@ typedef struct {
 } cxf_edited;
 
 /* Takes a row out: the rows behind it, and their letters, island counts and points, close up in their order, and their starts stay true.
-   What is freed at the end of the used part, and all that stands behind it, keeps what it held. 6, 15, then 19 for no such row. Stack: 560 bytes. */
+   What is freed at the end of the used part, and all that stands behind it, keeps what it held. 6, 15, then 19 for no such row. Stack: 616 bytes. */
 cxf_edited cxf_remove(CXF_TABLES, uint64_t row);
 
 /* Adds a pair of whole millimetres to every vertex, position, inner point and label point. 6, 15, then 24 where either part is beyond
    CXF_MOVE_MOST either way or some coordinate would leave the real range; that is judged before anything is stored. The opposite move gives the
-   sheet as it stood. Stack: 464 bytes. */
+   sheet as it stood. Stack: 536 bytes. */
 cxf_edited cxf_move(CXF_TABLES, int64_t by_x, int64_t by_y);
 
 /* ---- records and numbers --------------------------------------------------------------------------------------------- */
@@ -456,7 +456,7 @@ typedef struct {
     uint64_t next;          /* where the next record starts */
 } cxf_record;
 
-/* The record that starts at a byte. keyword_due: 0 is no, anything else is yes. CXF_FORMER is as CXF_LOOSE here. Stack: 120 bytes. */
+/* The record that starts at a byte. keyword_due: 0 is no, anything else is yes. CXF_FORMER is as CXF_LOOSE here. Stack: 104 bytes. */
 cxf_record cxf_record_at(const uint8_t *src, size_t src_len, uint64_t at, uint64_t mode, uint64_t keyword_due);
 
 typedef struct {
@@ -468,7 +468,7 @@ typedef struct {
 /* The content of a record as an integer, 0 to 9999, or as a real; 8 where it is malformed. Behind the number only blanks may stand, in
    CXF_FORMER a blank and anything, in CXF_EXACT nothing. The column, from 1, is that of the first
    byte that no accepted number of that form and mode has there after the same beginning, however long the record, or one past the end if
-   the content only stops early. Stack: 160 bytes and 192. */
+   the content only stops early. Stack: 152 bytes and 188. */
 cxf_number cxf_integer(const uint8_t *content, size_t content_len, uint64_t mode);
 cxf_number cxf_real(const uint8_t *content, size_t content_len, uint64_t mode);
 
@@ -482,7 +482,7 @@ typedef struct {
 /* What the listing program writes for this input: the header, six lines of figures, the number of rows. A text that says
    REFUSED, with the refusal's number, its record (or the tally's row), offset and column, is an answer as well: number is 0 whenever
    the text stands in out. No text is longer than CXF_LISTING_MOST. The tables are on the stack.
-   Stack: 65,624 bytes. */
+   Stack: 65,628 bytes. */
 cxf_listed cxf_listing(const uint8_t *src, size_t src_len, uint8_t *out, size_t out_len);
 
 /* ---- conversion ------------------------------------------------------------------------------------------------------ */
@@ -495,7 +495,7 @@ cxf_listed cxf_listing(const uint8_t *src, size_t src_len, uint8_t *out, size_t 
        REFUSED 1 0 0 0                           src has more than CXF_LISTING_FILE_MOST bytes
    Such a line is an answer as well: number is 0 whenever the text stands in out, and 14, with the length that is needed, is the only
    refusal of the call. The clean file may be longer than src; no text is longer than CXF_CONVERT_MOST. Past the text out is not altered. The
-   tables are on the stack. Stack: 65,208 bytes. */
+   tables are on the stack. Stack: 65,212 bytes. */
 cxf_listed cxf_convert(const uint8_t *src, size_t src_len, uint8_t *out, size_t out_len);
 
 #ifdef __cplusplus

@@ -5,7 +5,7 @@ use Prim.Native.Nat.{ℕ, suc, ◌+◌, ◌-◌, ◌≤◌, ◌<◌}
 use native.Mathlib.Omega.{arith}
 use native.Mathlib.Numerals.{add-one}
 use lib.ListN.{length, take, drop, get_or, set, length-append, length-set, length-drop}
-use lib.Seq.{paste, paste-zero, paste-suc, take-length, take-suc, set_at, set_split, drop-cons, drop-drop, set-append_left, take-append_seam, take-append-le, take-take, take_at, drop_at, drop-append-add, length-take-le}
+use lib.Seq.{paste, paste-zero, paste-suc, take-length, take_all, take-suc, set_at, set_split, drop-cons, drop-drop, set-append_left, take-append_seam, take-append-le, take-take, take_at, drop_at, drop-append-add, length-take-le}
 use Rattle.laws.specs.Lists.{tail, over, pasted}
 use Rattle.laws.proofs.ListLaws.{rest-is, left-none}
 
@@ -77,6 +77,9 @@ module _ {ℓ} {A : Type ℓ} where
   over-next s l i d h k =
       let n : length (take i s) ≡ i = length-take-le i s (omega arith) in
       ap (λ (j : ℕ). set (over (take i s) l) j (get_or s i d)) (sym n) ∙ over-one (take i s) l (get_or s i d) (omega arith) ∙ rw (add-one, take-suc s i d)
+
+  pub over-whole : (s l : List A) (i : ℕ) → length s ≤ i → over (take i s) l ≡ over s l
+  over-whole s l i h = rw (take_all i s h)
 
   -- what is stored directly behind `xs`
   pub pasted-behind : (l : List A) (i : ℕ) (xs ys : List A) → i + length xs ≤ length l

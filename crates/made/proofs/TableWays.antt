@@ -1,5 +1,5 @@
 -- Sums of counts, and tests of every number of a list, as the code goes over them. Assumes nothing.
-use Rattle.std.proofs.Common.{◌≡◌, ℕ, ◌+◌, ◌*◌, ◌<◌, ◌≤◌, Bool, true, false, not, List, [], ◌∷◌, length, get_or, drop, ℤ, refl, sym, ap, ◌∙◌, arith, length-drop}
+use Rattle.std.proofs.Common.{◌≡◌, ℕ, ◌+◌, ◌*◌, ◌<◌, ◌≤◌, Bool, true, false, not, List, [], ◌∷◌, length, get_or, drop, ℤ, pos, refl, sym, ap, ◌∙◌, arith, length-drop}
 use mathlib.Core.Bool.{◌&&◌}
 use borrow.Author.Tests.{not-true, not-false, leb-true, leb-false}
 use lib.Dec.{leb}
@@ -32,6 +32,33 @@ pub reals_listed : (s : List ℤ) → list_all is_real s ≡ are_reals s
 unfolding are_reals
 reals_listed [] = refl
 reals_listed (z ∷ s) = ap (λ (b : Bool). is_real z && b) (reals_listed s)
+
+-- four at the front of those that are left
+abbrev pub four_reals : List ℤ → Bool
+four_reals s = is_real (get_or s 0 (pos 0)) && (is_real (get_or s 1 (pos 0)) && (is_real (get_or s 2 (pos 0)) && is_real (get_or s 3 (pos 0))))
+
+and_four : (a b c d x : Bool) → (a && (b && (c && d))) && x ≡ a && (b && (c && (d && x)))
+and_four true true true d x = refl
+and_four true true false d x = refl
+and_four true false c d x = refl
+and_four false b c d x = refl
+
+four_split : (s : List ℤ) → 4 ≤ length s → are_reals s ≡ (four_reals s && are_reals (drop 4 s))
+unfolding are_reals
+four_split (a ∷ b ∷ c ∷ d ∷ s) h = sym (and_four (is_real a) (is_real b) (is_real c) (is_real d) (are_reals s))
+four_split (a ∷ b ∷ c ∷ []) h = absurd (omega arith)
+four_split (a ∷ b ∷ []) h = absurd (omega arith)
+four_split (a ∷ []) h = absurd (omega arith)
+four_split [] h = absurd (omega arith)
+
+module _ (s rest : List ℤ) (q : are_reals s ≡ are_reals rest) (h : 4 ≤ length rest) (r : Bool) (e : r ≡ four_reals rest) where
+  pub four_stop : not r ≡ true → false ≡ are_reals s
+  four_stop t = sym (q ∙ four_split rest h ∙ rw (← e, not-true r t))
+
+  pub four_step : not r ≡ false → are_reals s ≡ are_reals (tail rest 4)
+  four_step t = q ∙ four_split rest h ∙ rw (← e, not-false r t, rest-is rest 4)
+
+pub ruleset fours = (four_stop, four_step)
 
 -- ---- rings, one behind the other: those passed are closed
 

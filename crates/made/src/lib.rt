@@ -69,7 +69,7 @@ const VERTICES_PLACE: usize = 11;
 pub fn count_of(z: i64) -> usize
     ensures { result ≡ nat_of z }
 {
-    usize::try_from(z).unwrap_or(0)
+    z.max(0) as usize
 }
 
 // The count at a place of the first row; past the end there is none.
@@ -97,7 +97,11 @@ pub fn outer_of(v: usize, s: &[u16]) -> usize
 {
     let mut rest = v;
     for &n in s {
-        rest = rest.saturating_sub(usize::from(n));
+        let n = usize::from(n);
+        if rest < n {
+            return 0;
+        }
+        rest -= n;
     }
     rest
 }

@@ -102,7 +102,8 @@ fn is_cell(kind: usize, place: usize, z: i64) -> bool
     }
 }
 
-// Each number that the section of the first row, of a kind, gives is right.
+// Each number that the section of the first row, of a kind, gives is right. Compiled into each of its calls, so that a kind's tests are settled before they run.
+#[inline(always)]
 #[tactic(auto, using(crate::proofs::NumberWays::cells))]
 fn are_cells(kind: usize, rows: &[i64]) -> bool
     requires { (1 ≤ kind) × (kind ≤ kind_most) × (row_width ≤ length rows.now) }
@@ -139,7 +140,7 @@ pub(crate) fn are_numbers(rows: &[i64]) -> bool
 fn is_count(z: i64, n: usize) -> bool
     ensures { result ≡ eq_z z (pos n) }
 {
-    usize::try_from(z) == Ok(n)
+    z >= 0 && z as usize == n
 }
 
 // The first row's letters, island counts and points begin there.

@@ -1,6 +1,7 @@
 // A row's island counts and points: the counts as in a file, every ring closed.
-ghost use Rattle.std.specs.Prelude.{◌≡◌, ◌*◌, ◌≤◌, length};
+ghost use Rattle.std.specs.Prelude.{◌≡◌, ◌&&◌, ◌*◌, ◌≤◌, length};
 ghost use Rattle.laws.specs.Lists.{all};
+ghost use Rattle.number.specs.Number.{is_real};
 ghost use Rattle.made.specs.Made.{sum, four_at_least, are_counts, are_reals, is_closed, are_closed, ring_sizes, are_points};
 
 use crate::outer_of;
@@ -40,11 +41,25 @@ pub(crate) fn are_counts(kind: usize, i: usize, v: usize, s: &[u16]) -> bool
     }
 }
 
-// Every number is within the real range.
+// Two vertices within the real range.
+fn are_four(a: i64, b: i64, c: i64, d: i64) -> bool
+    ensures { result ≡ (is_real a && (is_real b && (is_real c && is_real d))) }
+{
+    is_real(a) && is_real(b) && is_real(c) && is_real(d)
+}
+
+// Every number is within the real range. Two vertices a turn: each question about a sheet walks all of its points here first.
 fn are_reals(s: &[i64]) -> bool
     ensures { result ≡ are_reals s.now }
 {
-    s.iter().all(|&z| is_real(z))
+    let mut rest = s;
+    while rest.len() >= 4 {
+        if !are_four(rest[0], rest[1], rest[2], rest[3]) {
+            return false;
+        }
+        rest = &rest[4..];
+    }
+    rest.iter().all(|&z| is_real(z))
 }
 
 // A ring's first and last vertex are equal.

@@ -1,5 +1,6 @@
 -- The proofs of `order`; the laws are open to other crates. `OrderLaws` says that the list is sorted and the same borders.
 mod ClipLaws
+mod ByteWays
 mod ChoosingWays
 pub mod EachLaws
 mod PlaceWays

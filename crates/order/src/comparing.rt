@@ -10,11 +10,27 @@ use made::Lent;
 use row::Stand;
 use std::cmp::Ordering;
 
-// By unsigned bytes, a beginning before its continuation.
+// By unsigned bytes, a beginning before its continuation. A byte at a time: a walk compares short codes, which differ early.
+#[inline(always)]
+#[tactic(auto, using(crate::proofs::ByteWays::byte_ways))]
 pub fn compare_bytes(a: &[u8], b: &[u8]) -> Ordering
     ensures { result ≡ by_bytes a.now b.now }
 {
-    a.cmp(b)
+    for (i, &x) in a.iter().enumerate() {
+        if b.len() <= i {
+            return Ordering::Greater;
+        }
+        if x < b[i] {
+            return Ordering::Less;
+        }
+        if b[i] < x {
+            return Ordering::Greater;
+        }
+    }
+    if a.len() < b.len() {
+        return Ordering::Less;
+    }
+    Ordering::Equal
 }
 
 pub(crate) fn is_later(a: &[u8], b: &[u8]) -> bool
@@ -37,6 +53,8 @@ fn compare_at(lent: &Lent<'_>, a: Stand, b: Stand) -> Ordering
     }
 }
 
+// Compiled into the walk, which else keeps what it carries on in memory.
+#[inline(always)]
 #[tactic(auto, unfolding(crate::specs::SupOrder::goes_before))]
 pub fn is_before(lent: &Lent<'_>, a: Stand, b: Stand) -> bool
     ensures { result ≡ goes_before (tables lent.now) a b }

@@ -18,11 +18,14 @@ pub(crate) const LETTERS_PLACE: usize = 9;
 
 pub(crate) const VERTICES_PLACE: usize = 11;
 
+// A letter at a time, since `copy_from_slice` calls memmove (spelling: `copy`).
 pub(crate) fn put_letters(dst: &mut [u8], at: usize, c: &[u8])
     requires { at + length c.now ≤ length dst.old }
     ensures { dst.new ≡ pasted dst.old at c.now }
 {
-    dst[at..at + c.len()].copy_from_slice(c);
+    for j in 0..c.len() {
+        dst[at + j] = c[j];
+    }
 }
 
 pub(crate) fn put_island(dst: &mut [u16], at: usize, t: usize)

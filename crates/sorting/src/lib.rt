@@ -7,7 +7,6 @@ ghost use Rattle.std.specs.Prelude.{◌≡◌, ◌+◌, ◌*◌, ◌≤◌, leng
 ghost use Rattle.sorting.specs.Lines.{line_width, line_at, bytes_before, sorted_lines};
 ghost use Rattle.sorting.specs.Exchanges.{Inside, exchanged, Exchanges, InOrder};
 
-use order::comparing::compare_bytes;
 use spelling::put_bytes;
 
 const LINE_WIDTH: usize = 23;
@@ -20,21 +19,24 @@ fn line_of(s: &[u8], i: usize) -> &[u8]
     &s[at..at + LINE_WIDTH]
 }
 
-// Line i comes before line j.
+// Line i comes before line j. By slices' `cmp`, since lines near each other begin alike.
 fn is_before(s: &[u8], i: usize, j: usize) -> bool
     requires { Inside s.now i × Inside s.now j }
     ensures { result ≡ bytes_before (line_at s.now i) (line_at s.now j) }
 {
-    compare_bytes(line_of(s, i), line_of(s, j)).is_lt()
+    line_of(s, i).cmp(line_of(s, j)).is_lt()
 }
 
-// A copy, since the line is stored over.
+// A copy, since the line is stored over. A byte at a time, as `put_bytes` stores it: read back in wider pieces than it was stored in, a line waits.
 fn line_at(s: &[u8], i: usize) -> [u8; 23]
     requires { Inside s.now i }
     ensures { result ≡ line_at s.now i }
 {
+    let at = LINE_WIDTH * i;
     let mut line = [0u8; 23];
-    line.copy_from_slice(line_of(s, i));
+    for k in 0..LINE_WIDTH {
+        line[k] = s[at + k];
+    }
     line
 }
 

@@ -1,11 +1,11 @@
 -- The ways through the code: the loop that places digits, and a lemma for each answer. Assumes nothing.
-use Prim.Native.Nat.{ℕ, zero, suc, ◌+◌, ◌-◌, ◌*◌, ◌/◌, ◌%◌, ◌^◌, ◌≤◌, ◌<◌}
+use Prim.Native.Nat.{ℕ, zero, suc, ◌+◌, ◌-◌, ◌*◌, ◌/◌, ◌%◌, ◌^◌, ◌≤◌, ◌<◌, zero-le}
 use mathlib.Core.Path.{◌≡◌, refl, sym, ◌∙◌, ap}
 use mathlib.Core.List.{List, [], ◌∷◌, ◌++◌, append_assoc, append-nil}
 use mathlib.Core.Bool.{Bool, true, false, ◌&&◌}
 use native.Mathlib.Omega.{arith}
-use lib.ListN.{length, take, drop, set, replicate, length-append, length-replicate, replicate-append-replicate}
-use lib.Seq.{take_at, take-append-le, drop-append-add, drop-drop}
+use lib.ListN.{length, get_or, take, drop, set, replicate, length-append, length-replicate, replicate-append-replicate}
+use lib.Seq.{take_at, take-append-le, drop-append-add, drop-drop, length-take-le}
 use lib.Dec.{leb}
 use lib.IntN.{ℤ, pos, negsuc, neg_ℤ, nat_abs}
 use lib.Signed.{lt_z, le_z}
@@ -14,7 +14,7 @@ use mir.Val.{SFits, Fits, to_z, of_z}
 use mir.ValLaws.{to_z-of_z}
 use borrow.Author.Tests.{lt-leb, le-leb, leb-true}
 use Rattle.laws.specs.Lists.{tail, over, pasted}
-use Rattle.laws.proofs.TableLaws.{pasted-none, pasted-front, pasted-before, pasted-one, pasted-part, length-pasted, length_over}
+use Rattle.laws.proofs.TableLaws.{pasted-none, pasted-front, pasted-before, pasted-one, pasted-part, length-pasted, length_over, over-next, over-whole}
 use Rattle.number.specs.Number.{is_real}
 use Rattle.spelling.specs.Stored.{has_room, Stored}
 use Rattle.spelling.specs.Spelling.{digits, count_text, aligned, integer_text, minus}
@@ -284,6 +284,26 @@ module _ (v size rest : ℕ) (p : Counting v size rest) where
       go (suc w) s c = omega (arith, ap length (digits-few w rest h))
 
 pub ruleset counting_ways = (counting-start, counting-fits, counting-step, counting-end)
+
+-- ---- the copy: the first `i` characters stand over what was there
+
+pub record Copying (text l out : List ℕ) (i : ℕ) : Type 0 where
+  pub within : i ≤ length text
+  pub room : length text ≤ length l
+  pub is : out ≡ over (take i text) l
+
+pub copying-start : (text l : List ℕ) → length text ≤ length l → Copying text l l 0
+copying-start text l h = record { within = zero-le; room = h; is = refl }
+
+module _ (text l out : List ℕ) (i : ℕ) (p : Copying text l out i) where
+  pub copying-length : length out ≡ length l
+  copying-length = ap length p.is ∙ length_over (take i text) l (omega (arith, length-take-le i text p.within, p.within, p.room))
+
+  pub copying-step : i < length text → Copying text l (set out i (get_or text i 0)) (i + 1)
+  copying-step h = record { within = omega arith; room = p.room; is = rw p.is (over-next text l i 0 h p.room) }
+
+  pub copying-end : length text ≤ i → out ≡ over text l
+  copying-end h = p.is ∙ over-whole text l i h
 
 -- ---- bytes at a place
 

@@ -1,11 +1,11 @@
 -- The ways through the functions that judge and store all lines: those before the listed borders, theirs, those behind. Assumes nothing.
 use Prim.Native.Nat.{ℕ, suc, ◌+◌, ◌*◌, ◌^◌, ◌≤◌, ◌<◌}
 use mathlib.Core.Path.{◌≡◌, refl, sym, ap, subst, ◌∙◌}
-use mathlib.Core.List.{List, [], ◌∷◌, ◌++◌, append_assoc}
+use mathlib.Core.List.{List, [], ◌∷◌, ◌++◌, map, append_assoc}
 use mathlib.Core.Bool.{Bool, true, false, cond, not, ◌&&◌}
 use native.Mathlib.Nat.{zero-add}
 use native.Mathlib.Omega.{arith}
-use lib.ListN.{length, drop}
+use lib.ListN.{length, drop, length-map}
 use lib.IntN.{ℤ, pos, negsuc}
 use lib.Signed.{mag, le_z}
 use borrow.Author.Tests.{not-true, not-false, ne_eqb, le-leb, lt-leb}
@@ -145,6 +145,10 @@ module _ (h : Header) (count : ℕ) (t : Tables) (f : List ℤ) where
   feet-few b e = ap length e
 
 -- ---- the text, part by part
+
+-- a name's eleven places, by way of a map of it
+pub name-fits : {A : Type 0} (B : Type 0) (g : A → B) (s : List A) → length (map g s) ≡ 11 → length s ≤ 11
+name-fits B g s e = omega (arith, length-map s g)
 
 lines-append : (a b : List FigureLine) → lines_text (a ++ b) ≡ lines_text a ++ lines_text b
 unfolding lines_text
