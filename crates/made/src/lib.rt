@@ -146,7 +146,10 @@ pub fn rest_of<'a>(part: &Lent<'a>) -> Lent<'a>
 fn is_coded(mode: Mode, kind: usize, code: usize) -> bool
     ensures { result ≡ is_coded mode kind code }
 {
-    !is_exact(mode) || !has_field(kind, CODE_PLACE) || is_listed(kind, code)
+    if !is_exact(mode) {
+        return true;
+    }
+    !has_field(kind, CODE_PLACE) || is_listed(kind, code)
 }
 
 // The first row of the tables, number k, behind so many letters, island counts and points: 15, then 10, or how many it has itself.
