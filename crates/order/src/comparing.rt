@@ -10,27 +10,22 @@ use made::Lent;
 use row::Stand;
 use std::cmp::Ordering;
 
-// By unsigned bytes, a beginning before its continuation. A byte at a time: a walk compares short codes, which differ early.
+// By unsigned bytes, a beginning before its continuation. The first bytes first: most codes that a walk compares differ there, and slices' `cmp`,
+// which goes by groups of bytes, takes longer to see it.
 #[inline(always)]
-#[tactic(auto, using(crate::proofs::ByteWays::byte_ways))]
+#[tactic(auto, using(crate::proofs::ByteWays::first_ways))]
 pub fn compare_bytes(a: &[u8], b: &[u8]) -> Ordering
     ensures { result ≡ by_bytes a.now b.now }
 {
-    for (i, &x) in a.iter().enumerate() {
-        if b.len() <= i {
-            return Ordering::Greater;
-        }
-        if x < b[i] {
+    if a.len() > 0 && b.len() > 0 {
+        if a[0] < b[0] {
             return Ordering::Less;
         }
-        if b[i] < x {
+        if b[0] < a[0] {
             return Ordering::Greater;
         }
     }
-    if a.len() < b.len() {
-        return Ordering::Less;
-    }
-    Ordering::Equal
+    a.cmp(b)
 }
 
 pub(crate) fn is_later(a: &[u8], b: &[u8]) -> bool
