@@ -27,7 +27,7 @@ fn is_before(s: &[u8], i: usize, j: usize) -> bool
     line_of(s, i).cmp(line_of(s, j)).is_lt()
 }
 
-// A copy, since the line is stored over. A byte at a time, as `put_bytes` stores it: read back in wider pieces than it was stored in, a line waits.
+// A copy, since the line is stored over.
 fn line_at(s: &[u8], i: usize) -> [u8; 23]
     requires { Inside s.now i }
     ensures { result ≡ line_at s.now i }
