@@ -385,7 +385,7 @@ typedef struct {
 /* Whether a SUP file, whoever rounded its figures, is right for a sheet: lines, names, counts and order as cxf_sup_write has them, any date that
    it takes, each area within 1 square metre of the exact one for each border that it counts (each island for SVIL-ALL), and SBILANCIO just the
    difference of the file's TOTALE and CONFINE. Refused are the header (6), the rows (15), the tally (17, 18), a TOTALE beyond the tally's limit
-   (18, with no row), then the file (25). What cxf_sup_write writes for the sheet is right. Stack: 38,272 bytes. */
+   (18, with no row), then the file (25). What cxf_sup_write writes for the sheet is right. Stack: 38,288 bytes. */
 cxf_sup_checked cxf_sup_check(CXF_SHEET, const uint8_t *sup, size_t sup_len);
 
 /* ---- ring check ------------------------------------------------------------------------------------------------------ */
